@@ -1,0 +1,4 @@
+pub mod Word
+pub mod Settings
+pub mod Commit
+pub mod Scan
