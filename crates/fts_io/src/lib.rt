@@ -4,11 +4,17 @@
 //! rose in that call.
 #![tactic(auto)]
 
+mod buffer;
 mod gate;
+mod lines;
 mod sink;
 mod source;
+mod write;
 
+pub use buffer::READ_SIZE;
 pub use fts_faults::Failed;
 pub use gate::{Gate, OpenGate, Point};
+pub use lines::{LONGEST_LINE, LONGEST_TEXT, Lines, Next};
 pub use sink::Sink;
 pub use source::Source;
+pub use write::{WriteFault, write_whole};
