@@ -1,5 +1,9 @@
-use Rattle.std.proofs.Common.{◌≡◌, ◌≢◌, ℕ, zero, suc, ◌+◌, ◌-◌, ◌<◌, ◌≤◌, min, Bool, true, false, cond, nat_eq, nat_lt, List, [], ◌∷◌, ◌++◌, length, map, get_or, take, drop, refl, sym, ◌∙◌, ap, append_assoc, append-nil, length-append, inl, inr, arith}
-use Rattle.std.proofs.lemmas.List.{take_all, length-take-le}
+use Rattle.std.proofs.Common.{◌≡◌, ◌≢◌, ℕ, zero, suc, ◌+◌, ◌-◌, ◌<◌, ◌≤◌, Bool, true, false, cond, nat_eq, nat_lt, List, [], ◌∷◌, ◌++◌, length, map, get_or, take, drop, refl, sym, ◌∙◌, ap, append_assoc, append-nil, length-append, inl, inr, arith}
+use Rattle.std.proofs.Common.{Option, Some, None, min}
+use Rattle.std.proofs.Math.Seq.{take-append-add, drop-length}
+use Rattle.std.proofs.lemmas.Bool.{cases_lt, eqb-true, eq-eqb}
+use Rattle.std.proofs.lemmas.List.{take_all, take_min, length-take-le}
+use Rattle.memchr.specs.Find.{IsFirstByte, Passes, is_byte}
 use Rattle.std.proofs.lemmas.Grind.{common_steps}
 use Rattle.fts_io.specs.Text.{Line, whole, too_long, onto, cut, sorted, lines_of}
 use Rattle.fts_io.specs.Reading.{glue, lines_from}
@@ -65,26 +69,34 @@ glue-long (x ∷ begun) (line ∷ lines) h =
 pub glue-capped : (begun : List ℕ) (lines : List (List ℕ))
     → map sorted (glue (take 1048577 begun) lines) ≡ map sorted (glue begun lines)
 glue-capped begun lines =
-    elim le_or_lt (length begun) 1048577 [
-      | inl short ↦ ap (λ l. map sorted (glue l lines)) (take_all 1048577 begun short)
-      | inr long ↦
-        let kept : length (take 1048577 begun) ≡ 1048577 = length-take-le 1048577 begun (omega arith) in
-        glue-long (take 1048577 begun) lines (omega (arith, kept)) ∙ sym (glue-long begun lines (omega arith))
+    elim (cases_lt 1048577 (length begun)) [
+      | inr short ↦ ap (λ l. map sorted (glue l lines)) (take_all 1048577 begun short)
+      | inl long ↦
+          let kept : length (take 1048577 begun) ≡ 1048577 = length-take-le 1048577 begun (omega arith) in
+          glue-long (take 1048577 begun) lines (omega (arith, kept)) ∙ sym (glue-long begun lines (omega arith))
     ]
 
 pub sorted-capped : (line : List ℕ) → sorted (take 1048577 line) ≡ sorted line
 sorted-capped line =
-    elim le_or_lt (length line) 1048577 [
-      | inl short ↦ ap sorted (take_all 1048577 line short)
-      | inr long ↦
-        let kept : length (take 1048577 line) ≡ 1048577 = length-take-le 1048577 line (omega arith) in
-        sorted-long (take 1048577 line) (omega (arith, kept)) ∙ sym (sorted-long line (omega arith))
+    elim (cases_lt 1048577 (length line)) [
+      | inr short ↦ ap sorted (take_all 1048577 line short)
+      | inl long ↦
+          let kept : length (take 1048577 line) ≡ 1048577 = length-take-le 1048577 line (omega arith) in
+          sorted-long (take 1048577 line) (omega (arith, kept)) ∙ sym (sorted-long line (omega arith))
     ]
 
--- what is kept of a line begun and a piece more: no more of the piece than there is room
-pub kept-piece : (line unread : List ℕ) (piece : ℕ) → length line ≤ 1048577
-    → line ++ take (min piece (1048577 - length line)) unread ≡ take 1048577 (line ++ take piece unread)
-kept-piece line unread piece h = ?
+-- a piece cut to the room behind a line, or the two together cut to the limit
+pub append-take : (limit count : ℕ) (line piece : List ℕ) → length line ≤ limit → count ≡ min (length piece) (limit - length line)
+    → line ++ take count piece ≡ take limit (line ++ piece)
+append-take limit count line piece h is =
+    let all : length line + (limit - length line) ≡ limit = omega arith in
+    let split : take (length line + (limit - length line)) (line ++ piece) ≡ line ++ take (limit - length line) piece =
+    take-append-add line piece (limit - length line) in
+    let least : count ≡ min (limit - length line) (length piece) = omega arith in
+    ap (λ n. line ++ take n piece) least
+    ∙ ap (λ l. line ++ l) (take_min (limit - length line) piece)
+    ∙ sym split
+    ∙ ap (λ n. take n (line ++ piece)) all
 
 -- a line made whole by a piece of the bytes that are unread
 pub lines_from-found : (at : ℕ) (line unread left : List ℕ) → at < length unread → NoneBelow unread at → get_or unread at 0 ≡ 10
@@ -101,3 +113,31 @@ lines_from-none line unread left before =
     glue-capped (line ++ unread) (cut left)
     ∙ ap (map sorted) (sym (glue-glue line unread (cut left)))
     ∙ ap (λ l. map sorted (glue line l)) (sym (cut-none unread left before))
+
+pub not_feed : (text : List ℕ) (at : ℕ) → ((k : ℕ) → 0 ≤ k → k < at → Passes (is_byte 10) text k → ⊥) → NoneBelow text at
+not_feed text at before k below is = before k (omega arith) below (eq-eqb (get_or text k 0) 10 is)
+
+-- the first LF of the bytes that are unread makes the line whole
+pub moves-found : (at : ℕ) (line unread buffer line' rest left : List ℕ) → unread ≡ buffer → IsFirstByte (is_byte 10) unread (Some at)
+    → line' ≡ take 1048577 (line ++ take at unread) → rest ≡ drop (at + 1) buffer
+    → lines_from line (buffer ++ left) ≡ sorted line' ∷ lines_of (rest ++ left)
+moves-found at line unread buffer line' rest left same first is gone =
+    let one : at + 1 ≡ suc at = omega arith in
+    let goes : drop (suc at) unread ≡ rest = ap (drop (suc at)) same ∙ sym (gone ∙ ap (λ n. drop n buffer) one) in
+    ap (λ l. lines_from line (l ++ left)) (sym same)
+    ∙ lines_from-found at line unread left first.0.high (not_feed unread at first.0.before) (eqb-true (get_or unread at 0) 10 first.1)
+    ∙ ap (λ l. sorted l ∷ lines_of (drop (suc at) unread ++ left)) (sym is)
+    ∙ ap (λ l. sorted line' ∷ lines_of (l ++ left)) goes
+
+-- where there is no LF, all of them belong to the line begun
+pub moves-none : (line unread buffer line' rest left : List ℕ) → unread ≡ buffer → IsFirstByte (is_byte 10) unread None
+    → line' ≡ take 1048577 (line ++ unread) → rest ≡ drop (length unread) buffer
+    → (lines_from line' (rest ++ left) ≡ lines_from line (buffer ++ left)) × (rest ≡ [])
+moves-none line unread buffer line' rest left same none is gone =
+    let empty : rest ≡ [] = gone ∙ ap (drop (length unread)) (sym same) ∙ drop-length unread in (
+      ap (λ l. lines_from line' (l ++ left)) empty
+          ∙ ap (λ l. lines_from l left) is
+          ∙ lines_from-none line unread left (not_feed unread (length unread) none)
+          ∙ ap (λ l. lines_from line (l ++ left)) same,
+      empty,
+    )

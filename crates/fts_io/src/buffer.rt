@@ -54,7 +54,8 @@ impl Buffer {
     /// Uses the first `count` bytes.
     pub fn consume(&mut self, count: usize)
         requires { count ≤ length self.old }
-        ensures { self.new ≡ drop count self.old }
+        ensures rest { self.new ≡ drop count self.old }
+        ensures length { length self.new + count ≡ length self.old }
     {
         self.at += count;
     }
@@ -74,8 +75,21 @@ impl Buffer {
     {
         self.at = 0;
         self.end = 0;
-        let count = source.read(&mut self.bytes[..most])?;
+        let count = read_front(source, &mut self.bytes, most)?;
         self.end = count;
         Ok(count)
     }
+}
+
+/// Reads at most `most` bytes into the front of the slice.
+fn read_front<S: Source>(source: &mut S, bytes: &mut [u8], most: usize) -> Result<usize, Failed>
+    requires room { most ≤ length bytes.old }
+    requires some { 0 < most }
+    ensures bound { IfOk result (λ n. n ≤ most) }
+    ensures takes { IfOk result (λ n. IsTrue S.tells → S.left source.old ≡ take n bytes.new ++ S.left source.new) }
+    ensures end { IfOk result (λ n. IsTrue S.tells → n ≡ 0 → S.left source.new ≡ []) }
+    ensures kept { OnErr result (IsTrue S.tells → S.left source.new ≡ S.left source.old) }
+    ensures cause { HasCause (S.faults source.old) (S.faults source.new) result }
+{
+    source.read(&mut bytes[..most])
 }

@@ -161,15 +161,19 @@ impl Lines {
         ensures shorter { OnOk result (length self.new.buffer < length self.old.buffer) }
     {
         let unread = self.buffer.unread();
-        let found = memchr(LINE_FEED, unread);
-        let piece = found.unwrap_or(unread.len());
-        let room = LONGEST_LINE + 1 - self.line.len();
-        self.line.extend_from_slice(&unread[..piece.min(room)])?;
-        match found {
-            Some(at) => self.buffer.consume(at + 1),
-            None => self.buffer.consume(piece),
+        match memchr(LINE_FEED, unread) {
+            Some(at) => {
+                append_within(&mut self.line, &unread[..at])?;
+                self.buffer.consume(at + 1);
+                Ok(true)
+            }
+            None => {
+                let count = unread.len();
+                append_within(&mut self.line, unread)?;
+                self.buffer.consume(count);
+                Ok(false)
+            }
         }
-        Ok(found.is_some())
     }
 
     /// Gives the line that was begun, as a whole one.
@@ -207,4 +211,16 @@ impl Lines {
             self.whole_line()
         }
     }
+}
+
+/// Appends the piece to the line begun, and keeps no more than one byte above the limit.
+fn append_within(line: &mut Vec<u8>, piece: &[u8]) -> Result<(), AllocError>
+    requires { vec_len line.old ≤ 1048577 }
+    ensures appends { OnOk result (line.new.items ≡ take 1048577 (line.old.items ++ piece.now)) }
+    ensures short { OnOk result (vec_len line.new ≤ 1048577) }
+    ensures kept { OnErr result (line.new.items ≡ line.old.items) }
+{
+    let room = LONGEST_LINE + 1 - line.len();
+    line.extend_from_slice(&piece[..piece.len().min(room)])?;
+    Ok(())
 }

@@ -1,11 +1,12 @@
-use Rattle.std.proofs.Common.{◌≡◌, ◌++◌, ◌≤◌, ℕ, List, length, IsTrue}
+use Rattle.std.proofs.Common.{◌≡◌, ◌++◌, ◌-◌, ◌≤◌, length, take, IsTrue}
 use Rattle.fts_io.proofs.write.write_whole.Given as goal
 
-abbrev pub invariant-loop-rest : goal.invariant-loop-rest
-invariant-loop-rest g l = record {
-  written : (done : List ℕ) × (l.bytes ≡ done ++ l.rest) × (IsTrue g.K.Sink.tells → g.K.Sink.holds l.sink ≡ g.K.Sink.holds l.initial.sink ++ done);
+abbrev pub invariant-loop-written : goal.invariant-loop-written
+invariant-loop-written g l = record {
+  within : l.written ≤ length l.bytes;
+  holds : IsTrue g.K.Sink.tells → g.K.Sink.holds l.sink ≡ g.K.Sink.holds l.initial.sink ++ take l.written l.bytes;
   never_falls : g.K.Sink.faults l.initial.sink ≤ g.K.Sink.faults l.sink;
 }
 
-abbrev pub decreases-loop-rest : goal.decreases-loop-rest
-decreases-loop-rest g l = length l.rest
+abbrev pub decreases-loop-written : goal.decreases-loop-written
+decreases-loop-written g l = length l.bytes - l.written
