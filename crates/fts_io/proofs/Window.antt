@@ -1,6 +1,6 @@
 use Rattle.std.proofs.Common.{◌≡◌, ℕ, ◌+◌, ◌-◌, ◌<◌, ◌≤◌, min, List, [], ◌∷◌, ◌++◌, length, take, drop, refl, sym, ◌∙◌, ap, append_assoc, length-drop, length-take, arith}
-use Rattle.std.proofs.lemmas.List.{nil_from_length, take_all}
-use Rattle.std.proofs.Math.Seq.{take-add}
+use Rattle.std.proofs.lemmas.List.{drop-drop, length-take-le, nil_from_length, take-append-drop, take_all}
+use Rattle.std.proofs.Math.Seq.{take-add, take-append_seam}
 
 -- the part of a list from a place to an end, empty where they meet and nowhere else
 pub window-length : (at end : ℕ) (bytes : List ℕ) → end ≤ length bytes → length (drop at (take end bytes)) ≡ end - at
@@ -22,3 +22,21 @@ written-more written count held bytes =
     ap (λ l. (held ++ take written bytes) ++ take count l) rest
     ∙ append_assoc held (take written bytes) (take count (drop written bytes))
     ∙ ap (λ l. held ++ l) (sym (take-add written count bytes))
+
+-- a slice from a place on is the whole rest
+pub rest-of : (at : ℕ) (bytes viewed : List ℕ) → viewed ≡ bytes → take (length viewed - at) (drop at viewed) ≡ drop at bytes
+rest-of at bytes viewed same =
+    take_all (length viewed - at) (drop at viewed) (omega (arith, length-drop at viewed)) ∙ ap (drop at) same
+
+-- what a read gives of the bytes that are left, and what it leaves of them
+pub read-takes : (count at : ℕ) (bytes left copied rest : List ℕ) → left ≡ drop at bytes → copied ≡ take count left → count ≤ length left
+    → drop at bytes ≡ take count (copied ++ rest) ++ drop (at + count) bytes
+read-takes count at bytes left copied rest same is h =
+    let long : length copied ≡ count = ap length is ∙ length-take-le count left h in
+    let front : take count (copied ++ rest) ≡ take count left =
+    ap (λ n. take n (copied ++ rest)) (sym long) ∙ take-append_seam copied rest ∙ is in
+    let behind : drop count left ≡ drop (at + count) bytes = ap (drop count) same ∙ drop-drop count at bytes in
+    sym same
+    ∙ sym (take-append-drop count left)
+    ∙ ap (λ l. l ++ drop count left) (sym front)
+    ∙ ap (λ l. take count (copied ++ rest) ++ l) behind

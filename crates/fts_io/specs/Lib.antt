@@ -1,2 +1,3 @@
-pub mod Text
+pub mod Memory
 pub mod Reading
+pub mod Text

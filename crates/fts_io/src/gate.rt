@@ -1,3 +1,5 @@
+use std::fmt;
+
 /// A place on a statement's way at which a gate is passed.
 #[derive(Clone, Copy, Debug, PartialEq, Eq)]
 pub enum Point {
@@ -9,6 +11,17 @@ pub enum Point {
     Answered,
     /// A worker's step, in session 0.
     Worker,
+}
+
+impl fmt::Display for Point {
+    fn fmt<W: fmt::Write>(&self, f: &mut fmt::Formatter<W>) -> fmt::Result {
+        f.write_str(match self {
+            Point::Statement => "before a statement",
+            Point::Evaluate => "before an evaluation",
+            Point::Answered => "after an answer",
+            Point::Worker => "at a worker's step",
+        })
+    }
 }
 
 /// What each statement passes on its way. A gate may wait, so that tests can put threads in order.

@@ -5,16 +5,21 @@
 #![tactic(auto)]
 
 mod buffer;
+mod calls;
 mod gate;
 mod lines;
+mod memory;
 mod sink;
 mod source;
+#[cfg(test)]
+mod tests;
 mod write;
 
 pub use buffer::READ_SIZE;
 pub use fts_faults::Failed;
 pub use gate::{Gate, OpenGate, Point};
 pub use lines::{LONGEST_LINE, LONGEST_TEXT, Lines, Next};
+pub use memory::{MemSink, MemSource};
 pub use sink::Sink;
 pub use source::Source;
 pub use write::{WriteFault, write_whole};

@@ -6,7 +6,7 @@ use crate::source::Source;
 use fts_faults::Failed;
 use memchr::memchr;
 use std::alloc::{AllocError, Global};
-use std::mem;
+use std::{fmt, mem};
 
 /// How many bytes a line has at most, without its LF.
 pub const LONGEST_LINE: usize = 1_048_576;
@@ -31,6 +31,19 @@ pub enum Next {
     ReadFault,
     /// No memory is left.
     NoMemory,
+}
+
+impl fmt::Display for Next {
+    fn fmt<W: fmt::Write>(&self, f: &mut fmt::Formatter<W>) -> fmt::Result {
+        match self {
+            Next::Line(bytes) => write!(f, "a line of {} bytes", bytes.len()),
+            Next::End => f.write_str("end of the text"),
+            Next::TooLong { line } => write!(f, "line {line} is too long"),
+            Next::Endless { bytes } => write!(f, "the text is too long, after {bytes} bytes"),
+            Next::ReadFault => f.write_str("the source failed"),
+            Next::NoMemory => f.write_str("out of memory"),
+        }
+    }
 }
 
 /// What the buffer has after it was filled.
