@@ -1,11 +1,11 @@
-use Rattle.std.proofs.Common.{◌≡◌, ◌≢◌, ℕ, zero, suc, ◌+◌, ◌-◌, ◌<◌, ◌≤◌, Bool, true, false, cond, nat_eq, nat_lt, List, [], ◌∷◌, ◌++◌, length, map, get_or, take, drop, refl, sym, ◌∙◌, ap, append_assoc, append-nil, length-append, inl, inr, arith}
-use Rattle.std.proofs.Common.{Option, Some, None, min}
+use Rattle.std.proofs.Common.{◌≡◌, ◌≢◌, ℕ, zero, suc, ◌+◌, ◌-◌, ◌<◌, ◌≤◌, List, [], ◌∷◌, ◌++◌, length, map, get_or, take, drop, refl, sym, ◌∙◌, ap, append_assoc, append-nil, length-append, inl, inr, arith}
+use Rattle.std.proofs.Common.{Some, None, min}
 use Rattle.std.proofs.Math.Seq.{take-append-add, drop-length}
 use Rattle.std.proofs.lemmas.Bool.{cases_lt, eqb-true, eq-eqb}
 use Rattle.std.proofs.lemmas.List.{take_all, take_min, length-take-le}
 use Rattle.memchr.specs.Find.{IsFirstByte, Passes, is_byte}
 use Rattle.std.proofs.lemmas.Grind.{common_steps}
-use Rattle.fts_io.specs.Text.{Line, whole, too_long, onto, cut, sorted, lines_of}
+use Rattle.fts_io.specs.Text.{too_long, onto, cut, sorted, lines_of}
 use Rattle.fts_io.specs.Reading.{glue, lines_from}
 
 -- bytes before the first line are put before what stands before it

@@ -1,6 +1,6 @@
-use Rattle.std.proofs.Common.{◌++◌, ap, sym, ◌∙◌, rules}
-use Rattle.fts_io.specs.Text.{lines_of}
-use Rattle.fts_io.specs.Reading.{lines_from}
+use Rattle.std.proofs.Common.{◌∷◌, ◌++◌, ap, sym, ◌∙◌, rules}
+use Rattle.fts_io.specs.Text.{lines_of, sorted}
+use Rattle.fts_io.specs.Reading.{ahead, lines_from}
 use Rattle.fts_io.proofs.Giving.{Gives-along, lines_from-filled, single}
 use Rattle.fts_io.proofs.lines.Lines.next_line.Goals as goal
 
@@ -17,7 +17,10 @@ returns-in-Ok-true-clause-lines g c tells =
     let filled = c.fill.new.self in
     let piece = c.take_piece.new.self in
     let left = g.S.Source.left c.fill.new.source in
-    Gives-along c.whole_line.result _ _ (lines_of (piece.buffer ++ left)) _
+    Gives-along c.whole_line.result (sorted piece.line.items ∷ lines_of (piece.buffer ++ left))
+    (ahead c.args.self.now (g.S.Source.left c.args.source.now))
+    (lines_of (piece.buffer ++ left))
+    (ahead c.whole_line.new.self left)
     (c.loop-self.invariant.lines tells
     ∙ lines_from-filled old.line.items filled.line.items old.buffer filled.buffer _ left (ap (λ v. v.items) c.in-Bytes.ensures.line) (c.in-Bytes.ensures.moved tells)
     ∙ (rw c.in-Ok-true.field-0-test at (c.in-Ok-true.ensures.lines left)))

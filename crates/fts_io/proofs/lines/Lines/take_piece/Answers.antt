@@ -1,4 +1,3 @@
-use Rattle.std.proofs.Common.{arith}
 use Rattle.fts_io.proofs.Cutting.{moves-found, moves-none}
 use Rattle.fts_io.proofs.lines.Lines.take_piece.Goals as goal
 
