@@ -58,7 +58,16 @@ IsLine (next.Endless bytes) = ⊥
 IsLine next.ReadFault = ⊥
 IsLine next.NoMemory = ⊥
 
--- the answer says that these are the bytes taken, and that there may be more than a text has
+-- Endless carries the bytes taken, and is the answer exactly where they are more than a text has
+abbrev pub Measures : Next → ℕ → Type 0
+Measures (next.Line bytes) taken = taken ≤ 2 ^ 40
+Measures (next.TooLong number) taken = taken ≤ 2 ^ 40
+Measures next.End taken = taken ≤ 2 ^ 40
+Measures (next.Endless bytes) taken = (bytes ≡ taken) × (2 ^ 40 < taken)
+Measures next.ReadFault taken = taken ≤ 2 ^ 40
+Measures next.NoMemory taken = taken ≤ 2 ^ 40
+
+-- the answer is Endless with these bytes taken
 abbrev pub IsEndless : Next → ℕ → Type 0
 IsEndless answer bytes = answer ≡ next.Endless bytes
 

@@ -73,7 +73,7 @@ pub struct Lines {
 
 impl Lines {
     ghost use Rattle.fts_io.specs.Text.{Line, lines_of, sorted};
-    ghost use Rattle.fts_io.specs.Reading.{Counts, Gives, HasFilled, IsEndless, IsLine, OnlyBegun, TakesPiece, ahead, given_by, taken_by, work_left};
+    ghost use Rattle.fts_io.specs.Reading.{Counts, Gives, HasFilled, IsEndless, IsLine, Measures, OnlyBegun, TakesPiece, ahead, given_by, taken_by, work_left};
 
     /// A reader that has taken nothing yet.
     pub fn new(alloc: Global) -> Result<Lines, AllocError>
@@ -98,12 +98,11 @@ impl Lines {
 
         // Each byte that left the source was taken, and Endless comes exactly where more than 2^40 were.
         ensures counts { IsTrue S.tells → taken_by self.new + length (S.left source.new) ≡ taken_by self.old + length (S.left source.old) }
-        ensures endless { (bytes : ℕ) → IsEndless result bytes → bytes ≡ taken_by self.new × 2 ^ 40 < bytes }
-        ensures whole { (IsEndless result (taken_by self.new) → ⊥) → taken_by self.new ≤ 2 ^ 40 }
+        ensures endless { Measures result (taken_by self.new) }
 
         // Where the reading stops, all whole lines before were given.
         ensures read_dry { IsTrue S.tells → result ≡ Next.ReadFault → OnlyBegun (ahead self.new (S.left source.new)) (S.left source.new) }
-        ensures endless_dry { IsTrue S.tells → IsEndless result (taken_by self.new) → (byte : ℕ) × OnlyBegun (ahead self.new (S.left source.new)) (byte ∷ S.left source.new) }
+        ensures endless_dry { IsTrue S.tells → (bytes : ℕ) → IsEndless result bytes → (byte : ℕ) × OnlyBegun (ahead self.new (S.left source.new)) (byte ∷ S.left source.new) }
 
         ensures progress { IsLine result → work_left self.new < work_left self.old }
         ensures fault { result ≡ Next.ReadFault → Rose (S.faults source.old) (S.faults source.new) }
@@ -195,6 +194,7 @@ impl Lines {
         ensures gives { (lines : List Line) → Gives result (sorted self.old.line.items ∷ lines) lines }
         ensures numbers { Counts result (given_by self.old) (given_by self.new) }
         ensures is_line { IsLine result }
+        ensures measures { self.old.taken ≤ 2 ^ 40 → Measures result self.old.taken }
         ensures empty { self.new.line.items ≡ [] }
         ensures buffer { self.new.buffer ≡ self.old.buffer }
         ensures taken { self.new.taken ≡ self.old.taken }
@@ -214,6 +214,7 @@ impl Lines {
         ensures gives { Gives result (ahead self.old []) (ahead self.new []) }
         ensures numbers { Counts result (given_by self.old) (given_by self.new) }
         ensures answers { (result ≡ Next.End) ⊎ IsLine result }
+        ensures measures { self.old.taken ≤ 2 ^ 40 → Measures result self.old.taken }
         ensures buffer { self.new.buffer ≡ [] }
         ensures taken { self.new.taken ≡ self.old.taken }
         ensures progress { IsLine result → work_left self.new < work_left self.old }

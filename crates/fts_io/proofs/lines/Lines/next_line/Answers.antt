@@ -5,7 +5,7 @@ use Rattle.fts_io.proofs.Giving.{Gives-along, lines_from-filled, single}
 use Rattle.fts_io.proofs.lines.Lines.next_line.Goals as goal
 
 pub returns-in-Endless-clause-endless_dry : goal.returns-in-Endless-clause-endless_dry
-returns-in-Endless-clause-endless_dry g c tells is =
+returns-in-Endless-clause-endless_dry g c tells bytes is =
     let lines = c.fill.new.self in
     let left = g.S.Source.left c.fill.new.source in
     let one = single lines.buffer (lines.past c.in-Endless.ensures.filled) in
