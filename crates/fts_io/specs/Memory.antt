@@ -44,3 +44,11 @@ bytes_left source = drop source.at source.bytes.items
 -- the bytes that a sink in memory holds
 abbrev pub bytes_held : MemSink → List ℕ
 bytes_held sink = sink.held.items
+
+-- how many bytes a source in memory gives at most a read
+abbrev pub most_given : MemSource → ℕ
+most_given source = source.most
+
+-- how many bytes a sink in memory takes at most a write
+abbrev pub most_taken : MemSink → ℕ
+most_taken sink = sink.most

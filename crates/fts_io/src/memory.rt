@@ -1,4 +1,4 @@
-ghost use Rattle.std.specs.Prelude.{◌≡◌, ◌++◌, ◌≤◌, ◌<◌, ℕ, true, List, [], length, take, drop, IsTrue, IfOk, OnErr};
+ghost use Rattle.std.specs.Prelude.{◌≡◌, ◌++◌, ◌≤◌, ◌<◌, ◌-◌, ◌^◌, min, ℕ, true, List, [], length, take, drop, IsTrue, IfOk, OnErr};
 ghost use Rattle.fts_faults.specs.Count.{HasCause};
 
 use crate::calls::Calls;
@@ -19,10 +19,11 @@ pub struct MemSource {
 }
 
 impl MemSource {
-    ghost use Rattle.fts_io.specs.Memory.{IsFresh, bytes_left, source_calls};
+    ghost use Rattle.fts_io.specs.Memory.{IsFresh, bytes_left, most_given, source_calls};
 
     /// A source that has these bytes left. `fails` lists the numbers, from 1, of the reads that fail.
     pub fn new(bytes: Vec<u8>, fails: Vec<u64>) -> MemSource
+        ensures most { most_given result ≡ 2 ^ 64 - 1 }
         ensures left { bytes_left result ≡ bytes.items }
         ensures calls { IsFresh fails.items (source_calls result) }
     {
@@ -37,6 +38,7 @@ impl MemSource {
     /// The source, with at most `most` bytes a read from now on.
     pub fn giving(mut self, most: usize) -> MemSource
         requires { 0 < most }
+        ensures most { most_given result ≡ most }
         ensures left { bytes_left result ≡ bytes_left self }
         ensures calls { source_calls result ≡ source_calls self }
     {
@@ -60,7 +62,7 @@ impl MemSource {
 }
 
 impl Source for MemSource {
-    ghost use Rattle.fts_io.specs.Memory.{IsCounted, bytes_left, source_calls};
+    ghost use Rattle.fts_io.specs.Memory.{IsCounted, bytes_left, most_given, source_calls};
 
     ghost tells = { true };
 
@@ -75,6 +77,8 @@ impl Source for MemSource {
         ensures kept { OnErr result (bytes_left self.new ≡ bytes_left self.old) }
         ensures cause { HasCause (source_calls self.old).faults (source_calls self.new).faults result }
         ensures counted { IsCounted (source_calls self.old) (source_calls self.new) result }
+        ensures count { IfOk result (λ n. n ≡ min (min (length (bytes_left self.old)) (most_given self.old)) (length buf.new)) }
+        ensures most { most_given self.new ≡ most_given self.old }
     {
         self.calls.make()?;
         let left = &self.bytes[self.at..];
@@ -95,10 +99,11 @@ pub struct MemSink {
 }
 
 impl MemSink {
-    ghost use Rattle.fts_io.specs.Memory.{IsFresh, bytes_held, sink_calls};
+    ghost use Rattle.fts_io.specs.Memory.{IsFresh, bytes_held, most_taken, sink_calls};
 
     /// A sink that holds nothing. `fails` lists the numbers, from 1, of the writes that fail.
     pub fn new(alloc: Global, fails: Vec<u64>) -> MemSink
+        ensures most { most_taken result ≡ 2 ^ 64 - 1 }
         ensures holds { bytes_held result ≡ [] }
         ensures calls { IsFresh fails.items (sink_calls result) }
     {
@@ -112,6 +117,7 @@ impl MemSink {
     /// The sink, with at most `most` bytes a write from now on.
     pub fn taking(mut self, most: usize) -> MemSink
         requires { 0 < most }
+        ensures most { most_taken result ≡ most }
         ensures holds { bytes_held result ≡ bytes_held self }
         ensures calls { sink_calls result ≡ sink_calls self }
     {
@@ -142,7 +148,7 @@ impl MemSink {
 }
 
 impl Sink for MemSink {
-    ghost use Rattle.fts_io.specs.Memory.{IsCounted, bytes_held, sink_calls};
+    ghost use Rattle.fts_io.specs.Memory.{IsCounted, bytes_held, most_taken, sink_calls};
 
     ghost tells = { true };
 
@@ -158,6 +164,8 @@ impl Sink for MemSink {
         ensures kept { OnErr result (bytes_held self.new ≡ bytes_held self.old) }
         ensures cause { HasCause (sink_calls self.old).faults (sink_calls self.new).faults result }
         ensures counted { IsCounted (sink_calls self.old) (sink_calls self.new) result }
+        ensures count { IfOk result (λ n. n ≡ min (length bytes.now) (most_taken self.old)) }
+        ensures most { most_taken self.new ≡ most_taken self.old }
     {
         self.calls.make()?;
         let count = bytes.len().min(self.most);
