@@ -123,6 +123,20 @@ impl Lines {
         }
     }
 
+    /// How many lines were given, the ones too long too.
+    pub fn given(&self) -> u64
+        ensures { result ≡ given_by self.now }
+    {
+        self.given
+    }
+
+    /// How many bytes were taken from the source.
+    pub fn taken(&self) -> u64
+        ensures { result ≡ taken_by self.now }
+    {
+        self.taken
+    }
+
     /// Reads into the buffer where it is empty.
     fn fill<S: Source>(&mut self, source: &mut S) -> Filled
         ensures filled { HasFilled result self.new }
