@@ -1,7 +1,11 @@
-use Rattle.std.specs.Prelude.{ℕ}
+use Rattle.std.specs.Prelude.{ℕ, length}
 use Rattle.fts_host.specs.declared.disk.HostDisk.{HostDisk}
 use Rattle.fts_host.specs.declared.streams.StdSource.{StdSource}
 use Rattle.fts_host.specs.declared.streams.StdSink.{StdSink}
+
+-- how many files a device has, from number 0 on
+abbrev pub host_count : {R : Type 0} → HostDisk R → ℕ
+host_count disk = length disk.files.items
 
 -- how many errors of the system a device met
 abbrev pub host_faults : {R : Type 0} → HostDisk R → ℕ

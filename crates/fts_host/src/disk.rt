@@ -1,4 +1,5 @@
-ghost use Rattle.std.specs.Prelude.{◌≡◌, [], false, IfOk};
+ghost use Rattle.std.specs.Prelude.{◌≡◌, ◌^◌, ◌<◌, ◌≤◌, [], false, length, IfOk, OnOk, IsErr};
+ghost use Rattle.fts_faults.specs.Count.{HasCause};
 
 use crate::faults::Faults;
 use crate::file::HostFile;
@@ -47,13 +48,14 @@ pub struct HostDisk<R> {
 }
 
 impl<R> HostDisk<R> {
-    ghost use Rattle.fts_host.specs.Host.{host_faults};
+    ghost use Rattle.fts_host.specs.Host.{host_faults, host_count};
 
     /// The device of rows of a folder: file 0 is `rows.log`. It has no faults yet.
     pub fn rows(alloc: Global, rt: R, folder: &str) -> Result<HostDisk<R>, AllocError>
     where
         R: Drop,
-        ensures { IfOk result (λ disk. host_faults disk ≡ 0) }
+        ensures files { IfOk result (λ disk. host_count disk ≡ 1) }
+        ensures faults { IfOk result (λ disk. host_faults disk ≡ 0) }
     {
         HostDisk::over(alloc, rt, folder, &ROWS_NAMES, true)
     }
@@ -63,7 +65,8 @@ impl<R> HostDisk<R> {
     pub fn index(alloc: Global, rt: R, folder: &str) -> Result<HostDisk<R>, AllocError>
     where
         R: Drop,
-        ensures { IfOk result (λ disk. host_faults disk ≡ 0) }
+        ensures files { IfOk result (λ disk. host_count disk ≡ 7) }
+        ensures faults { IfOk result (λ disk. host_faults disk ≡ 0) }
     {
         HostDisk::over(alloc, rt, folder, &INDEX_NAMES, false)
     }
@@ -78,7 +81,8 @@ impl<R> HostDisk<R> {
     ) -> Result<HostDisk<R>, AllocError>
     where
         R: Drop,
-        ensures { IfOk result (λ disk. host_faults disk ≡ 0) }
+        ensures files { IfOk result (λ disk. host_count disk ≡ length names.now) }
+        ensures faults { IfOk result (λ disk. host_faults disk ≡ 0) }
     {
         let folder = Folder::new(alloc, folder)?;
         let mut files = Vec::with_capacity(alloc, names.len())?;
@@ -95,7 +99,7 @@ impl<R> HostDisk<R> {
 }
 
 impl<R: Files<File = File>> Disk for HostDisk<R> {
-    ghost use Rattle.fts_host.specs.Host.{host_faults};
+    ghost use Rattle.fts_host.specs.Host.{host_faults, host_count};
 
     ghost tells = { false };
 
@@ -103,7 +107,12 @@ impl<R: Files<File = File>> Disk for HostDisk<R> {
 
     ghost faults = { λ disk. host_faults disk };
 
-    fn len(&mut self, file: u32) -> Result<u64, Failed> {
+    fn len(&mut self, file: u32) -> Result<u64, Failed>
+        ensures small { IfOk result (λ n. n < 2 ^ 63) }
+        ensures missing { host_count self.old ≤ file → IsErr result }
+        ensures cause { HasCause (host_faults self.old) (host_faults self.new) result }
+        ensures no_fault { OnOk result (host_faults self.new ≡ host_faults self.old) }
+    {
         let length = match self.files.get_mut(file as usize) {
             Some(file) => file.len(&self.rt),
             None => Err(no_such_file()),
@@ -111,7 +120,11 @@ impl<R: Files<File = File>> Disk for HostDisk<R> {
         self.faults.counted(length)
     }
 
-    fn read_at(&mut self, file: u32, at: u64, buf: &mut [u8]) -> Result<(), Failed> {
+    fn read_at(&mut self, file: u32, at: u64, buf: &mut [u8]) -> Result<(), Failed>
+        ensures missing { host_count self.old ≤ file → IsErr result }
+        ensures cause { HasCause (host_faults self.old) (host_faults self.new) result }
+        ensures no_fault { OnOk result (host_faults self.new ≡ host_faults self.old) }
+    {
         let read = match self.files.get_mut(file as usize) {
             Some(file) => file.read_at(&self.rt, at, buf),
             None => Err(no_such_file()),
@@ -119,7 +132,11 @@ impl<R: Files<File = File>> Disk for HostDisk<R> {
         self.faults.counted(read)
     }
 
-    fn write_at(&mut self, file: u32, at: u64, bytes: &[u8]) -> Result<(), Failed> {
+    fn write_at(&mut self, file: u32, at: u64, bytes: &[u8]) -> Result<(), Failed>
+        ensures missing { host_count self.old ≤ file → IsErr result }
+        ensures cause { HasCause (host_faults self.old) (host_faults self.new) result }
+        ensures no_fault { OnOk result (host_faults self.new ≡ host_faults self.old) }
+    {
         let written = match self.files.get_mut(file as usize) {
             Some(file) => file.write_at(&self.rt, &mut self.folder, at, bytes),
             None => Err(no_such_file()),
@@ -127,7 +144,11 @@ impl<R: Files<File = File>> Disk for HostDisk<R> {
         self.faults.counted(written)
     }
 
-    fn cut(&mut self, file: u32, len: u64) -> Result<(), Failed> {
+    fn cut(&mut self, file: u32, len: u64) -> Result<(), Failed>
+        ensures missing { host_count self.old ≤ file → IsErr result }
+        ensures cause { HasCause (host_faults self.old) (host_faults self.new) result }
+        ensures no_fault { OnOk result (host_faults self.new ≡ host_faults self.old) }
+    {
         let cut = match self.files.get_mut(file as usize) {
             Some(file) => file.cut(&self.rt, len),
             None => Err(no_such_file()),
@@ -135,7 +156,10 @@ impl<R: Files<File = File>> Disk for HostDisk<R> {
         self.faults.counted(cut)
     }
 
-    fn sync(&mut self) -> Result<(), Failed> {
+    fn sync(&mut self) -> Result<(), Failed>
+        ensures cause { HasCause (host_faults self.old) (host_faults self.new) result }
+        ensures no_fault { OnOk result (host_faults self.new ≡ host_faults self.old) }
+    {
         let synced = sync_all(&self.rt, &mut self.files, &mut self.folder);
         self.faults.counted(synced)
     }
