@@ -1,0 +1,24 @@
+//! The devices and streams of the system: a folder, standard input and standard output.
+//!
+//! **This crate is trusted.** Its contracts say only that each failure is counted, since no contract speaks of
+//! what the system keeps or shows. So its types tell nothing of content, and a reader has to believe that each call
+//! does to the system what its page says. What reads or writes here:
+//!
+//! - `HostDisk` opens, makes, reads, writes, cuts and syncs files of one folder, and makes the folder.
+//! - `StdSource` reads from a reader of std, as standard input.
+//! - `StdSink` writes to a writer of std, as standard output.
+//!
+//! Each counts the errors that the system gave, up to `2^64 - 1`, and answers `Failed` for each.
+#![tactic(auto)]
+
+mod disk;
+mod faults;
+mod file;
+mod folder;
+mod streams;
+
+pub use disk::HostDisk;
+pub use streams::{StdSink, StdSource};
+
+#[cfg(test)]
+mod tests;
