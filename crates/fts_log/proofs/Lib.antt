@@ -1,2 +1,3 @@
 pub mod Bytes
 pub mod Appending
+pub mod Framing

@@ -1,5 +1,5 @@
 //! Making a log.
-ghost use Rattle.std.specs.Prelude.{◌≡◌, ◌^◌, ◌≤◌, ◌++◌, [], ◌∷◌, IsTrue, IfOk, IfErr, OnOk};
+ghost use Rattle.std.specs.Prelude.{◌≡◌, ◌^◌, ◌≤◌, ◌++◌, [], ◌∷◌, length, IsTrue, IfOk, IfErr, OnOk};
 ghost use Rattle.fts_faults.specs.Count.{Rose, HasCause};
 ghost use Rattle.fts_log.specs.Device.{SameOthers};
 ghost use Rattle.fts_log.specs.Log.{StandsFor, device_of, magic_of, limit_of, found_count, count_of, end_of};
@@ -45,6 +45,7 @@ pub fn create_log<D: Disk>(device: D, magic: [u8; 8], limit: u64) -> Result<Log<
 fn start<D: Disk>(device: &mut D, magic: [u8; 8]) -> Result<(), Failed>
     ensures bytes { OnOk result (IsTrue D.tells → D.seen device.new 0 ≡ magic ++ 0 ∷ []) }
     ensures others { IsTrue D.tells → SameOthers (D.seen device.old) (D.seen device.new) }
+    ensures width { length magic ≡ 8 }
     ensures cause { HasCause (D.faults device.old) (D.faults device.new) result }
 {
     device.cut(0, 0)?;

@@ -2,6 +2,7 @@
 ghost use Rattle.std.specs.Prelude.{◌≡◌};
 
 use fts_disk::Failed;
+use std::alloc::{AllocError, AllocFailed};
 use std::error::Error;
 use std::fmt;
 
@@ -76,5 +77,58 @@ impl From<Failed> for AppendError {
 
     fn from(_: Failed) -> Self {
         AppendError::DiskFault
+    }
+}
+
+impl From<Failed> for EntryError {
+    ghost use Rattle.fts_log.specs.declared.error.EntryError.TheVariants.{DiskFault};
+
+    ghost from_gives = { λ _ e. e ≡ DiskFault };
+
+    fn from(_: Failed) -> Self {
+        EntryError::DiskFault
+    }
+}
+
+impl From<AllocError> for EntryError {
+    ghost use Rattle.fts_log.specs.declared.error.EntryError.TheVariants.{NoMemory};
+
+    ghost from_gives = { λ _ e. e ≡ NoMemory };
+
+    fn from(_: AllocError) -> Self {
+        EntryError::NoMemory
+    }
+}
+
+impl From<Failed> for OpenError {
+    ghost use Rattle.fts_log.specs.declared.error.OpenError.TheVariants.{DiskFault};
+
+    ghost from_gives = { λ _ e. e ≡ DiskFault };
+
+    fn from(_: Failed) -> Self {
+        OpenError::DiskFault
+    }
+}
+
+impl<T: Drop> From<AllocFailed<T>> for OpenError {
+    ghost use Rattle.fts_log.specs.declared.error.OpenError.TheVariants.{NoMemory};
+
+    ghost from_gives = { λ _ e. e ≡ NoMemory };
+
+    fn from(_: AllocFailed<T>) -> Self {
+        OpenError::NoMemory
+    }
+}
+
+impl From<EntryError> for OpenError {
+    ghost use Rattle.fts_log.specs.Error.{open_error_of};
+
+    ghost from_gives = { λ error e. e ≡ open_error_of error };
+
+    fn from(error: EntryError) -> Self {
+        match error {
+            EntryError::NoMemory => OpenError::NoMemory,
+            EntryError::DiskFault => OpenError::DiskFault,
+        }
     }
 }

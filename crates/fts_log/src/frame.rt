@@ -1,5 +1,6 @@
 //! A record that is made piece by piece before it is appended.
-ghost use Rattle.std.specs.Prelude.{◌≡◌, ◌+◌, ◌^◌, ◌<◌, ◌≤◌, ◌++◌, [], length, IfOk, vec_len, vec_capacity};
+ghost use Rattle.std.specs.Prelude.{◌≡◌, ◌+◌, ◌^◌, ◌<◌, ◌≤◌, ◌++◌, [], length, drop, IfOk, vec_len, vec_capacity};
+ghost use Rattle.std.specs.Int.{w32, to_be_bytes};
 ghost use Rattle.fts_log.specs.Framing.{staged, inner};
 
 use std::alloc::{AllocError, Global};
@@ -9,6 +10,7 @@ use std::alloc::{AllocError, Global};
 pub struct Framed {
     bytes: Vec<u8>,
     room: u32,
+    ghost room_fits: { room < 2 ^ 32 },
     ghost staged: { bytes.items ≡ staged (inner bytes.items) },
     ghost within: { length bytes.items ≤ room + 5 },
     ghost reserved: { room + 5 ≤ vec_capacity bytes },
@@ -44,7 +46,7 @@ impl Framed {
     }
 }
 
-// Puts a piece behind the payload of a frame's bytes.
+// Puts a piece behind the payload that the bytes of a frame hold.
 fn put_payload(bytes: &mut Vec<u8>, piece: &[u8])
     requires staged { bytes.old.items ≡ staged (inner bytes.old.items) }
     requires room { vec_len bytes.old + length piece.now ≤ vec_capacity bytes.old }
@@ -52,9 +54,22 @@ fn put_payload(bytes: &mut Vec<u8>, piece: &[u8])
     ensures staged { bytes.new.items ≡ staged (inner bytes.old.items ++ piece.now) }
     ensures capacity { vec_capacity bytes.old ≤ vec_capacity bytes.new }
 {
+    let count = (bytes.len() - 5 + piece.len()) as u32;
     bytes.pop();
     bytes.extend_from_slice(piece).unwrap();
-    let length = (bytes.len() - 4) as u32;
     bytes.push(0).unwrap();
-    bytes[..4].copy_from_slice(&length.to_be_bytes());
+    set_length(bytes, count);
+}
+
+// Writes the length over the first four bytes.
+fn set_length(bytes: &mut Vec<u8>, count: u32)
+    requires { 4 ≤ length bytes.old.items }
+    ensures items { bytes.new.items ≡ to_be_bytes w32 count ++ drop 4 bytes.old.items }
+    ensures capacity { vec_capacity bytes.old ≤ vec_capacity bytes.new }
+{
+    let [a, b, c, d] = count.to_be_bytes();
+    bytes[0] = a;
+    bytes[1] = b;
+    bytes[2] = c;
+    bytes[3] = d;
 }

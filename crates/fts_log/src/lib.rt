@@ -12,6 +12,8 @@ mod error;
 mod found;
 mod frame;
 mod log;
+mod place;
+mod window;
 mod opening;
 
 pub use create::create_log;
