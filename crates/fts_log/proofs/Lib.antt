@@ -1,3 +1,4 @@
 pub mod Bytes
 pub mod Appending
 pub mod Framing
+pub mod Places

@@ -1,8 +1,9 @@
 -- What stands at a place of a file.
 use Rattle.std.specs.Prelude.{◌≡◌, ◌≢◌, ℕ, ◌+◌, List, ◌∷◌, ◌++◌, length, take, drop}
-use Rattle.fts_log.specs.Record.{Fits, record_of, IsBroken, IsLog, front}
+use Rattle.fts_log.specs.Record.{Fits, record_of, IsBroken, IsLog, front, ends_from}
 use Rattle.fts_log.specs.declared.place.Place.{Place}
 use Rattle.fts_log.specs.declared.place.Place.TheVariants.{Closed, Whole, Broken}
+use Rattle.fts_log.specs.declared.found.Found.{Found}
 use Rattle.fts_log.specs.declared.window.Window.{Window}
 
 -- a closed gate, a whole record and where it ends, or neither
@@ -14,3 +15,9 @@ Stands file at Broken = IsBroken (drop at file)
 -- the window holds the file's bytes from its start on
 abbrev pub Shows : Window → List ℕ → Type 0
 Shows window file = window.bytes.items ≡ take (length window.bytes.items) (drop window.start file)
+
+-- the file is a log of these entries, and its places are those that were found
+pub record IsFoundIn (magic : List ℕ) (entries : List (List ℕ)) (file : List ℕ) (found : Found) : Type 0 where
+  pub is_log : IsLog magic entries file
+  pub gate : found.gate ≡ length (front magic entries)
+  pub ends : found.ends.items ≡ ends_from (length magic) entries

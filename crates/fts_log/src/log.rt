@@ -3,6 +3,7 @@ ghost use Rattle.std.specs.Prelude.{◌≡◌, ℕ, List, ◌+◌, ◌^◌, ◌<
 ghost use Rattle.fts_faults.specs.Count.{Rose};
 
 use crate::found::Found;
+use crate::window::read_bytes;
 use crate::{AppendError, EntryError, Framed};
 use fts_disk::Disk;
 
@@ -90,7 +91,11 @@ impl<D: Disk> Log<D> {
         ensures failed { IsErrOf result EntryError.DiskFault → Rose (D.faults (device_of self.old)) (D.faults (device_of self.new)) }
         ensures never_falls { D.faults (device_of self.old) ≤ D.faults (device_of self.new) }
     {
-        unreachable!()
+        let (alloc, (start, size)) = match &self.found {
+            Some(found) => (found.alloc, found.payload_at(k as usize)),
+            None => unreachable!(),
+        };
+        read_bytes(alloc, &mut self.device, start, size)
     }
 
     /// How many entries the log has.
