@@ -5,8 +5,8 @@ use Rattle.std.proofs.lemmas.List.Elements.{All-push}
 use Rattle.fts_disk.specs.Device.{Files, Holds, Torn}
 use Rattle.fts_disk.specs.declared.disk.Disk.{Ghosts}
 use Rattle.fts_log.specs.declared.log.Log.{Log}
-use Rattle.fts_log.specs.Log.{StandsFor, device_of, magic_of, count_of, end_of, found_ends}
-use Rattle.fts_log.specs.Record.{Fits, front, log_end, ends_from, IsLog, IsLogOfEither}
+use Rattle.fts_log.specs.Log.{StandsFor, device_of, magic_of, count_of, end_of, found_ends, found_count}
+use Rattle.fts_log.specs.Record.{Fits, record_of, records, front, log_end, ends_from, IsLog, IsLogOfEither}
 use Rattle.fts_log.specs.Framing.{staged}
 use Rattle.fts_log.proofs.Bytes.{torn_behind, written_behind, torn_gate, written_gate, opened, length-front-push, ends_from-push, head_stays}
 
@@ -81,12 +81,15 @@ pub stands_after : {D : Type 0} {disk : Ghosts D} (entries : List (List ℕ)) (p
     → end_of new ≡ end_of old + length (staged payload) → count_of new ≡ count_of old + 1 → StandsFor (entries ++ payload ∷ []) new
 stands_after entries payload old new stands is_log magic found «end» count =
     let L = length (magic_of old) in
-    let more = ends_from-push L entries payload in
+    let last = L + length (records entries) + length (record_of payload) in
     let stays : found_ends old ≡ take (length (found_ends old)) (ends_from L (entries ++ payload ∷ [])) =
-        head_stays (found_ends old) (ends_from L entries) (more.0 ∷ []) stands.ends ∙ ap (take (length (found_ends old))) (sym more.1) in
+    head_stays (found_ends old) (ends_from L entries) (last ∷ []) stands.ends ∙ ap (take (length (found_ends old))) (sym (ends_from-push L entries payload last refl)) in
+    let both = entries ++ payload ∷ [] in
+    let last_end : end_of new ≡ log_end (magic_of old) both = omega (arith, «end», stands.«end», length-front-push (magic_of old) entries payload, length-append payload (0 ∷ [])) in
     record {
       is_log = is_log;
-      «end» = rw magic (omega (arith, «end», stands.«end», length-front-push (magic_of old) entries payload, length-append payload (0 ∷ [])));
+      «end» = last_end ∙ ap (λ (magic : List ℕ). log_end magic both) (sym magic);
       count = omega (arith, count, stands.count, length-append entries (payload ∷ []));
-      ends = rw (magic, found) stays;
+      ends = found ∙ stays ∙ ap (λ (xs : List ℕ). take (length xs) (ends_from L both)) (sym found)
+          ∙ ap (λ (magic : List ℕ). take (found_count new) (ends_from (length magic) both)) (sym magic);
     }

@@ -1,5 +1,5 @@
 -- What a write does to bytes with a gate in them, and how the records of a log go on.
-use Rattle.std.proofs.Common.{◌≡◌, ℕ, ◌+◌, ◌<◌, ◌≤◌, List, [], ◌∷◌, ◌++◌, length, take, drop, get_or, refl, sym, ◌∙◌, ap, subst, append_assoc, append-nil, length-append, arith}
+use Rattle.std.proofs.Common.{◌≡◌, ℕ, ◌+◌, ◌<◌, ◌≤◌, List, [], ◌∷◌, ◌++◌, length, take, drop, get_or, suc, refl, sym, ◌∙◌, ap, subst, append_assoc, append-nil, length-append, arith}
 use Rattle.std.proofs.lemmas.List.{take_at, drop_at, drop_more, take-append-drop, take-append-le, length-take}
 use Rattle.std.specs.Int.{w32, to_be_bytes}
 use Rattle.fts_disk.specs.Device.{Holds, Torn}
@@ -39,9 +39,11 @@ module _ (start : List ℕ) (gate : ℕ) (rest : List ℕ) where
       let k = length start in
       let long : k < length new = omega (arith, torn.no_shorter, length-append start (gate ∷ rest)) in
       let before : take k new ≡ start = torn.before ∙ take_at start (gate ∷ rest) k refl in
-      let after : drop (k + 1) new ≡ rest = torn.after ∙ behind in
-      (get_or new k 0, sym (take-append-drop k new) ∙ ap (λ (front : List ℕ). front ++ drop k new) before
-          ∙ ap (λ (tail : List ℕ). start ++ tail) (drop_more new k 0 long ∙ ap (λ (tail : List ℕ). get_or new k 0 ∷ tail) after))
+      let after : drop (k + 1) new ≡ rest = torn.after ∙ behind in (
+        get_or new k 0,
+        sym (take-append-drop k new) ∙ ap (λ (front : List ℕ). front ++ drop k new) before
+            ∙ ap (λ (tail : List ℕ). start ++ tail) (drop_more new k 0 long ∙ ap (λ (tail : List ℕ). get_or new k 0 ∷ tail) after),
+      )
 
   -- a write of the gate
   pub written_gate : (new : List ℕ) → Holds (length start) (1 ∷ []) (start ++ gate ∷ rest) new → new ≡ start ++ 1 ∷ rest
@@ -69,16 +71,19 @@ pub opened : (magic : List ℕ) (entries : List (List ℕ)) (payload rest : List
 opened magic entries payload rest =
     let inside : staged payload ++ rest ≡ (to_be_bytes w32 (length payload) ++ payload) ++ 0 ∷ rest = append_assoc (to_be_bytes w32 (length payload) ++ payload) (0 ∷ []) rest in
     ap (λ (tail : List ℕ). front magic entries ++ 1 ∷ tail) inside ∙ sym (append_assoc (front magic entries) (record_of payload) (0 ∷ rest))
-      ∙ ap (λ (head : List ℕ). head ++ 0 ∷ rest) (sym (front-push magic entries payload))
+    ∙ ap (λ (head : List ℕ). head ++ 0 ∷ rest) (sym (front-push magic entries payload))
 
 -- one end more
-pub ends_from-push : (start : ℕ) (entries : List (List ℕ)) (payload : List ℕ)
-    → (last : ℕ) × (ends_from start (entries ++ payload ∷ []) ≡ ends_from start entries ++ last ∷ [])
-ends_from-push start [] payload = (start + length (record_of payload), refl)
-ends_from-push start (first ∷ entries) payload =
+pub ends_from-push : (start : ℕ) (entries : List (List ℕ)) (payload : List ℕ) (last : ℕ) → last ≡ start + length (records entries) + length (record_of payload)
+    → ends_from start (entries ++ payload ∷ []) ≡ ends_from start entries ++ last ∷ []
+ends_from-push start [] payload last here = ap (λ (n : ℕ). n ∷ []) (omega (arith, here))
+ends_from-push start (first ∷ entries) payload last here =
     let next = start + length (record_of first) in
-    let more = ends_from-push next entries payload in
-    (more.0, ap (λ (tail : List ℕ). next ∷ tail) more.1)
+    ap (λ (tail : List ℕ). next ∷ tail) (ends_from-push next entries payload last (omega (arith, here, length-append (record_of first) (records entries))))
+
+pub length-ends_from : (start : ℕ) (entries : List (List ℕ)) → length (ends_from start entries) ≡ length entries
+length-ends_from start [] = refl
+length-ends_from start (first ∷ entries) = ap suc (length-ends_from (start + length (record_of first)) entries)
 
 -- what is the head of a list is the head of a longer one
 pub head_stays : (xs ys more : List ℕ) → xs ≡ take (length xs) ys → xs ≡ take (length xs) (ys ++ more)

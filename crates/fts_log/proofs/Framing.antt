@@ -15,7 +15,7 @@ put_more old piece new count whole counted is =
     let p = inner old in
     let long : length old ≡ length p + 5 = omega (arith, ap length whole, length-append p (0 ∷ [])) in
     let cut : take (length old - 1) old ≡ to_be_bytes w32 (length p) ++ p =
-        ap (take (length old - 1)) whole ∙ without_gate p (length old - 1) (omega (arith, ap length whole)) in
+    ap (take (length old - 1)) whole ∙ without_gate p (length old - 1) (omega (arith, ap length whole)) in
     let same : count ≡ length (p ++ piece) = omega (arith, counted, long, length-append p piece) in
     is ∙ ap (λ (front : List ℕ). to_be_bytes w32 count ++ drop 4 (front ++ piece ++ 0 ∷ [])) cut
-       ∙ ap (λ (n : ℕ). to_be_bytes w32 n ++ (p ++ piece ++ 0 ∷ [])) same ∙ refl
+    ∙ ap (λ (n : ℕ). to_be_bytes w32 n ++ (p ++ piece ++ 0 ∷ [])) same ∙ refl

@@ -1,6 +1,6 @@
 //! What an opening found.
 ghost use Rattle.std.specs.Prelude.{◌≡◌, ℕ, ◌+◌, ◌-◌, ◌^◌, ◌<◌, ◌≤◌, length, slice_index};
-ghost use Rattle.fts_log.specs.Place.{start_of};
+ghost use Rattle.fts_log.specs.Place.{start_of, IsSpaced};
 
 use std::alloc::Global;
 
@@ -13,7 +13,7 @@ pub(crate) struct Found {
     pub(crate) alloc: Global,
     pub(crate) ends: Vec<u64>,
     pub(crate) gate: u64,
-    ghost spaced: { (k : ℕ) → k < length ends.items → start_of ends.items k + 5 ≤ slice_index ends.items k },
+    ghost spaced: { IsSpaced ends.items },
     ghost few: { length ends.items ≤ gate },
     ghost within: { gate < 2 ^ 63 },
 }

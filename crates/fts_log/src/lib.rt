@@ -12,9 +12,9 @@ mod error;
 mod found;
 mod frame;
 mod log;
+mod opening;
 mod place;
 mod window;
-mod opening;
 
 pub use create::create_log;
 pub use error::{AppendError, EntryError, OpenError};

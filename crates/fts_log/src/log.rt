@@ -1,5 +1,5 @@
 //! The log and its calls.
-ghost use Rattle.std.specs.Prelude.{◌≡◌, ℕ, List, ◌+◌, ◌^◌, ◌<◌, ◌≤◌, ◌++◌, [], ◌∷◌, ◌↔◌, IsTrue, IfOk, OnOk, IsErrOf, slice_index_or};
+ghost use Rattle.std.specs.Prelude.{◌≡◌, ℕ, List, ◌+◌, ◌^◌, ◌<◌, ◌≤◌, ◌++◌, [], ◌∷◌, ◌↔◌, length, IsTrue, IfOk, OnOk, IsErrOf, slice_index_or};
 ghost use Rattle.fts_faults.specs.Count.{Rose};
 
 use crate::found::Found;
@@ -19,6 +19,7 @@ pub struct Log<D: Disk> {
     pub(crate) end: u64,
     pub(crate) count: u64,
     pub(crate) found: Option<Found>,
+    ghost whole_magic: { length magic ≡ 8 },
     ghost limited: { limit ≤ 2 ^ 32 },
     ghost ends_within: { end ≤ 2 ^ 63 },
     ghost counted: { count ≤ end },

@@ -64,6 +64,7 @@ pub fn open_log<D: Disk>(
 // Finds the records of file 0, after a sync.
 fn find<D: Disk>(alloc: Global, device: &mut D, magic: [u8; 8]) -> Result<Found, OpenError>
     ensures found { IfOk result (λ found. IsTrue D.tells → (entries : List (List ℕ)) × IsFoundIn magic entries (D.seen device.old 0) found) }
+    ensures width { OnOk result (length magic ≡ 8) }
     ensures damaged { (at : ℕ) → IsErrOf result (OpenError.Damaged at) → IsTrue D.tells → IsDamagedAt magic at (D.seen device.old 0) }
     ensures looks { IsTrue D.tells → LooksOnly D.Disk device.old device.new }
     ensures failed { IsErrOf result OpenError.DiskFault → Rose (D.faults device.old) (D.faults device.new) }
@@ -82,6 +83,7 @@ fn find<D: Disk>(alloc: Global, device: &mut D, magic: [u8; 8]) -> Result<Found,
 fn begins_with(bytes: &[u8], magic: &[u8; 8]) -> bool
     ensures begins { IsTrue result ↔ (take 8 bytes.now ≡ magic.now) }
     ensures long { IsTrue result → 8 ≤ length bytes.now }
+    ensures width { length magic.now ≡ 8 }
 {
     bytes.starts_with(magic)
 }
@@ -144,9 +146,5 @@ fn place_at<D: Disk>(
     ensures never_falls { D.faults device.old ≤ D.faults device.new }
 {
     window.cover(alloc, device, at, file_length)?;
-    Ok(Place::from_head(
-        window.head(at, file_length),
-        at,
-        file_length,
-    ))
+    Ok(Place::from_head(window.head(at, file_length), at, file_length))
 }

@@ -11,4 +11,4 @@ returns-clause-staged c =
     let cut : c.pop.new.self.items ≡ take (length c.args.bytes.now.items - 1) c.args.bytes.now.items = rw same c.pop.ensures.rest in
     let before : c.push.new.self.items ≡ take (length c.args.bytes.now.items - 1) c.args.bytes.now.items ++ c.args.piece.now ++ 0 ∷ [] = cc in
     put_more c.args.bytes.now.items c.args.piece.now c.set_length.new.bytes.items (c.len.result - 5 + length c.args.piece.now) c.requires.staged (ap (λ (n : ℕ). n - 5 + length c.args.piece.now) (c.len.ensures ∙ c.args.bytes.now.ok.0))
-        (c.set_length.ensures.items ∙ ap (λ (list : List ℕ). to_be_bytes w32 (c.len.result - 5 + length c.args.piece.now) ++ drop 4 list) before)
+    (c.set_length.ensures.items ∙ ap (λ (list : List ℕ). to_be_bytes w32 (c.len.result - 5 + length c.args.piece.now) ++ drop 4 list) before)

@@ -10,7 +10,7 @@ returns-then-next-file_length-clause-stands c file size head =
     let is_open : get_or xs 0 0 ≡ 1 = omega arith in
     let all = sym head ∙ five xs (omega arith) ∙ ap (λ (gate : ℕ). gate ∷ get_or xs 1 0 ∷ get_or xs 2 0 ∷ get_or xs 3 0 ∷ get_or xs 4 0 ∷ []) is_open in
     let bytes = be_bytes_4 (get_or xs 1 0 ∷ get_or xs 2 0 ∷ get_or xs 3 0 ∷ get_or xs 4 0 ∷ []) c.from_be_bytes.result refl
-        (small_bytes (get_or xs 1 0) (get_or xs 2 0) (get_or xs 3 0) (get_or xs 4 0) (omega (arith, c.type_inv.head 1)) (omega (arith, c.type_inv.head 2)) (omega (arith, c.type_inv.head 3)) (omega (arith, c.type_inv.head 4))) c.from_be_bytes.ensures in
+    (small_bytes (get_or xs 1 0) (get_or xs 2 0) (get_or xs 3 0) (get_or xs 4 0) (omega (arith, c.type_inv.head 1)) (omega (arith, c.type_inv.head 2)) (omega (arith, c.type_inv.head 3)) (omega (arith, c.type_inv.head 4))) c.from_be_bytes.ensures in
     whole_there file c.args.at _ _ _ _ c.from_be_bytes.result all bytes c.from_be_bytes.type_inv (omega (arith, size, c.if-next-file_length.true))
 
 pub returns-else-next-file_length-clause-stands : goal.returns-else-next-file_length-clause-stands
