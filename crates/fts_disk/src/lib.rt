@@ -2,6 +2,8 @@
 #![tactic(auto)]
 
 mod disk;
+mod memory;
 
 pub use disk::Disk;
 pub use fts_faults::Failed;
+pub use memory::{Call, Kind, MemDisk};

@@ -1,0 +1,61 @@
+use Rattle.std.specs.Prelude.{◌≡◌, ◌+◌, ◌-◌, ◌^◌, ◌⊎◌, ℕ, List, min, slice_index, slice_set, Contains, Result, IsErr, OnOk}
+use Rattle.fts_faults.specs.Count.{Rose}
+use Rattle.fts_disk.specs.Device.{Files}
+use Rattle.fts_disk.specs.Contents.{contents}
+use Rattle.fts_disk.specs.declared.memory.Call.{Call}
+use Rattle.fts_disk.specs.declared.memory.Kind.{Kind}
+use Rattle.fts_disk.specs.declared.memory.Kind.TheVariants.{Len, Read, Write, Cut, Sync}
+use Rattle.fts_disk.specs.declared.memory.MemDisk.{MemDisk}
+
+-- the place of a kind among the counts of calls
+abbrev pub place_of : Kind → ℕ
+place_of Len = 0
+place_of Read = 1
+place_of Write = 2
+place_of Cut = 3
+place_of Sync = 4
+
+-- the number that the next call of a kind has, from 1; a count stands still at the last u64
+abbrev pub next_number : Kind → List ℕ → ℕ
+next_number kind made = min (slice_index made (place_of kind) + 1) (2 ^ 64 - 1)
+
+-- the counts of calls after one more of a kind
+abbrev pub one_more : Kind → List ℕ → List ℕ
+one_more kind made = slice_set made (place_of kind) (next_number kind made)
+
+-- a list names the next call of this kind, after so many of each
+abbrev pub IsNamed : Kind → List (Kind × ℕ) → List ℕ → Type 0
+IsNamed kind fails made = Contains fails (kind, next_number kind made)
+
+-- what the files of the disk hold
+abbrev pub mem_files : MemDisk → Files
+mem_files disk = contents disk.recorded.files.items
+
+-- its record of calls
+abbrev pub mem_calls : MemDisk → List Call
+mem_calls disk = disk.recorded.calls.items
+
+-- which calls fail, by their kind and their number from 1
+abbrev pub mem_fails : MemDisk → List (Kind × ℕ)
+mem_fails disk = disk.counters.fails.items
+
+-- how many calls of each kind there were
+abbrev pub mem_made : MemDisk → List ℕ
+mem_made disk = disk.counters.made
+
+-- how many faults there were
+abbrev pub mem_faults : MemDisk → ℕ
+mem_faults disk = disk.counters.faults
+
+-- how often it found no memory
+abbrev pub mem_refused : MemDisk → ℕ
+mem_refused disk = disk.counters.refused
+
+-- a call of a kind fails exactly where the list names it or no memory is found for it; one that succeeds is no
+-- fault; the list stays, and the call is counted
+pub record AnswersAsListed {T E : Type 0} (kind : Kind) (old new : MemDisk) (result : Result T E) : Type 0 where
+  pub named : IsNamed kind (mem_fails old) (mem_made old) → IsErr result
+  pub listed : IsErr result → IsNamed kind (mem_fails old) (mem_made old) ⊎ Rose (mem_refused old) (mem_refused new)
+  pub no_fault : OnOk result (mem_faults new ≡ mem_faults old)
+  pub fails : mem_fails new ≡ mem_fails old
+  pub made : mem_made new ≡ one_more kind (mem_made old)

@@ -1,0 +1,89 @@
+use super::*;
+use std::test::Fail;
+
+fn takes_send<T: Send>(_disk: &T) {}
+
+#[test]
+fn a_device_is_written_read_and_cut(rt: HostRuntime) -> Result<(), Fail> {
+    let alloc = rt.alloc();
+    let files = vec![in alloc; b"abcdef".to_vec(alloc)?]?;
+    let mut disk = MemDisk::from_files(alloc, files, Vec::new(alloc))?;
+    takes_send(&disk);
+
+    assert!(rt; disk.file(0).len() == 6);
+    disk.write_at(0, 4, b"XYZ")?;
+    disk.write_at(15, 0, b"new")?;
+    assert!(rt; disk.file(0).len() == 7);
+    disk.cut(0, 6)?;
+    disk.sync()?;
+    assert_eq!(rt; disk.file(0), b"abcdXY".as_slice());
+    assert_eq!(rt; disk.file(15), b"new".as_slice());
+    assert_eq!(rt; disk.len(0)?, 6);
+    assert_eq!(rt; disk.len(7)?, 0);
+
+    assert!(rt; disk.file(0).len() == 6);
+    let mut middle = [0u8; 3];
+    disk.read_at(0, 3, &mut middle)?;
+    assert_eq!(rt; middle, *b"dXY");
+    assert_eq!(rt; disk.faults(), 0);
+    assert_eq!(rt; disk.refused(), 0);
+
+    let calls = vec![in alloc;
+        Call::Write {
+            file: 0,
+            at: 4,
+            bytes: b"XYZ".to_vec(alloc)?,
+            done: true
+        },
+        Call::Write {
+            file: 15,
+            at: 0,
+            bytes: b"new".to_vec(alloc)?,
+            done: true
+        },
+        Call::Cut {
+            file: 0,
+            len: 6,
+            done: true
+        },
+        Call::Sync { done: true },
+        Call::Len {
+            file: 0,
+            done: true
+        },
+        Call::Len {
+            file: 7,
+            done: true
+        },
+        Call::Read {
+            file: 0,
+            at: 3,
+            length: 3,
+            done: true
+        },
+    ]?;
+    assert_eq!(rt; disk.calls(), calls.as_slice());
+    Ok(())
+}
+
+#[test]
+fn a_named_call_fails_and_changes_nothing(rt: HostRuntime) -> Result<(), Fail> {
+    let alloc = rt.alloc();
+    let fails = vec![in alloc; (Kind::Write, 2), (Kind::Sync, 1), (Kind::Write, 4)]?;
+    let mut disk = MemDisk::from_files(alloc, Vec::new(alloc), fails)?;
+    for (byte, good) in [
+        (b'a', true),
+        (b'b', false),
+        (b'c', true),
+        (b'd', false),
+        (b'e', true),
+    ] {
+        assert_eq!(rt; disk.write_at(1, 0, &[byte]).is_ok(), good, "at {byte}");
+    }
+    assert_eq!(rt; disk.sync(), Err(Failed));
+    assert_eq!(rt; disk.sync(), Ok(()));
+    assert_eq!(rt; disk.file(1), b"e".as_slice());
+    assert_eq!(rt; disk.faults(), 3);
+    assert_eq!(rt; disk.refused(), 0);
+    Ok(())
+}
