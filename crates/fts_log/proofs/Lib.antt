@@ -5,3 +5,4 @@ pub mod Places
 pub mod Scanning
 pub mod Ends
 pub mod Finding
+pub mod Unique
