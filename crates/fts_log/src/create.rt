@@ -18,6 +18,7 @@ pub fn create_log<D: Disk>(device: D, magic: [u8; 8], limit: u64) -> Result<Log<
     requires { limit ≤ 2 ^ 32 }
 
     ensures created { IfOk result (λ log. IsTrue D.tells → StandsFor [] log) }
+    ensures bytes { IfOk result (λ log. IsTrue D.tells → D.seen (device_of log) 0 ≡ magic ++ 0 ∷ []) }
     ensures kept { IfOk result (λ log. (magic_of log ≡ magic) × (limit_of log ≡ limit)) }
     ensures empty { IfOk result (λ log. (count_of log ≡ 0) × (end_of log ≡ 9) × (found_count log ≡ 0)) }
     ensures others { IfOk result (λ log. IsTrue D.tells → SameOthers (D.seen device) (D.seen (device_of log))) }

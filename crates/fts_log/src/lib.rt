@@ -23,3 +23,6 @@ pub use frame::Framed;
 pub use laws::{not_damaged, one_list, one_place};
 pub use log::Log;
 pub use opening::open_log;
+
+#[cfg(test)]
+mod tests;
