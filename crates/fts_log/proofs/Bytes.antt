@@ -1,5 +1,5 @@
 -- What a write does to bytes with a gate in them, and how the records of a log go on.
-use Rattle.std.proofs.Common.{◌≡◌, ℕ, ◌+◌, ◌<◌, ◌≤◌, List, [], ◌∷◌, ◌++◌, length, take, drop, get_or, suc, refl, sym, ◌∙◌, ap, subst, append_assoc, append-nil, length-append, arith}
+use Rattle.std.proofs.Common.{◌≡◌, ℕ, ◌+◌, ◌<◌, ◌≤◌, List, [], ◌∷◌, ◌++◌, length, take, drop, get_or, suc, refl, sym, ◌∙◌, ap, append_assoc, append-nil, length-append, arith}
 use Rattle.std.proofs.lemmas.List.{take_at, drop_at, drop_more, take-append-drop, take-append-le, length-take}
 use Rattle.std.specs.Int.{w32, to_be_bytes}
 use Rattle.fts_disk.specs.Device.{Holds, Torn}

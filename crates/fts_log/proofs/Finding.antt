@@ -1,5 +1,5 @@
 -- What an opening finds.
-use Rattle.std.proofs.Common.{◌≡◌, ℕ, ◌+◌, ◌-◌, ◌<◌, ◌≤◌, List, [], ◌∷◌, ◌++◌, length, take, drop, min, get_or, Some, Bool, true, false, IsTrue, refl, sym, ◌∙◌, ap, subst, append_assoc, length-append, arith}
+use Rattle.std.proofs.Common.{◌≡◌, ℕ, ◌+◌, ◌<◌, ◌≤◌, List, [], ◌∷◌, ◌++◌, length, take, drop, min, get_or, Some, Bool, true, false, IsTrue, sym, ◌∙◌, ap, subst, append_assoc, length-append, arith}
 use Rattle.std.proofs.lemmas.List.{take_at, take-take, take_all, length-take}
 use Rattle.fts_disk.specs.Device.{Files}
 use Rattle.fts_disk.specs.declared.disk.Disk.{Ghosts}
@@ -7,7 +7,7 @@ use Rattle.fts_log.specs.declared.log.Log.{Log}
 use Rattle.fts_log.specs.declared.found.Found.{Found}
 use Rattle.fts_log.specs.Log.{StandsFor, device_of, magic_of, count_of, end_of, ends_in, found_ends, found_count}
 use Rattle.fts_log.specs.Place.{start_of}
-use Rattle.fts_log.specs.Record.{records, front, ends_from, IsLog}
+use Rattle.fts_log.specs.Record.{records, ends_from, IsLog}
 use Rattle.fts_log.specs.Scan.{IsFoundIn}
 use Rattle.fts_log.proofs.Appending.{kept}
 use Rattle.fts_log.proofs.Bytes.{length-ends_from}

@@ -1,5 +1,5 @@
 -- A piece put behind a payload.
-use Rattle.std.proofs.Common.{◌≡◌, ℕ, ◌+◌, ◌-◌, List, [], ◌∷◌, ◌++◌, length, take, drop, refl, sym, ◌∙◌, ap, subst, append_assoc, length-append, arith}
+use Rattle.std.proofs.Common.{◌≡◌, ℕ, ◌+◌, ◌-◌, List, [], ◌∷◌, ◌++◌, length, take, drop, refl, ◌∙◌, ap, length-append, arith}
 use Rattle.std.proofs.lemmas.List.{take_at}
 use Rattle.std.specs.Int.{w32, to_be_bytes}
 use Rattle.fts_log.specs.Framing.{staged, inner}

@@ -1,9 +1,9 @@
 -- Bytes are read as records in one way alone.
-use Rattle.std.proofs.Common.{◌≡◌, ◌≢◌, ◌⊎◌, ℕ, ◌+◌, ◌<◌, List, [], ◌∷◌, ◌++◌, length, take, drop, get_or, All, zero, suc, inl, inr, refl, sym, ◌∙◌, ap, append_assoc, length-append, arith}
+use Rattle.std.proofs.Common.{◌≡◌, ◌≢◌, ℕ, List, [], ◌∷◌, ◌++◌, length, take, drop, All, suc, inl, inr, refl, sym, ◌∙◌, ap, append_assoc, arith}
 use Rattle.std.proofs.lemmas.List.{take_at, drop_at, append_cancel_left}
 use Rattle.std.proofs.lemmas.Nat.{from_be_bytes-to_be_bytes_4}
 use Rattle.std.specs.Int.{w32, to_be_bytes, from_be_bytes}
-use Rattle.fts_log.specs.Record.{Fits, record_of, records, front, IsLog, IsBroken, IsBrokenAt, IsDamagedAt}
+use Rattle.fts_log.specs.Record.{Fits, record_of, records, front, IsLog, IsDamagedAt}
 
 -- no whole record stands at the head of the bytes
 NotWhole : List ℕ → Type 0

@@ -1,6 +1,5 @@
 -- What a frame holds.
-use Rattle.std.specs.Prelude.{ℕ, ◌+◌, ◌-◌, List, [], ◌∷◌, ◌++◌, length, take, drop}
-use Rattle.std.specs.Int.{w32, to_be_bytes}
+use Rattle.std.specs.Prelude.{ℕ, ◌-◌, List, length, take, drop}
 use Rattle.fts_log.specs.declared.frame.Framed.{Framed}
 
 -- the payload that was put

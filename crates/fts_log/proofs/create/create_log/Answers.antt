@@ -1,4 +1,4 @@
-use Rattle.std.proofs.Common.{List, ℕ, ◌++◌, [], ◌∷◌, refl, sym, ◌∙◌, ap, append-nil, length, arith}
+use Rattle.std.proofs.Common.{List, ℕ, ◌++◌, [], ◌∷◌, refl, sym, ◌∙◌, ap, append-nil, arith}
 use Rattle.fts_log.proofs.create.create_log.Goals as goal
 
 pub returns-in-Ok-clause-created : goal.returns-in-Ok-clause-created

@@ -1,4 +1,4 @@
-use Rattle.std.proofs.Common.{◌≡◌, ℕ, List, vec_len, ◌++◌, [], ◌∷◌, ◌+◌, ◌-◌, take, drop, refl, sym, ◌∙◌, ap, length, arith}
+use Rattle.std.proofs.Common.{◌≡◌, ℕ, List, vec_len, ◌++◌, [], ◌∷◌, ◌+◌, ◌-◌, take, drop, sym, ◌∙◌, ap, length}
 use Rattle.std.specs.Int.{w32, to_be_bytes}
 use Rattle.fts_log.proofs.Framing.{put_more}
 use Rattle.fts_log.proofs.frame.put_payload.Goals as goal

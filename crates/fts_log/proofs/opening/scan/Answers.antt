@@ -1,4 +1,4 @@
-use Rattle.std.proofs.Common.{ℕ, List, [], ◌∷◌, ◌++◌, Ok, IsTrue, ◌∙◌, length-append, ◌+◌, ◌≤◌, ◌≡◌, ◌<◌, sym, ap, subst, refl, length, take, arith}
+use Rattle.std.proofs.Common.{ℕ, List, [], ◌∷◌, Ok, IsTrue, ◌∙◌, length-append, sym, ap, subst, refl, length, arith}
 use Rattle.fts_disk.specs.Device.{Files}
 use Rattle.fts_log.specs.Scan.{Shows}
 use Rattle.fts_log.specs.Place.{start_of, IsSpaced}

@@ -1,4 +1,4 @@
-use Rattle.std.proofs.Common.{◌≡◌, ℕ, List, ◌+◌, ◌-◌, ◌≤◌, length, IsTrue}
+use Rattle.std.proofs.Common.{◌≡◌, ℕ, List, ◌-◌, ◌≤◌, length, IsTrue}
 use Rattle.fts_log.specs.Device.{LooksOnly}
 use Rattle.fts_log.specs.Place.{start_of, IsSpaced}
 use Rattle.fts_log.specs.Scan.{Shows}

@@ -1,8 +1,7 @@
-use Rattle.std.proofs.Common.{◌≡◌, ℕ, List, ◌+◌, ◌<◌, ◌≤◌, ◌++◌, [], ◌∷◌, inl, inr, refl, ap, length, arith}
+use Rattle.std.proofs.Common.{ℕ, List, ◌+◌, ◌++◌, [], ◌∷◌, inl, inr, refl, ap, length, arith}
 use Rattle.fts_log.specs.Frame.{payload_of}
-use Rattle.fts_log.specs.Framing.{staged}
-use Rattle.fts_log.specs.Log.{magic_of, device_of}
-use Rattle.fts_log.specs.Record.{Fits, IsLog, IsLogOfEither}
+use Rattle.fts_log.specs.Log.{magic_of}
+use Rattle.fts_log.specs.Record.{IsLog}
 use Rattle.fts_log.proofs.Appending.{IsStaged, kept, fits_within, after_torn, after_write, after_torn_gate, after_gate, still_log, stands_after}
 use Rattle.fts_log.proofs.log.Log.append.Goals as goal
 

@@ -1,7 +1,7 @@
-use Rattle.std.proofs.Common.{ℕ, List, ◌≡◌, ◌+◌, ◌-◌, ◌∙◌, sym, ap, refl, length, take, drop, arith}
+use Rattle.std.proofs.Common.{ℕ, ◌+◌, ◌∙◌, ap, length, take, drop, arith}
 use Rattle.std.proofs.lemmas.Result.{IfOk-weaker}
 use Rattle.fts_log.specs.Place.{start_of}
-use Rattle.fts_log.specs.Log.{ends_in, found_count}
+use Rattle.fts_log.specs.Log.{ends_in}
 use Rattle.fts_log.proofs.Finding.{found_there}
 use Rattle.fts_log.proofs.log.Log.entry_at.Goals as goal
 

@@ -1,6 +1,5 @@
-use Rattle.std.proofs.Common.{◌≡◌, ℕ, ◌∷◌, [], get_or, length, ap, refl, sym, ◌∙◌, arith, rules, w32}
+use Rattle.std.proofs.Common.{◌≡◌, ℕ, ◌∷◌, [], get_or, ap, refl, sym, ◌∙◌, arith}
 use Rattle.std.proofs.lemmas.Nat.{be_bytes_4}
-use Rattle.std.specs.Int.{to_be_bytes, from_be_bytes}
 use Rattle.fts_log.proofs.Places.{whole_there, broken_there, five, small_bytes}
 use Rattle.fts_log.proofs.place.Place.from_head.Goals as goal
 

@@ -1,4 +1,4 @@
-use Rattle.std.proofs.Common.{◌≡◌, ◌+◌, ◌-◌, ℕ, List, take, drop, min, length, refl, sym, ◌∙◌, ap, arith}
+use Rattle.std.proofs.Common.{◌≡◌, ◌+◌, ◌-◌, ℕ, List, take, drop, min, length, sym, ◌∙◌, ap, arith}
 use Rattle.fts_log.proofs.Places.{window_part, first_five}
 use Rattle.fts_log.proofs.window.Window.head.Goals as goal
 
