@@ -1,4 +1,4 @@
--- The bytes of a log (docs/FORMATS.md, "Log").
+-- The bytes of a log: a magic, records, a closed gate, and any rest.
 use Rattle.std.specs.Prelude.{◌≡◌, ◌≢◌, ◌⊎◌, ℕ, ◌+◌, ◌^◌, ◌<◌, List, [], ◌∷◌, ◌++◌, length, All}
 use Rattle.std.specs.Int.{w32, to_be_bytes}
 
