@@ -1,0 +1,129 @@
+//! The log and its calls.
+ghost use Rattle.std.specs.Prelude.{◌≡◌, ℕ, List, ◌+◌, ◌^◌, ◌<◌, ◌≤◌, ◌++◌, [], ◌∷◌, ◌↔◌, length, IsTrue, IfOk, OnOk, IsErrOf, slice_index_or};
+ghost use Rattle.fts_faults.specs.Count.{Rose};
+
+use crate::found::Found;
+use crate::window::read_bytes;
+use crate::{AppendError, EntryError, Framed};
+use fts_disk::Disk;
+
+/// A log on a device.
+///
+/// Once an append has answered `DiskFault`, the log is not to be used: what its file holds is known only
+/// from a new opening.
+#[derive(Drop)]
+pub struct Log<D: Disk> {
+    pub(crate) device: D,
+    pub(crate) magic: [u8; 8],
+    pub(crate) limit: u64,
+    pub(crate) end: u64,
+    pub(crate) count: u64,
+    pub(crate) found: Option<Found>,
+    ghost whole_magic: { length magic ≡ 8 },
+    ghost limited: { limit ≤ 2 ^ 32 },
+    ghost ends_within: { end ≤ 2 ^ 63 },
+    ghost counted: { count ≤ end },
+    ghost closed: { 0 < end },
+}
+
+impl<D: Disk> Log<D> {
+    ghost use Rattle.fts_log.specs.Device.{SameOthers, LooksOnly};
+    ghost use Rattle.fts_log.specs.Record.{IsLogOfEither};
+    ghost use Rattle.fts_log.specs.Frame.{payload_of};
+    ghost use Rattle.fts_log.specs.Log.{StandsFor, IsReady, KeepsMaking, device_of, magic_of, limit_of, count_of, end_of, end_after, found_count};
+
+    /// Appends the payload as an entry, and returns its number, from 0. At `Ok` the entry is durable.
+    /// Takes no memory.
+    ///
+    /// # Errors
+    ///
+    /// - `LogFull` exactly where the log would end above its limit. Nothing has changed then.
+    /// - `DiskFault` if the device failed. The file then stands for the old entries, or for these and the new one.
+    pub fn append(&mut self, framed: &Framed) -> Result<u64, AppendError>
+        requires { IsTrue D.tells → IsReady self.old }
+
+        ensures number { IfOk result (λ number. number ≡ count_of self.old) }
+        ensures acknowledged { OnOk result (IsTrue D.tells → (entries : List (List ℕ)) → StandsFor entries self.old
+            → StandsFor (entries ++ payload_of framed.now ∷ []) self.new) }
+        ensures counted { OnOk result (count_of self.new ≡ count_of self.old + 1) }
+        ensures grown { OnOk result (end_of self.new ≡ end_after self.old framed.now) }
+        ensures others { IsTrue D.tells → SameOthers (D.seen (device_of self.old)) (D.seen (device_of self.new)) }
+        ensures kept { KeepsMaking self.old self.new }
+
+        ensures full { (end : ℕ) → IsErrOf result (AppendError.LogFull end) ↔ ((limit_of self.old < end_after self.old framed.now) × (end ≡ end_after self.old framed.now)) }
+        ensures unchanged { limit_of self.old < end_after self.old framed.now → self.new ≡ self.old }
+
+        ensures failed { IsErrOf result AppendError.DiskFault → Rose (D.faults (device_of self.old)) (D.faults (device_of self.new)) }
+        ensures doubt { IsErrOf result AppendError.DiskFault → IsTrue D.tells → (entries : List (List ℕ)) → StandsFor entries self.old
+            → IsLogOfEither (magic_of self.old) entries (payload_of framed.now) (D.seen (device_of self.new) 0) }
+        ensures never_falls { D.faults (device_of self.old) ≤ D.faults (device_of self.new) }
+    {
+        let bytes = framed.bytes();
+        let end = self.end + bytes.len() as u64;
+        if end > self.limit {
+            return Err(AppendError::LogFull { end });
+        }
+        self.device.write_at(0, self.end, bytes)?;
+        self.device.sync()?;
+        self.device.write_at(0, self.end - 1, &[1])?;
+        self.device.sync()?;
+        let number = self.count;
+        self.end = end;
+        self.count += 1;
+        Ok(number)
+    }
+
+    /// The payload of entry `k`, from 0, of those that the opening found.
+    ///
+    /// # Errors
+    ///
+    /// - `NoMemory` if there was no memory for the payload.
+    /// - `DiskFault` if the device failed.
+    pub fn entry_at(&mut self, k: u64) -> Result<Vec<u8>, EntryError>
+        requires found { k < found_count self.old }
+        requires ready { IsTrue D.tells → IsReady self.old }
+
+        ensures entry { IfOk result (λ payload. IsTrue D.tells → (entries : List (List ℕ)) → StandsFor entries self.old
+            → payload.items ≡ slice_index_or entries k []) }
+        ensures stays { IsTrue D.tells → (entries : List (List ℕ)) → StandsFor entries self.old → StandsFor entries self.new }
+        ensures looks { IsTrue D.tells → LooksOnly D.Disk (device_of self.old) (device_of self.new) }
+        ensures kept { KeepsMaking self.old self.new }
+        ensures same { (count_of self.new ≡ count_of self.old) × (end_of self.new ≡ end_of self.old) }
+        ensures failed { IsErrOf result EntryError.DiskFault → Rose (D.faults (device_of self.old)) (D.faults (device_of self.new)) }
+        ensures never_falls { D.faults (device_of self.old) ≤ D.faults (device_of self.new) }
+    {
+        let (alloc, (start, size)) = match &self.found {
+            Some(found) => (found.alloc, found.payload_at(k as usize)),
+            None => unreachable!(),
+        };
+        read_bytes(alloc, &mut self.device, start, size)
+    }
+
+    /// How many entries the log has.
+    pub fn count(&self) -> u64
+        ensures { result ≡ count_of self.now }
+    {
+        self.count
+    }
+
+    /// The place behind the closed gate, in bytes from 0.
+    pub fn end(&self) -> u64
+        ensures { result ≡ end_of self.now }
+    {
+        self.end
+    }
+
+    /// The device's count of faults.
+    pub fn faults(&self) -> u64
+        ensures { result ≡ D.faults (device_of self.now) }
+    {
+        self.device.faults()
+    }
+
+    /// Gives the device back.
+    pub fn close(self) -> D
+        ensures { result ≡ device_of self }
+    {
+        self.device
+    }
+}
