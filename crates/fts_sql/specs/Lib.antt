@@ -1,0 +1,4 @@
+pub mod Token
+pub mod Fixed
+pub mod Piece
+pub mod Statement
