@@ -84,10 +84,15 @@ fn read_mark(byte: u8, bytes: &[u8]) -> Option<&[u8]>
 fn is_lowered(word: &[u8], spelling: &[u8]) -> bool
     ensures { IsTrue result ↔ (str_to_ascii_lowercase spelling.now ≡ word.now) }
 {
-    spelling
-        .iter()
-        .map(|b| b.to_ascii_lowercase())
-        .eq(word.iter().copied())
+    if spelling.len() != word.len() {
+        return false;
+    }
+    for (i, b) in spelling.iter().enumerate() {
+        if b.to_ascii_lowercase() != word[i] {
+            return false;
+        }
+    }
+    true
 }
 
 /// The number that the digits write, if there are digits and it is below 2^64.

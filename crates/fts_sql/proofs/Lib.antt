@@ -1,0 +1,5 @@
+pub mod Fronts
+pub mod Bytes
+pub mod Quotes
+pub mod Tokens
+pub mod Chains
