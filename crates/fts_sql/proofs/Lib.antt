@@ -3,3 +3,4 @@ pub mod Bytes
 pub mod Quotes
 pub mod Tokens
 pub mod Chains
+pub mod Lines

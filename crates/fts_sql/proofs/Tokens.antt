@@ -72,18 +72,18 @@ string_run text bytes blanks from rest front begins =
      record { cut = refl; printable = begins.spelled.1; ends = begins.ends })
 
 -- the kind of a token
-abbrev kind : Token → ℕ
+abbrev pub kind : Token → ℕ
 kind (name word) = 0
 kind (number n) = 1
 kind (string text) = 2
 kind (mark b) = 3
 
 -- the kind of the token that a byte begins
-abbrev kind_of_byte : ℕ → ℕ
+abbrev pub kind_of_byte : ℕ → ℕ
 kind_of_byte b = if is_ascii_digit b then 1 else if is_word_byte b then 0 else if b == 39 then 2 else 3
 
 -- the kind of the token that some bytes begin with
-abbrev first_kind : List ℕ → ℕ
+abbrev pub first_kind : List ℕ → ℕ
 first_kind [] = 4
 first_kind (b ∷ bs) = kind_of_byte b
 
@@ -97,7 +97,7 @@ mark_kind : (b : ℕ) → is_mark b ≡ true → kind_of_byte b ≡ 3
 mark_kind b h = grind (arith, nat_tests)
 
 -- the first byte shows the kind
-kind_shows : (token : Token) (spelling rest : List ℕ) → IsSpelling token spelling → first_kind (spelling ++ rest) ≡ kind token
+pub kind_shows : (token : Token) (spelling rest : List ℕ) → IsSpelling token spelling → first_kind (spelling ++ rest) ≡ kind token
 kind_shows (name word) [] rest h = absurd (omega (arith, h.0))
 kind_shows (name word) (b ∷ bs) rest h = name_kind b (and_parts (is_word_byte b) (list_all is_word_byte bs) h.1).0 h.2
 kind_shows (number n) [] rest h = absurd (omega (arith, h.0))
@@ -136,3 +136,4 @@ same_token one other bytes r q first second =
     let e = begins_from other bytes first.blanks (first.spelling ++ r) q front second in
     same_spelling one other first.spelling second.spelling r q first.spelled second.spelled first.ends second.ends e
       (sym (kind_shows one first.spelling r first.spelled) ∙ ap first_kind e ∙ kind_shows other second.spelling q second.spelled)
+

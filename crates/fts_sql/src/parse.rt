@@ -2,10 +2,9 @@ ghost use Rattle.std.specs.Prelude.{◌≡◌, ◌⊎◌, ℕ, List, IfOk, Ok, E
 ghost use Rattle.fts_sql.specs.declared.statement.Statement.{Statement};
 ghost use Rattle.fts_sql.specs.Statement.{IsStatement};
 
-use crate::run::skip_blanks;
 use crate::statement::{ParseError, Statement};
 use crate::string::read_string;
-use crate::token::{Fixed, read_fixed, read_number};
+use crate::token::{Fixed, is_fixed, read_fixed, read_number};
 use std::alloc::Global;
 
 /// How many bytes a text that is inserted may have.
@@ -54,11 +53,14 @@ fn parse_insert(alloc: Global, column: &[u8], line: &[u8]) -> Result<Statement, 
     let (key, rest) = read_number(rest).ok_or(NO_STATEMENT)?;
     let rest = read_fixed(&[Comma], rest).ok_or(NO_STATEMENT)?;
     let (text, rest) = read_string(alloc, rest)?;
-    let rest = read_fixed(&[Close], rest).ok_or(NO_STATEMENT)?;
-    if text.len() > TEXT_BYTES || !skip_blanks(rest).is_empty() {
+    if text.len() > TEXT_BYTES {
         return Err(NO_STATEMENT);
     }
-    Ok(Statement::Insert { key, text })
+    if is_fixed(&[Close], rest) {
+        Ok(Statement::Insert { key, text })
+    } else {
+        Err(NO_STATEMENT)
+    }
 }
 
 fn parse_match(alloc: Global, column: &[u8], line: &[u8]) -> Result<Statement, ParseError>
@@ -82,12 +84,11 @@ fn parse_match(alloc: Global, column: &[u8], line: &[u8]) -> Result<Statement, P
     ];
     let rest = read_fixed(&head, line).ok_or(NO_STATEMENT)?;
     let (query, rest) = read_string(alloc, rest)?;
-    let tail = [Name(b"in"), Name(b"boolean"), Name(b"mode"), Close];
-    let rest = read_fixed(&tail, rest).ok_or(NO_STATEMENT)?;
-    if !skip_blanks(rest).is_empty() {
-        return Err(NO_STATEMENT);
+    if is_fixed(&[Name(b"in"), Name(b"boolean"), Name(b"mode"), Close], rest) {
+        Ok(Statement::Match { query })
+    } else {
+        Err(NO_STATEMENT)
     }
-    Ok(Statement::Match { query })
 }
 
 #[cfg(test)]

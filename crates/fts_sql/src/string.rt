@@ -13,10 +13,11 @@ pub fn read_string(alloc: Global, bytes: &[u8]) -> Result<(Text, &[u8]), ParseEr
     ensures none { (at : ℕ) → result ≡ Err (ParseError.Syntax at) → (text rest : List ℕ) → Begins (string text) bytes.now rest → ⊥ }
     ensures place { (at : ℕ) → result ≡ Err (ParseError.Syntax at) → at ≡ 1 }
 {
-    match skip_blanks(bytes).split_first() {
-        Some((b'\'', rest)) => read_quoted(alloc, rest),
-        _ => Err(ParseError::Syntax { at: 1 }),
+    let (first, rest) = skip_blanks(bytes).split_first().ok_or(ParseError::Syntax { at: 1 })?;
+    if *first != b'\'' {
+        return Err(ParseError::Syntax { at: 1 });
     }
+    read_quoted(alloc, rest)
 }
 
 /// The text up to the closing apostrophe, and what follows that.

@@ -3,10 +3,10 @@ ghost use Rattle.std.specs.List.{list_all};
 ghost use Rattle.std.specs.Char.{is_ascii_digit};
 ghost use Rattle.std.specs.Str.{str_to_ascii_lowercase};
 ghost use Rattle.std.specs.Str.Parse.{digits_value};
-ghost use Rattle.fts_sql.specs.Token.{name, number, mark, is_mark, Begins, BeginsAll};
+ghost use Rattle.fts_sql.specs.Token.{name, number, mark, is_mark, Begins, BeginsAll, Reads};
 ghost use Rattle.fts_sql.specs.Fixed.{token_of};
 
-use crate::run::{Class, skip_blanks, split_run};
+use crate::run::{Class, are_blank, skip_blanks, split_run};
 
 /// A token that a statement always has at its place.
 #[derive(Clone, Copy)]
@@ -46,6 +46,16 @@ pub fn read_fixed<'b>(tokens: &[Fixed], bytes: &'b [u8]) -> Option<&'b [u8]>
         rest = token.read(rest)?;
     }
     Some(rest)
+}
+
+/// Whether the bytes are the tokens and nothing else.
+pub fn is_fixed(tokens: &[Fixed], bytes: &[u8]) -> bool
+    ensures { IsTrue result ↔ Reads (map token_of tokens.now) bytes.now }
+{
+    match read_fixed(tokens, bytes) {
+        Some(rest) => are_blank(rest),
+        None => false,
+    }
 }
 
 /// The number that the bytes begin with, if it is below 2^64, and what follows it.
