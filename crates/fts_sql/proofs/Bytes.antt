@@ -1,8 +1,8 @@
-use Rattle.std.proofs.Common.{◌≡◌, ℕ, ◌+◌, ◌*◌, ◌-◌, ◌<◌, ◌≤◌, Bool, true, false, ◌&&◌, ◌||◌, List, [], ◌∷◌, ◌++◌, length, drop, get_or, refl, sym, ap, ◌∙◌, arith, subst, ◌⊎◌, inl, inr}
+use Rattle.std.proofs.Common.{◌≡◌, ℕ, ◌+◌, ◌*◌, ◌-◌, ◌<◌, ◌≤◌, Bool, true, false, List, [], ◌∷◌, length, drop, get_or, refl, sym, ap, ◌∙◌, arith, ◌⊎◌, inl, inr}
 use Rattle.std.specs.List.{list_all}
 use Rattle.std.specs.Char.{is_ascii_digit, digit_value}
 use Rattle.std.specs.Str.Parse.{digits_value, digits_value_after}
-use Rattle.std.proofs.lemmas.Bool.{or_cases, eqb-true, both_ways, cases_Bool}
+use Rattle.std.proofs.lemmas.Bool.{both_ways, cases_Bool}
 use Rattle.std.proofs.lemmas.Bool.Decides.{nat_tests}
 use Rattle.std.proofs.lemmas.List.{drop_more}
 use Rattle.std.proofs.lemmas.List.Sums.{AllPass-from_list_all}
@@ -17,10 +17,10 @@ blank_is b h = grind (arith, nat_tests)
 apart : (test : ℕ → Bool) (b : ℕ) → test 32 ≡ false → test 9 ≡ false → test 13 ≡ false → test b ≡ true → is_blank b ≡ false
 apart test b space tab cr passes =
     elim (cases_Bool (is_blank b)) [
-      inl blank ↦ elim (blank_is b blank) [
-        inl e ↦ absurd (both_ways (test b) (ap test e ∙ space) passes)
+      | inl blank ↦ elim (blank_is b blank) [
+        | inl e ↦ absurd (both_ways (test b) (ap test e ∙ space) passes)
         | inr other ↦ elim other [
-          inl e ↦ absurd (both_ways (test b) (ap test e ∙ tab) passes)
+          | inl e ↦ absurd (both_ways (test b) (ap test e ∙ tab) passes)
           | inr e ↦ absurd (both_ways (test b) (ap test e ∙ cr) passes)
         ]
       ]
@@ -52,7 +52,7 @@ pub digits_value-ge : (value index : ℕ) (digits : List ℕ) → index < length
     → value * 10 + digit_value (get_or digits index 0) ≤ digits_value 10 digits
 digits_value-ge value index digits within e =
     let ahead : digits_value_after 10 value (get_or digits index 0 ∷ drop (index + 1) digits) ≡ digits_value 10 digits =
-      ap (digits_value_after 10 value) (sym (drop_more digits index 0 within)) ∙ e in
+    ap (digits_value_after 10 value) (sym (drop_more digits index 0 within)) ∙ e in
     let more = digits_value_after-ge (value * 10 + digit_value (get_or digits index 0)) (drop (index + 1) digits) in
     omega (arith, ahead, more)
 

@@ -1,7 +1,7 @@
-use Rattle.std.proofs.Common.{◌≡◌, ℕ, ◌+◌, ◌<◌, List, [], ◌∷◌, length, get_or, drop, map, sym, subst}
+use Rattle.std.proofs.Common.{ℕ, ◌+◌, ◌<◌, List, ◌∷◌, length, get_or, drop, map, sym, subst}
 use Rattle.std.proofs.lemmas.List.{drop_more}
 use Rattle.fts_sql.specs.declared.token.Fixed.{Fixed}
-use Rattle.fts_sql.specs.Token.{Token, Begins, BeginsAll}
+use Rattle.fts_sql.specs.Token.{Begins, BeginsAll}
 use Rattle.fts_sql.specs.Fixed.{token_of}
 use Rattle.fts_sql.proofs.Tokens.{same_token}
 

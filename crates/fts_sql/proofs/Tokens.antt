@@ -1,4 +1,4 @@
-use Rattle.std.proofs.Common.{◌≡◌, ℕ, ◌+◌, ◌<◌, ◌==◌, Bool, true, false, ◌&&◌, List, [], ◌∷◌, ◌++◌, length, refl, sym, ap, ◌∙◌, arith, subst, if◌then◌else◌}
+use Rattle.std.proofs.Common.{◌≡◌, ℕ, ◌==◌, true, false, List, [], ◌∷◌, ◌++◌, refl, sym, ap, ◌∙◌, arith, subst, if◌then◌else◌}
 use Rattle.std.specs.List.{list_all}
 use Rattle.std.specs.Char.{is_ascii_digit}
 use Rattle.std.specs.Str.{str_to_ascii_lowercase}
@@ -26,7 +26,7 @@ pub begins_from : (token : Token) (bytes blanks from rest : List ℕ) → IsFron
     → (begins : Begins token bytes rest) → from ≡ begins.spelling ++ rest
 begins_from token bytes blanks from rest front begins =
     (one_front is_blank bytes blanks from begins.blanks (begins.spelling ++ rest) front begins.cut begins.blank
-      (not_blank token begins.spelling rest begins.spelled)).1
+    (not_blank token begins.spelling rest begins.spelled)).1
 
 -- the widest front behind the blanks is the token's spelling, if it is one
 pub begins_run : (token : Token) (bytes blanks from spelling rest : List ℕ) → IsFront is_blank bytes blanks from
@@ -45,7 +45,7 @@ pub name_run : (word bytes blanks from spelling rest after : List ℕ) → IsFro
     → IsFront is_word_byte from spelling after → Begins (name word) bytes rest → IsSpelling (name word) spelling
 name_run word bytes blanks from spelling rest after front run begins =
     let same = one_front is_word_byte from spelling after begins.spelling rest run
-      (begins_from (name word) bytes blanks from rest front begins) begins.spelled.1 begins.ends in
+    (begins_from (name word) bytes blanks from rest front begins) begins.spelled.1 begins.ends in
     subst (IsSpelling (name word)) (sym same.0) begins.spelled
 
 -- a number behind the blanks is their widest front of digits
@@ -53,7 +53,7 @@ pub number_run : (n : ℕ) (bytes blanks from spelling rest after : List ℕ) �
     → IsFront is_ascii_digit from spelling after → Begins (number n) bytes rest → IsSpelling (number n) spelling
 number_run n bytes blanks from spelling rest after front run begins =
     let same = one_front is_ascii_digit from spelling after begins.spelling rest run
-      (begins_from (number n) bytes blanks from rest front begins) begins.spelled.1 begins.ends in
+    (begins_from (number n) bytes blanks from rest front begins) begins.spelled.1 begins.ends in
     subst (IsSpelling (number n)) (sym same.0) begins.spelled
 
 -- behind the blanks stands the mark
@@ -65,11 +65,12 @@ mark_run b bytes blanks from rest front begins =
 -- behind the blanks stand an apostrophe and what a string has behind that
 pub string_run : (text bytes blanks from rest : List ℕ) → IsFront is_blank bytes blanks from
     → Begins (string text) bytes rest → (inner : List ℕ) × (from ≡ 39 ∷ inner) × IsQuoted inner text rest
-string_run text bytes blanks from rest front begins =
-    (quoted text ++ 39 ∷ rest,
-     begins_from (string text) bytes blanks from rest front begins ∙ ap (λ s. s ++ rest) begins.spelled.0
-       ∙ ap (λ s. 39 ∷ s) (append_assoc (quoted text) (39 ∷ []) rest),
-     record { cut = refl; printable = begins.spelled.1; ends = begins.ends })
+string_run text bytes blanks from rest front begins = (
+  quoted text ++ 39 ∷ rest,
+  begins_from (string text) bytes blanks from rest front begins ∙ ap (λ s. s ++ rest) begins.spelled.0
+      ∙ ap (λ s. 39 ∷ s) (append_assoc (quoted text) (39 ∷ []) rest),
+  record { cut = refl; printable = begins.spelled.1; ends = begins.ends },
+)
 
 -- the kind of a token
 abbrev pub kind : Token → ℕ
@@ -117,10 +118,10 @@ same_spelling (number n) (number m) s t r q hs ht nr nq e k =
     (ap number (sym hs.2 ∙ ap (digits_value 10) same.0 ∙ ht.2), same.1)
 same_spelling (string x) (string y) s t r q hs ht nr nq e k =
     let f : 39 ∷ ((quoted x ++ 39 ∷ []) ++ r) ≡ 39 ∷ ((quoted y ++ 39 ∷ []) ++ q) =
-      sym (ap (λ a. a ++ r) hs.0) ∙ e ∙ ap (λ a. a ++ q) ht.0 in
+    sym (ap (λ a. a ++ r) hs.0) ∙ e ∙ ap (λ a. a ++ q) ht.0 in
     let g : (quoted x ++ 39 ∷ []) ++ r ≡ (quoted y ++ 39 ∷ []) ++ q = cc in
     let same = same_quoted x r y q nr nq
-      (sym (append_assoc (quoted x) (39 ∷ []) r) ∙ g ∙ append_assoc (quoted y) (39 ∷ []) q) in
+    (sym (append_assoc (quoted x) (39 ∷ []) r) ∙ g ∙ append_assoc (quoted y) (39 ∷ []) q) in
     (ap string same.0, same.1)
 same_spelling (mark b) (mark c) s t r q hs ht nr nq e k =
     let f : b ∷ r ≡ c ∷ q = sym (ap (λ a. a ++ r) hs.0) ∙ e ∙ ap (λ a. a ++ q) ht.0 in
@@ -132,8 +133,7 @@ same_spelling one other s t r q hs ht nr nq e k = absurd (omega (arith, k))
 pub same_token : (one other : Token) (bytes r q : List ℕ) → Begins one bytes r → Begins other bytes q → (one ≡ other) × (r ≡ q)
 same_token one other bytes r q first second =
     let front : IsFront is_blank bytes first.blanks (first.spelling ++ r) =
-      record { cut = first.cut; passes = first.blank; ends = not_blank one first.spelling r first.spelled } in
+    record { cut = first.cut; passes = first.blank; ends = not_blank one first.spelling r first.spelled } in
     let e = begins_from other bytes first.blanks (first.spelling ++ r) q front second in
     same_spelling one other first.spelling second.spelling r q first.spelled second.spelled first.ends second.ends e
-      (sym (kind_shows one first.spelling r first.spelled) ∙ ap first_kind e ∙ kind_shows other second.spelling q second.spelled)
-
+    (sym (kind_shows one first.spelling r first.spelled) ∙ ap first_kind e ∙ kind_shows other second.spelling q second.spelled)

@@ -21,8 +21,9 @@ pub fn parse_statement(alloc: Global, column: &[u8], line: &[u8]) -> Result<Stat
     ensures place { (at : ℕ) → result ≡ Err (ParseError.Syntax at) → at ≡ 1 }
 {
     match parse_insert(alloc, column, line) {
+        Ok(statement) => Ok(statement),
+        Err(ParseError::NoMemory) => Err(ParseError::NoMemory),
         Err(ParseError::Syntax { .. }) => parse_match(alloc, column, line),
-        answer => answer,
     }
 }
 

@@ -13,7 +13,9 @@ pub fn read_string(alloc: Global, bytes: &[u8]) -> Result<(Text, &[u8]), ParseEr
     ensures none { (at : ℕ) → result ≡ Err (ParseError.Syntax at) → (text rest : List ℕ) → Begins (string text) bytes.now rest → ⊥ }
     ensures place { (at : ℕ) → result ≡ Err (ParseError.Syntax at) → at ≡ 1 }
 {
-    let (first, rest) = skip_blanks(bytes).split_first().ok_or(ParseError::Syntax { at: 1 })?;
+    let (first, rest) = skip_blanks(bytes)
+        .split_first()
+        .ok_or(ParseError::Syntax { at: 1 })?;
     if *first != b'\'' {
         return Err(ParseError::Syntax { at: 1 });
     }

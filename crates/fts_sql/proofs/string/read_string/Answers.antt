@@ -1,4 +1,4 @@
-use Rattle.std.proofs.Common.{◌≡◌, ◌∷◌, ℕ, List, sym, ◌∙◌, subst}
+use Rattle.std.proofs.Common.{◌≡◌, ℕ, List, subst}
 use Rattle.fts_sql.specs.Token.{IsQuoted}
 use Rattle.fts_sql.proofs.Tokens.{string_run}
 use Rattle.fts_sql.proofs.string.read_string.Goals as goal

@@ -1,6 +1,5 @@
-use Rattle.std.proofs.Common.{◌≡◌, ◌<◌, ◌≤◌, ◌*◌, ◌+◌, ℕ, List, [], length, drop, get_or, arith, ap, SomeIff, sym, ◌∙◌}
+use Rattle.std.proofs.Common.{◌≡◌, ◌<◌, [], length, drop, get_or, arith, ap, sym, ◌∙◌}
 use Rattle.std.specs.Str.Parse.{digits_value, digits_value_after}
-use Rattle.std.specs.Char.{digit_value}
 use Rattle.fts_sql.proofs.Bytes.{digits_value-ge, digit_at, digit_is}
 use Rattle.std.proofs.lemmas.List.{drop_all}
 use Rattle.std.proofs.lemmas.Grind.{common_steps}
@@ -21,6 +20,6 @@ pub returns : goal.returns
 returns c =
     let none : drop c.loop-digit.digit-index c.args.digits.now ≡ [] = drop_all c.loop-digit.digit-index c.args.digits.now c.loop-digit-test.false in
     let whole : c.loop-digit.value ≡ digits_value 10 c.args.digits.now =
-      ap (digits_value_after 10 c.loop-digit.value) (sym none) ∙ c.loop-digit.invariant.whole in
+    ap (digits_value_after 10 c.loop-digit.value) (sym none) ∙ c.loop-digit.invariant.whole in
     let some : 0 < length c.args.digits.now = grind (arith, common_steps) in
     ((some, omega (arith, whole, c.loop-digit.invariant.fits)), whole)

@@ -4,14 +4,14 @@ use Rattle.fts_sql.proofs.token.read_fixed.Goals as goal
 pub returns-in_err-rest-clause-none : goal.returns-in_err-rest-clause-none
 returns-in_err-rest-clause-none c = rw c.from_residual.ensures (λ rest all.
     none_left c.args.tokens.now c.loop-token.token-index _ c.loop-token.rest.now rest c.loop-token-test.true c.in_err-rest.ensures.none
-      (c.loop-token.invariant.none rest all))
+    (c.loop-token.invariant.none rest all))
 
 pub loop-token-preserved : goal.loop-token-preserved
 loop-token-preserved c = record {
   found = λ rest all. c.loop-token.invariant.found rest
-    (found_more c.args.tokens.now c.loop-token.token-index _ c.loop-token.rest.now c.in_ok-rest.rest.now rest c.loop-token-test.true
+      (found_more c.args.tokens.now c.loop-token.token-index _ c.loop-token.rest.now c.in_ok-rest.rest.now rest c.loop-token-test.true
       c.in_ok-rest.ensures.found all);
   none = λ rest all.
-    none_more c.args.tokens.now c.loop-token.token-index _ c.loop-token.rest.now c.in_ok-rest.rest.now rest c.loop-token-test.true
+      none_more c.args.tokens.now c.loop-token.token-index _ c.loop-token.rest.now c.in_ok-rest.rest.now rest c.loop-token-test.true
       c.in_ok-rest.ensures.found (c.loop-token.invariant.none rest all);
 }

@@ -1,4 +1,3 @@
-use Rattle.std.proofs.Common.{◌≡◌, ℕ, List, ◌∷◌}
 use Rattle.fts_sql.proofs.Tokens.{mark_run}
 use Rattle.fts_sql.proofs.token.read_mark.Goals as goal
 

@@ -1,4 +1,4 @@
-use Rattle.std.proofs.Common.{◌≡◌, ◌<◌, ℕ, List, arith}
+use Rattle.std.proofs.Common.{arith}
 use Rattle.fts_sql.proofs.Tokens.{number_run}
 use Rattle.fts_sql.proofs.token.read_number.Goals as goal
 
