@@ -13,7 +13,7 @@ pub enum Reply {
     Found { number: u64, docs: DocIds },
     /// Change `change` of the commit, from 1, has the key `key`, which a row has already. Nothing changed.
     DuplicateKey { change: u64, key: u64 },
-    /// The log has no room for the commit behind place `end`, in bytes from 0. Nothing changed.
+    /// With the commit the log would end at byte `end`, from 0, which is above its limit. Nothing changed.
     LogFull { end: u64 },
     /// The line is no statement, which shows at byte `at`, from 1.
     Syntax { at: u64 },
@@ -72,51 +72,4 @@ fn push_ids(text: &mut String, docs: &[u64]) -> Result<(), AllocError>
 }
 
 #[cfg(test)]
-mod tests {
-    use super::*;
-    use std::test::Fail;
-
-    #[test]
-    fn replies_have_their_texts(rt: HostRuntime) -> Result<(), Fail> {
-        let alloc = rt.alloc();
-        for (reply, wanted) in [
-            (Reply::Committed { number: 1 }, "OK commit 1\n"),
-            (
-                Reply::Found {
-                    number: 1,
-                    docs: DocIds::new(vec![in alloc]?),
-                },
-                "OK as of 1: none\n",
-            ),
-            (
-                Reply::Found {
-                    number: 2,
-                    docs: DocIds::new(vec![in alloc; 1]?),
-                },
-                "OK as of 2: 1\n",
-            ),
-            (
-                Reply::Found {
-                    number: 3,
-                    docs: DocIds::new(vec![in alloc; 1, 2, 30]?),
-                },
-                "OK as of 3: 1 2 30\n",
-            ),
-            (
-                Reply::DuplicateKey {
-                    change: 1,
-                    key: u64::MAX,
-                },
-                "ERROR duplicate key 18446744073709551615 in change 1\n",
-            ),
-            (Reply::LogFull { end: 4096 }, "ERROR log full at 4096\n"),
-            (Reply::Syntax { at: 1 }, "ERROR syntax at 1\n"),
-            (Reply::QuerySyntax { at: 1 }, "ERROR query syntax at 1\n"),
-            (Reply::LineTooLong, "ERROR line too long\n"),
-        ] {
-            assert_eq!(rt; reply_text(alloc, &reply)?.as_str(), wanted);
-        }
-        assert_eq!(rt; created_text(), "OK created\n");
-        Ok(())
-    }
-}
+mod tests;
