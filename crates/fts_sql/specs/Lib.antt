@@ -2,3 +2,4 @@ pub mod Token
 pub mod Fixed
 pub mod Piece
 pub mod Statement
+pub mod ParseError

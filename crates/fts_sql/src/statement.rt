@@ -1,3 +1,6 @@
+ghost use Rattle.std.specs.Prelude.{Some};
+ghost use Rattle.fts_sql.specs.ParseError.{error_text};
+
 use fts_commits::Text;
 use std::error::Error;
 use std::fmt;
@@ -21,6 +24,8 @@ pub enum ParseError {
 }
 
 impl fmt::Display for ParseError {
+    ghost output = { λ error. Some (error_text error) };
+
     fn fmt<W: fmt::Write>(&self, f: &mut fmt::Formatter<W>) -> fmt::Result {
         match self {
             ParseError::NoMemory => write!(f, "no memory"),
