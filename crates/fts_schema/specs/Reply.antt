@@ -1,0 +1,24 @@
+use Rattle.std.specs.Prelude.{ℕ, List, [], ◌∷◌, ◌++◌, codes, decimal}
+use Rattle.fts_schema.specs.declared.reply.Reply.{Reply}
+use Rattle.fts_schema.specs.declared.reply.Reply.TheVariants.{Committed, Found, DuplicateKey, LogFull, Syntax, QuerySyntax, LineTooLong}
+
+-- each document id in decimal, a space before it
+abbrev pub ids_text : List ℕ → List ℕ
+ids_text [] = []
+ids_text (id ∷ ids) = 32 ∷ (decimal id ++ ids_text ids)
+
+-- the documents that a search found, or that there are none
+abbrev pub docs_text : List ℕ → List ℕ
+docs_text [] = codes " none"
+docs_text (id ∷ ids) = ids_text (id ∷ ids)
+
+-- the text of a reply, with its LF
+abbrev pub text_of : Reply → List ℕ
+text_of (Committed number) = codes "OK commit " ++ (decimal number ++ 10 ∷ [])
+text_of (Found number docs) = codes "OK as of " ++ (decimal number ++ 58 ∷ (docs_text docs ++ 10 ∷ []))
+text_of (DuplicateKey change key) =
+    codes "ERROR duplicate key " ++ (decimal key ++ (codes " in change " ++ (decimal change ++ 10 ∷ [])))
+text_of (LogFull end) = codes "ERROR log full at " ++ (decimal end ++ 10 ∷ [])
+text_of (Syntax at) = codes "ERROR syntax at " ++ (decimal at ++ 10 ∷ [])
+text_of (QuerySyntax at) = codes "ERROR query syntax at " ++ (decimal at ++ 10 ∷ [])
+text_of LineTooLong = codes "ERROR line too long" ++ 10 ∷ []
