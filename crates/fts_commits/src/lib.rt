@@ -7,4 +7,4 @@ mod words;
 
 pub use settings::{is_column_name, is_text_byte};
 pub use text::Text;
-pub use words::{Words, query_word};
+pub use words::{Words, query_word, words_are_runs};

@@ -51,3 +51,43 @@ pub fn is_text_byte(byte: u8) -> bool
 {
     byte == b'\t' || (byte >= 32 && byte < 127)
 }
+
+#[cfg(test)]
+mod tests {
+    use super::*;
+    use std::test::*;
+
+    #[test]
+    fn tells_the_names_of_columns(rt: HostRuntime) {
+        for (name, want) in [
+            ("body", true),
+            ("b", true),
+            ("a_1", true),
+            ("abcdefghijklmnopqrstuvwxyzabcdef", true),
+            ("abcdefghijklmnopqrstuvwxyzabcdefg", false),
+            ("", false),
+            ("1a", false),
+            ("_a", false),
+            ("Body", false),
+            ("id", false),
+            ("fts_doc_id", false),
+        ] {
+            assert_eq!(rt; is_column_name(name.as_bytes()), want, "at {name}");
+        }
+    }
+
+    #[test]
+    fn tells_the_bytes_of_texts(rt: HostRuntime) {
+        for (byte, want) in [
+            (9, true),
+            (10, false),
+            (31, false),
+            (32, true),
+            (126, true),
+            (127, false),
+            (255, false),
+        ] {
+            assert_eq!(rt; is_text_byte(byte), want, "at {byte}");
+        }
+    }
+}

@@ -1,6 +1,6 @@
-ghost use Rattle.std.specs.Prelude.{◌≡◌, ◌&&◌, ◌==◌, if◌then◌else◌, not, [], ◌++◌, ◌∷◌, length, IfOk, OnOk};
+ghost use Rattle.std.specs.Prelude.{◌≡◌, ◌↔◌, ℕ, List, Contains, ◌&&◌, ◌==◌, if◌then◌else◌, not, [], ◌++◌, ◌∷◌, length, IfOk, OnOk};
 ghost use Rattle.std.specs.List.{list_all};
-ghost use Rattle.fts_commits.specs.Word.{is_word_byte, words_of, is_among, query_word};
+ghost use Rattle.fts_commits.specs.Word.{IsWordOf, is_word_byte, words_of, is_among, query_word};
 
 use crate::text::Text;
 use std::alloc::{AllocError, Global};
@@ -80,4 +80,59 @@ pub fn query_word(alloc: Global, query: &[u8]) -> Result<Option<Text>, AllocErro
         return Ok(None);
     }
     Ok(Some(Text::new(query.to_ascii_lowercase(alloc)?)))
+}
+
+/// The words of a text are its runs of word bytes, lowered, that no word byte stands directly before or behind.
+pub fn words_are_runs()
+    ensures { (text word : List ℕ) → Contains (words_of text) word ↔ IsWordOf text word }
+{}
+
+#[cfg(test)]
+mod tests {
+    use super::*;
+    use std::test::*;
+
+    #[test]
+    fn cuts_a_text_into_its_words(rt: HostRuntime) -> Result<(), Fail> {
+        for (text, want) in [
+            ("", 0),
+            ("  ..", 0),
+            ("Apple", 1),
+            ("apple pie", 2),
+            ("--apple--pie--", 2),
+            ("snake_case __x 4th", 3),
+            ("don't", 2),
+        ] {
+            let words = Words::of(rt.alloc(), text.as_bytes())?;
+            assert_eq!(rt; words.words.len(), want, "in {text}");
+        }
+        Ok(())
+    }
+
+    #[test]
+    fn finds_whole_words_in_lower_case(rt: HostRuntime) -> Result<(), Fail> {
+        let words = Words::of(rt.alloc(), b"An APPLE_pie\tof 1984")?;
+        for (word, want) in [
+            ("an", true),
+            ("apple_pie", true),
+            ("1984", true),
+            ("apple", false),
+            ("APPLE_pie", false),
+            ("", false),
+        ] {
+            assert_eq!(rt; words.contains(word.as_bytes()), want, "of {word}");
+        }
+        Ok(())
+    }
+
+    #[test]
+    fn a_query_is_one_word(rt: HostRuntime) -> Result<(), Fail> {
+        let word = query_word(rt.alloc(), b"Pie_1")?.ok_or("one word")?;
+        assert_eq!(rt; word.as_slice(), b"pie_1".as_slice());
+        for query in ["", "+pie", "apple pie", "pie "] {
+            let word = query_word(rt.alloc(), query.as_bytes())?;
+            assert!(rt; word.is_none(), "{query} is no word");
+        }
+        Ok(())
+    }
 }

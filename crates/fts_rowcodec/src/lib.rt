@@ -23,3 +23,6 @@ pub fn payload_has_one_commit()
 pub fn payload_has_one_settings()
     ensures { (a b : Settings) → AreSettings a → AreSettings b → settings_payload a ≡ settings_payload b → a ≡ b }
 {}
+
+#[cfg(test)]
+mod tests;
