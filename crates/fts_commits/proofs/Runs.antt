@@ -1,11 +1,11 @@
 -- The pieces of a text and its runs of word bytes.
-use Rattle.std.proofs.Common.{◌≡◌, ℕ, zero, suc, ◌+◌, ◌<◌, ◌≤◌, Bool, true, false, not, eqb, ◌&&◌, if◌then◌else◌, List, [], ◌∷◌, ◌++◌, length, filter, Contains, ◌↔◌, ◌⊎◌, inl, inr, true≢false, refl, sym, ap, subst, ◌∙◌, arith}
+use Rattle.std.proofs.Common.{◌≡◌, ℕ, zero, suc, ◌<◌, Bool, true, false, not, eqb, ◌&&◌, if◌then◌else◌, List, [], ◌∷◌, ◌++◌, length, filter, Contains, ◌↔◌, ◌⊎◌, inl, inr, true≢false, refl, sym, ap, subst, ◌∙◌, arith}
 use Rattle.std.specs.Char.{to_ascii_lowercase}
 use Rattle.std.specs.Str.{str_to_ascii_lowercase}
 use Rattle.std.specs.List.{list_all}
 use Rattle.std.proofs.Math.Dec.{eqb-suc-zero}
 use Rattle.std.proofs.lemmas.List.{length-append}
-use Rattle.fts_commits.specs.Word.{IsWordOf, is_word_byte, before_first_piece, pieces_of, words_of}
+use Rattle.fts_commits.specs.Word.{IsWordOf, is_word_byte, pieces_of, words_of}
 
 -- ---- elements of a list
 

@@ -1,4 +1,5 @@
-ghost use Rattle.std.specs.Prelude.{◌≡◌};
+ghost use Rattle.std.specs.Prelude.{◌≡◌, Some};
+ghost use Rattle.fts_rowcodec.specs.DecodeError.{message};
 ghost use Rattle.fts_rowcodec.specs.declared.error.DecodeError.TheVariants.{NoMemory};
 
 use std::alloc::AllocError;
@@ -15,6 +16,8 @@ pub enum DecodeError {
 }
 
 impl fmt::Display for DecodeError {
+    ghost output = { λ error. Some (message error) };
+
     fn fmt<W: fmt::Write>(&self, f: &mut fmt::Formatter<W>) -> fmt::Result {
         match self {
             DecodeError::NoMemory => write!(f, "no memory"),

@@ -115,12 +115,3 @@ fn refuses_a_column_that_is_named_as_the_key(rt: HostRuntime) -> Result<(), Fail
     assert!(rt; matches!(decode_settings(rt.alloc(), &bytes), Err(DecodeError::Bad)));
     Ok(())
 }
-
-#[test]
-fn prints_the_errors(rt: HostRuntime) -> Result<(), Fail> {
-    let bad = format!(in rt.alloc(); "{}", DecodeError::Bad)?;
-    assert_eq!(rt; bad.as_str(), "bad payload");
-    let memory = format!(in rt.alloc(); "{}", DecodeError::NoMemory)?;
-    assert_eq!(rt; memory.as_str(), "no memory");
-    Ok(())
-}

@@ -1,4 +1,3 @@
-use Rattle.std.proofs.Common.{◌≡◌}
 use Rattle.fts_commits.proofs.Runs.{words_are_runs}
 use Rattle.fts_commits.proofs.words.words_are_runs.Goals as goal
 
