@@ -20,8 +20,8 @@ commit_payload commit = 1 ∷ (to_be_bytes w16 (length commit) ++ flat_map chang
 abbrev pub column_payload : List ℕ → List ℕ
 column_payload name = length name ∷ name
 
--- the numbers behind the columns: words of 3 to 84 characters are indexed, stopwords are left out, an OPTIMIZE takes
--- 2,000 words, and a batch is made once the cache has 8,000,000 bytes or 1,000 documents
+-- the numbers behind the columns, as the standard has them: min 3, max 84 and stopwords 1 in one byte each,
+-- optimize_words 2,000 in two bytes, cache_bytes 8,000,000 and batch_docs 1,000 in four each
 abbrev pub standard_numbers : List ℕ
 standard_numbers = 3 ∷ 84 ∷ 1 ∷ 7 ∷ 208 ∷ 0 ∷ 122 ∷ 18 ∷ 0 ∷ 0 ∷ 0 ∷ 3 ∷ 232 ∷ []
 
