@@ -1,4 +1,4 @@
-use Rattle.std.specs.Prelude.{ℕ, Bool, ◌&&◌, ◌||◌, ◌==◌, not, if◌then◌else◌, List, [], ◌∷◌, length, filter, Option, Some, None}
+use Rattle.std.specs.Prelude.{◌≡◌, ℕ, ◌<◌, Bool, true, false, ◌&&◌, ◌||◌, ◌==◌, not, if◌then◌else◌, List, [], ◌∷◌, ◌++◌, length, filter, Option, Some, None}
 use Rattle.std.specs.List.{list_any, list_all}
 use Rattle.std.specs.Char.{is_ascii_alphanumeric, to_ascii_lowercase}
 use Rattle.std.specs.Str.{bytes_eq, str_to_ascii_lowercase}
@@ -21,6 +21,18 @@ pieces_of (b ∷ bs) =
 -- the words of a text, one after another: its widest runs of word bytes, lowered
 abbrev pub words_of : List ℕ → List (List ℕ)
 words_of text = filter (λ piece. not (length piece == 0)) (pieces_of text)
+
+-- the word is a run of word bytes in the text, lowered, and no word byte stands directly before or behind the run
+pub record IsWordOf (text word : List ℕ) : Type 0 where
+  pub before : List ℕ
+  pub run : List ℕ
+  pub behind : List ℕ
+  pub parts : text ≡ before ++ (run ++ behind)
+  pub not_empty : 0 < length run
+  pub each : list_all is_word_byte run ≡ true
+  pub left : (front : List ℕ) (b : ℕ) → before ≡ front ++ b ∷ [] → is_word_byte b ≡ false
+  pub right : (b : ℕ) (rest : List ℕ) → behind ≡ b ∷ rest → is_word_byte b ≡ false
+  pub lowered : str_to_ascii_lowercase run ≡ word
 
 -- whether the word is one of these
 abbrev pub is_among : List (List ℕ) → List ℕ → Bool
