@@ -1,0 +1,4 @@
+pub mod Replaying
+pub mod Committing
+pub mod Loading
+pub mod Gates

@@ -1,0 +1,7 @@
+use Rattle.std.proofs.Common.{ℕ, ◌<◌, arith, length}
+use Rattle.fts_engine.proofs.load.load.Goals as goal
+
+pub returns-in-Err-clause-damaged : goal.returns-in-Err-clause-damaged
+returns-in-Err-clause-damaged g c place e told all stands =
+    let some : 0 < length all = omega (arith, stands.count, c.requires.some) in
+    c.in-Err.ensures.damaged place (let failed = e in cc) told all c.in_ok-column.column (c.in_ok-column.ensures.stays told all stands) (c.in_ok-column.ensures.loaded told all stands some)

@@ -1,0 +1,36 @@
+use Rattle.std.specs.Prelude.{◌≡◌, ℕ, List, [], ◌∷◌, length, map}
+use Rattle.fts_disk.specs.declared.disk.Disk.{Ghosts}
+use Rattle.fts_commits.specs.Commit.{replay}
+use Rattle.fts_log.specs.Log.{StandsFor, device_of, magic_of, limit_of}
+use Rattle.fts_steps.specs.State.{State, payloads, rows_magic, IsSound, IsDatabase}
+use Rattle.fts_engine.specs.declared.engine.Engine.{Engine}
+use Rattle.fts_engine.specs.Kept.{entry_of}
+
+-- the largest end of the rows log
+abbrev pub engine_limit : {D : Type 0} {disk : Ghosts D} → Engine D disk → ℕ
+engine_limit engine = limit_of engine.log
+
+-- the device on which the rows log stands
+abbrev pub engine_device : {D : Type 0} {disk : Ghosts D} → Engine D disk → D
+engine_device engine = device_of engine.log
+
+-- how many faults of the device there were
+abbrev pub engine_faults : {D : Type 0} {disk : Ghosts D} → Engine D disk → ℕ
+engine_faults {disk} engine = disk.faults (device_of engine.log)
+
+-- the name of the text column
+abbrev pub engine_column : {D : Type 0} {disk : Ghosts D} → Engine D disk → List ℕ
+engine_column engine = engine.column
+
+-- the engine stands for the state: its log has the state's entries, and it keeps the words of the state's rows
+pub record Stands {D : Type 0} {disk : Ghosts D} (state : State) (engine : Engine D disk) : Type 0 where
+  pub sound : IsSound state
+  pub column : state.settings.columns ≡ engine.column ∷ []
+  pub kept : engine.entries.items ≡ map entry_of (replay state.commits).list
+  pub largest : (replay state.commits).largest ≡ length state.commits
+  pub magic : magic_of engine.log ≡ rows_magic
+  pub log : StandsFor (payloads state) engine.log
+
+-- its device reads as the database of the state
+abbrev pub Reads : {D : Type 0} {disk : Ghosts D} → State → Engine D disk → Type 0
+Reads {disk} state engine = IsDatabase state (disk.seen (device_of engine.log) 0)

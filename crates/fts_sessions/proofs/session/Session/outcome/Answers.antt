@@ -1,0 +1,25 @@
+use Rattle.std.proofs.Common.{◌≡◌, List, ℕ, subst, ap, sym, ◌∙◌}
+use Rattle.std.specs.Prelude.{[], ◌∷◌}
+use Rattle.fts_steps.specs.State.{State}
+use Rattle.fts_sql.specs.Statement.{IsStatement}
+use Rattle.fts_sql.specs.declared.statement.Statement.{Statement}
+use Rattle.fts_rowcodec.specs.Payload.{one_insert}
+use Rattle.fts_sessions.proofs.Executing.{inserts, searches}
+use Rattle.fts_sessions.proofs.session.Session.outcome.Goals as goal
+
+pub returns-in-Ok-Insert-clause-executes : goal.returns-in-Ok-Insert-clause-executes
+returns-in-Ok-Insert-clause-executes g c told state stands =
+    inserts g.S.EngineSteps state c.args.line.now c.column.result.now
+      (g.met.S.EngineSteps.column_is c.args.steps.now state stands ∙ ap (λ (name : List ℕ). name ∷ []) (sym c.column.ensures))
+      c.in-Ok-Insert.key c.in-Ok-Insert.text c.args.steps.now c.insert.result c.insert.new.steps
+      (subst (λ (s : Statement). IsStatement c.column.result.now c.args.line.now s) c.in-Ok-Insert.field-0-is c.in-Ok-Insert.ensures.statement)
+      (rw c.as_slice.ensures at (c.insert.ensures.makes told state stands))
+
+pub returns-in-Ok-Match-clause-executes : goal.returns-in-Ok-Match-clause-executes
+returns-in-Ok-Match-clause-executes g c told state stands =
+    searches g.S.EngineSteps state c.args.line.now c.column.result.now
+      (g.met.S.EngineSteps.column_is c.args.steps.now state stands ∙ ap (λ (name : List ℕ). name ∷ []) (sym c.column.ensures))
+      c.in-Ok-Match.query c.args.steps.now c.search.result
+      (subst (λ (s : Statement). IsStatement c.column.result.now c.args.line.now s) c.in-Ok-Match.field-0-is c.in-Ok-Match.ensures.statement)
+      stands
+      (rw c.as_slice-in-Ok-Match.ensures at (c.search.ensures.searches told state stands))

@@ -1,0 +1,56 @@
+ghost use Rattle.std.specs.Prelude.{◌≡◌, ℕ, ◌≤◌, Bool, List, [], ◌∷◌, ◌⊎◌, false, IsTrue, IsErrOf, Ok, length};
+ghost use Rattle.fts_faults.specs.Count.{Rose};
+ghost use Rattle.fts_rowcodec.specs.Payload.{IsText, one_insert};
+ghost use Rattle.fts_steps.specs.State.{State, with_commits};
+ghost use Rattle.fts_steps.specs.Step.{to_commit, to_find, after, MayAnswer, is_disk_fault};
+ghost use Rattle.fts_steps.specs.Answers.{commit_answer_of, view_answer_of};
+
+use fts_steps::{CommitError, View};
+use std::alloc::AllocError;
+
+/// The steps of an engine, each at once. A contract sees the engine as the state that it stands for.
+pub trait EngineSteps {
+    /// Whether its device tells its content.
+    ghost tells: { Bool };
+
+    /// It stands for the state, and its device reads as the state's database.
+    ghost stands: { State → Self → Type 0 };
+
+    /// Its device reads as the state's database.
+    ghost reads: { State → Self → Type 0 };
+
+    /// The largest end of the rows log.
+    ghost limit: { Self → ℕ };
+
+    /// The name of the text column.
+    ghost name: { Self → List ℕ };
+
+    /// How many faults of the device there were.
+    ghost faults: { Self → ℕ };
+
+    /// Makes a commit of one INSERT, and returns its number, from 1.
+    fn commit(&mut self, key: u64, text: &[u8]) -> Result<u64, CommitError>
+        requires text { IsText text.now }
+        requires ready { IsTrue tells → (state : State) × stands state self.old }
+        ensures answers { IsTrue tells → (state : State) → stands state self.old
+            → MayAnswer (limit self.old) state (to_commit (one_insert key text.now)) (commit_answer_of result) }
+        ensures stands { IsTrue tells → (state : State) → stands state self.old → is_disk_fault (commit_answer_of result) ≡ false
+            → stands (after state (to_commit (one_insert key text.now)) (commit_answer_of result)) self.new }
+        ensures doubt { IsTrue tells → (state : State) → stands state self.old → IsErrOf result CommitError.DiskFault
+            → reads state self.new ⊎ reads (with_commits state ((one_insert key text.now) ∷ [])) self.new }
+        ensures limit { limit self.new ≡ limit self.old }
+        ensures failed { IsErrOf result CommitError.DiskFault → Rose (faults self.old) (faults self.new) }
+        ensures never_falls { faults self.old ≤ faults self.new };
+
+    /// Looks for the rows that have the word.
+    fn view(&self, word: &[u8]) -> Result<View, AllocError>
+        ensures { IsTrue tells → (state : State) → stands state self.now
+            → MayAnswer (limit self.now) state (to_find word.now) (view_answer_of result) };
+
+    /// The name of the text column.
+    fn column(&self) -> &[u8]
+        ensures { result.now ≡ name self.now };
+
+    ghost column_is: { (steps : Self) (state : State) → stands state steps → state.settings.columns ≡ name steps ∷ [] };
+    ghost is_read: { (steps : Self) (state : State) → stands state steps → reads state steps };
+}

@@ -1,0 +1,19 @@
+use Rattle.std.specs.Prelude.{ℕ, Result, Ok, Err}
+use Rattle.std.specs.declared.alloc.AllocError.{AllocError}
+use Rattle.fts_steps.specs.declared.commit.CommitError.{CommitError}
+use Rattle.fts_steps.specs.declared.commit.CommitError.TheVariants.{NoMemory, DuplicateKey, LogFull, DiskFault}
+use Rattle.fts_steps.specs.declared.view.View.{View}
+use Rattle.fts_steps.specs.Step.{Answer, committed, duplicate, full, found, disk_fault, no_memory}
+
+-- the answer that a commit's result is
+abbrev pub commit_answer_of : Result ℕ CommitError → Answer
+commit_answer_of (Ok number) = committed number
+commit_answer_of (Err NoMemory) = no_memory
+commit_answer_of (Err (DuplicateKey change key)) = duplicate change key
+commit_answer_of (Err (LogFull end)) = full end
+commit_answer_of (Err DiskFault) = disk_fault
+
+-- the answer that a view's result is
+abbrev pub view_answer_of : {E : Type 0} → Result View E → Answer
+view_answer_of (Ok view) = found view.number view.docs
+view_answer_of (Err error) = no_memory

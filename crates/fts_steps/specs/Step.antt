@@ -1,0 +1,74 @@
+use Rattle.std.specs.Prelude.{Bool, true, false, ◌≡◌, ℕ, ◌+◌, if◌then◌else◌, nat_lt, List, [], ◌∷◌, ◌++◌, length, map, Result, Ok, Err}
+use Rattle.fts_commits.specs.Commit.{Commit, Rows, Refused, duplicate_key, after_commit, replay}
+use Rattle.fts_commits.specs.Scan.{scan}
+use Rattle.fts_steps.specs.State.{State, with_commits, end_after}
+
+-- what a step is asked: to make a commit, or to look for the rows that have a word
+pub data Ask : Type 0 where
+  to_commit : Commit → Ask
+  to_find : List ℕ → Ask
+
+-- what it answers
+pub data Answer : Type 0 where
+  committed : ℕ → Answer
+  duplicate : ℕ → ℕ → Answer
+  full : ℕ → Answer
+  found : ℕ → List ℕ → Answer
+  disk_fault : Answer
+  no_memory : Answer
+
+-- a step: what it was asked, and what it answered
+pub record Call : Type 0 where
+  pub ask : Ask
+  pub answer : Answer
+
+-- the answer to a commit that the rows refuse or accept: its number, unless the log would pass its limit
+abbrev pub commit_answer : ℕ → State → Commit → Result Rows Refused → Answer
+commit_answer limit state commit (Err (duplicate_key change key)) = duplicate change key
+commit_answer limit state commit (Ok rows) =
+    if nat_lt limit (end_after state commit) then full (end_after state commit) else committed (length state.commits + 1)
+
+-- the answer of a step that nothing outside disturbs
+abbrev pub plain_answer : ℕ → State → Ask → Answer
+plain_answer limit state (to_commit commit) = commit_answer limit state commit (after_commit commit (replay state.commits))
+plain_answer limit state (to_find word) = found (length state.commits) (scan word (replay state.commits))
+
+-- what the state is after a step, by its answer
+abbrev pub after : State → Ask → Answer → State
+after state (to_commit commit) (committed number) = with_commits state (commit ∷ [])
+after state ask answer = state
+
+-- the answers that a step may give: its plain one, want of memory, and a disk fault where it would have committed
+abbrev pub MayAnswer : ℕ → State → Ask → Answer → Type 0
+MayAnswer limit state ask no_memory = Unit {0}
+MayAnswer limit state ask disk_fault = plain_answer limit state ask ≡ committed (length state.commits + 1)
+MayAnswer limit state ask (committed number) = plain_answer limit state ask ≡ committed number
+MayAnswer limit state ask (duplicate change key) = plain_answer limit state ask ≡ duplicate change key
+MayAnswer limit state ask (full end) = plain_answer limit state ask ≡ full end
+MayAnswer limit state ask (found number docs) = plain_answer limit state ask ≡ found number docs
+
+-- the state after a list of steps
+abbrev pub after_all : State → List Call → State
+after_all state [] = state
+after_all state (call ∷ calls) = after_all (after state call.ask call.answer) calls
+
+-- each step answered as it may, on the state that those before it left
+abbrev pub Follows : ℕ → State → List Call → Type 0
+Follows limit state [] = Unit {0}
+Follows limit state (call ∷ calls) =
+    MayAnswer limit state call.ask call.answer × Follows limit (after state call.ask call.answer) calls
+
+-- a commit that a disk fault left in doubt
+abbrev pub doubt_of : Ask → Answer → List Commit
+doubt_of (to_commit commit) disk_fault = commit ∷ []
+doubt_of ask answer = []
+
+-- the commits that a list of steps left in doubt
+abbrev pub in_doubt : List Call → List Commit
+in_doubt [] = []
+in_doubt (call ∷ calls) = doubt_of call.ask call.answer ++ in_doubt calls
+
+-- whether the device failed
+abbrev pub is_disk_fault : Answer → Bool
+is_disk_fault disk_fault = true
+is_disk_fault answer = false

@@ -1,0 +1,42 @@
+ghost use Rattle.std.specs.Prelude.{◌≡◌};
+ghost use Rattle.fts_steps.specs.declared.commit.CommitError.TheVariants.{NoMemory};
+
+use std::alloc::AllocError;
+use std::error::Error;
+use std::fmt;
+
+/// Why a commit was refused.
+#[derive(Clone, Copy, Debug, PartialEq, Eq)]
+pub enum CommitError {
+    /// Memory ran out, before the device was touched. Nothing changed.
+    NoMemory,
+    /// The change with this number, from 1, inserts a key that a row has. Nothing changed.
+    DuplicateKey { change: u64, key: u64 },
+    /// The rows log would end at this place, which is past its limit. Nothing changed.
+    LogFull { end: u64 },
+    /// The device failed. Whether the commit is in the log is open until the log is opened again.
+    DiskFault,
+}
+
+impl fmt::Display for CommitError {
+    fn fmt<W: fmt::Write>(&self, f: &mut fmt::Formatter<W>) -> fmt::Result {
+        match self {
+            CommitError::NoMemory => write!(f, "no memory"),
+            CommitError::DuplicateKey { change, key } => {
+                write!(f, "duplicate key {key} in change {change}")
+            }
+            CommitError::LogFull { end } => write!(f, "log full at {end}"),
+            CommitError::DiskFault => write!(f, "disk fault"),
+        }
+    }
+}
+
+impl Error for CommitError {}
+
+impl From<AllocError> for CommitError {
+    ghost from_gives = { λ _ e. e ≡ NoMemory };
+
+    fn from(_: AllocError) -> Self {
+        CommitError::NoMemory
+    }
+}

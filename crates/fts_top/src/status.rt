@@ -1,0 +1,77 @@
+use std::fmt;
+
+/// How a call of the program ends.
+#[derive(Clone, Copy, Debug, PartialEq, Eq)]
+pub enum Status {
+    /// All was done, and the script was read to its end.
+    Done,
+    /// Memory ran out.
+    NoMemory,
+    /// The words are no command.
+    Usage,
+    /// The source of the script failed.
+    ReadFault,
+    /// The sink of the replies failed.
+    WriteFault,
+    /// A device failed.
+    DiskFault,
+    /// No database was created on the devices.
+    NotCreated,
+    /// A database was created on the devices before.
+    AlreadyCreated,
+    /// The bytes of a device are no database. `at` is a place in its file, from 0.
+    Damaged { device: Device, file: u32, at: u64 },
+    /// The script has more than 2^40 bytes. `lines` and `bytes` were taken.
+    ScriptTooLong { lines: u64, bytes: u64 },
+}
+
+/// One of the two devices of a database.
+#[derive(Clone, Copy, Debug, PartialEq, Eq)]
+pub enum Device {
+    Rows,
+    Index,
+}
+
+impl fmt::Display for Device {
+    fn fmt<W: fmt::Write>(&self, f: &mut fmt::Formatter<W>) -> fmt::Result {
+        f.write_str(match self {
+            Device::Rows => "rows",
+            Device::Index => "index",
+        })
+    }
+}
+
+impl Status {
+    /// The number with which the program ends.
+    pub fn number(&self) -> u8 {
+        match self {
+            Status::Done => 0,
+            Status::NoMemory => 1,
+            Status::Usage => 2,
+            Status::ReadFault => 3,
+            Status::WriteFault => 4,
+            Status::DiskFault => 5,
+            Status::NotCreated => 6,
+            Status::AlreadyCreated => 7,
+            Status::Damaged { .. } => 8,
+            Status::ScriptTooLong { .. } => 9,
+        }
+    }
+}
+
+impl fmt::Display for Status {
+    fn fmt<W: fmt::Write>(&self, f: &mut fmt::Formatter<W>) -> fmt::Result {
+        match self {
+            Status::Done => write!(f, "done"),
+            Status::NoMemory => write!(f, "no memory"),
+            Status::Usage => write!(f, "usage: fts DIR create|run|serve|gen .."),
+            Status::ReadFault => write!(f, "read fault"),
+            Status::WriteFault => write!(f, "write fault"),
+            Status::DiskFault => write!(f, "disk fault"),
+            Status::NotCreated => write!(f, "not created"),
+            Status::AlreadyCreated => write!(f, "already created"),
+            Status::Damaged { device, file, at } => write!(f, "damaged {device} file {file} at {at}"),
+            Status::ScriptTooLong { .. } => write!(f, "script too long"),
+        }
+    }
+}
