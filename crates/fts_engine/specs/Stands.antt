@@ -1,6 +1,8 @@
 use Rattle.std.specs.Prelude.{◌≡◌, ℕ, List, [], ◌∷◌, length, map}
 use Rattle.fts_disk.specs.declared.disk.Disk.{Ghosts}
 use Rattle.fts_commits.specs.Commit.{replay}
+use Rattle.std.proofs.Common.{subst}
+use Rattle.fts_log.specs.Record.{IsLog}
 use Rattle.fts_log.specs.Log.{StandsFor, device_of, magic_of, limit_of}
 use Rattle.fts_steps.specs.State.{State, payloads, rows_magic, IsSound, IsDatabase}
 use Rattle.fts_engine.specs.declared.engine.Engine.{Engine}
@@ -34,3 +36,13 @@ pub record Stands {D : Type 0} {disk : Ghosts D} (state : State) (engine : Engin
 -- its device reads as the database of the state
 abbrev pub Reads : {D : Type 0} {disk : Ghosts D} → State → Engine D disk → Type 0
 Reads {disk} state engine = IsDatabase state (disk.seen (device_of engine.log) 0)
+
+-- an engine that stands for a state has the state's column
+pub Stands-column : {D : Type 0} {disk : Ghosts D} (state : State) (engine : Engine D disk) → Stands state engine → state.settings.columns ≡ engine_column engine ∷ []
+Stands-column state engine stands = stands.column
+
+-- and its device reads as the state's database
+pub Stands-reads : {D : Type 0} {disk : Ghosts D} (state : State) (engine : Engine D disk) → Stands state engine → Reads state engine
+Stands-reads {disk} state engine stands = record {
+    sound = stands.sound;
+    log = subst (λ (m : List ℕ). IsLog m (payloads state) (disk.seen (device_of engine.log) 0)) stands.magic stands.log.is_log }

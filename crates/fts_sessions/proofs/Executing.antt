@@ -2,9 +2,9 @@ use Rattle.std.proofs.Common.{◌≡◌, ◌⊎◌, ℕ, List, [], ◌∷◌, re
 use Rattle.std.specs.Prelude.{Option, Some, None, Result, Ok, Err, Bool, true, false}
 use Rattle.fts_commits.specs.Word.{query_word}
 use Rattle.fts_io.specs.Text.{Line, whole}
-use Rattle.fts_rowcodec.specs.Payload.{one_insert}
+use Rattle.fts_rowcodec.specs.Payload.{one_insert, IsText}
 use Rattle.fts_schema.specs.declared.reply.Reply.{Reply}
-use Rattle.fts_schema.specs.declared.reply.Reply.TheVariants.{QuerySyntax}
+use Rattle.fts_schema.specs.declared.reply.Reply.TheVariants.{QuerySyntax, Syntax}
 use Rattle.fts_sql.specs.Statement.{IsStatement}
 use Rattle.fts_sql.specs.declared.statement.Statement.{Statement}
 use Rattle.fts_sql.specs.declared.statement.Statement.TheVariants.{Insert, Match}
@@ -13,7 +13,7 @@ use Rattle.fts_steps.specs.Step.{Ask, to_commit, to_find, Answer, Call}
 use Rattle.fts_sessions.specs.declared.ended.Ended.{Ended}
 use Rattle.fts_sessions.specs.declared.ended.Ended.TheVariants.{NoMemory}
 use Rattle.fts_sessions.specs.declared.steps.EngineSteps.{Ghosts}
-use Rattle.fts_sessions.specs.Request.{column_of, makes}
+use Rattle.fts_sessions.specs.Request.{column_of, makes, unknown}
 use Rattle.fts_sessions.specs.Conversation.{Next, asks, ends, search_for}
 use Rattle.fts_sessions.specs.Execute.{Executes, Makes, Searches}
 
@@ -51,9 +51,19 @@ module _ {S : Type 0} (steps : Ghosts S) (state : State) (line name : List ℕ) 
         leaves = stands })
 
   -- memory ran out before the first step
-  gives_up : (here : S) (outcome : Result Reply Ended) → steps.stands state here → outcome ≡ Err NoMemory → Executes steps state (whole line) here outcome here
+  pub gives_up : (here : S) (outcome : Result Reply Ended) → steps.stands state here → outcome ≡ Err NoMemory → Executes steps state (whole line) here outcome here
   gives_up here outcome stands told = subst (λ (o : Result Reply Ended). Executes steps state (whole line) here o here) (sym told)
       (record { calls = []; says = inr (refl, refl); follows = tt; leaves = stands })
+
+  -- a line that is no statement makes no step
+  pub unknown_line : (here : S) (at : ℕ) → steps.stands state here → at ≡ 1 → ((statement : Statement) → IsStatement name line statement → ⊥)
+      → Executes steps state (whole line) here (Ok (Syntax at)) here
+  unknown_line here at stands place none = subst (λ (n : ℕ). Executes steps state (whole line) here (Ok (Syntax n)) here) (sym place)
+      (record {
+        calls = [];
+        says = inl (unknown, λ statement is. none statement (subst (λ (names : List (List ℕ)). IsStatement (column_of names) line statement) columns is), refl);
+        follows = tt;
+        leaves = stands })
 
   searched : (query : List ℕ) (here : S) (outcome : Result Reply Ended) (word : Option (List ℕ)) → query_word query ≡ word → IsStatement name line (Match query)
       → steps.stands state here → Searches steps state word here outcome → Executes steps state (whole line) here outcome here
@@ -66,3 +76,7 @@ module _ {S : Type 0} (steps : Ghosts S) (state : State) (line name : List ℕ) 
   pub searches : (query : List ℕ) (here : S) (outcome : Result Reply Ended) → IsStatement name line (Match query)
       → steps.stands state here → Searches steps state (query_word query) here outcome → Executes steps state (whole line) here outcome here
   searches query here outcome is stands done = searched query here outcome (query_word query) refl is stands done
+
+-- the text of an INSERT is one that a log can hold
+pub text_is : (column line : List ℕ) (key : ℕ) (text : List ℕ) → IsStatement column line (Insert key text) → IsText text
+text_is column line key text is = record { fits = is.1; bytes = is.0.1.2.2.2.2.2.2.2.2.2.2.2.2.1.spelled.1 }

@@ -1,10 +1,12 @@
 //! Sessions: statements are executed line by line, over the steps of an engine.
 #![tactic(auto)]
 
+mod direct;
 mod ended;
 mod session;
 mod steps;
 
+pub use direct::Direct;
 pub use ended::Ended;
 pub use session::Session;
 pub use steps::EngineSteps;

@@ -1,0 +1,45 @@
+ghost use Rattle.std.specs.Prelude.{◌≡◌, ℕ, List};
+
+use crate::EngineSteps;
+use fts_disk::Disk;
+use fts_engine::Engine;
+use fts_steps::{CommitError, View};
+use std::alloc::AllocError;
+
+/// The steps of an engine that one thread owns: each is a call of the engine.
+#[derive(Drop)]
+pub struct Direct<D: Disk> {
+    pub engine: Engine<D>,
+}
+
+impl<D: Disk> EngineSteps for Direct<D> {
+    ghost use Rattle.fts_engine.specs.Stands.{Stands, Reads, engine_limit, engine_faults, engine_column, Stands-column, Stands-reads};
+
+    ghost tells = { D.tells };
+
+    ghost stands = { λ state steps. Stands state steps.engine };
+
+    ghost reads = { λ state steps. Reads state steps.engine };
+
+    ghost limit = { λ steps. engine_limit steps.engine };
+
+    ghost name = { λ steps. engine_column steps.engine };
+
+    ghost faults = { λ steps. engine_faults steps.engine };
+
+    ghost column_is = { λ steps state stands. Stands-column state steps.engine stands };
+
+    ghost is_read = { λ steps state stands. Stands-reads state steps.engine stands };
+
+    fn commit(&mut self, key: u64, text: &[u8]) -> Result<u64, CommitError> {
+        self.engine.commit(key, text)
+    }
+
+    fn view(&self, word: &[u8]) -> Result<View, AllocError> {
+        self.engine.view(word)
+    }
+
+    fn column(&self) -> &[u8] {
+        self.engine.column()
+    }
+}
