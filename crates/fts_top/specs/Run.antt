@@ -128,3 +128,21 @@ abbrev pub Tells : Turn → Result Reply Ended → List ℕ → List ℕ → Typ
 Tells turn (Ok reply) before now = Sends turn reply before now
 Tells turn (Err NoMemory) before now = (turn ≡ Over status.NoMemory) × (now ≡ before)
 Tells turn (Err DiskFault) before now = (turn ≡ Over status.DiskFault) × (now ≡ before)
+
+-- the statuses with which a run of lines ends
+abbrev pub EndsRun : Status → Type 0
+EndsRun status.Done = Unit {0}
+EndsRun status.NoMemory = Unit {0}
+EndsRun status.ReadFault = Unit {0}
+EndsRun status.WriteFault = Unit {0}
+EndsRun status.DiskFault = Unit {0}
+EndsRun (status.ScriptTooLong lines bytes) = Unit {0}
+EndsRun status.Usage = ⊥
+EndsRun status.NotCreated = ⊥
+EndsRun status.AlreadyCreated = ⊥
+EndsRun (status.Damaged device file at) = ⊥
+
+-- more lines follow, or the run ends with such a status
+abbrev pub GoesOnOrEnds : Turn → Type 0
+GoesOnOrEnds More = Unit {0}
+GoesOnOrEnds (Over result) = EndsRun result

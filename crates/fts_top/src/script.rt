@@ -3,7 +3,7 @@ ghost use Rattle.fts_faults.specs.Count.{Rose};
 ghost use Rattle.fts_io.specs.Text.{lines_of};
 ghost use Rattle.fts_io.specs.Reading.{ahead, taken_by, work_left};
 ghost use Rattle.fts_steps.specs.State.{State};
-ghost use Rattle.fts_top.specs.Run.{Outcome, Turns, IsTooLong, Tells, Sends};
+ghost use Rattle.fts_top.specs.Run.{Outcome, Turns, IsTooLong, Tells, Sends, EndsRun, GoesOnOrEnds};
 
 use crate::Status;
 use fts_io::{Gate, Lines, Next, Sink, Source, write_whole};
@@ -28,6 +28,7 @@ pub fn run<I: Source, O: Sink, S: EngineSteps, G: Gate>(
     requires ready { IsTrue S.tells → (state : State) × S.stands state steps.old }
     ensures runs { IsTrue I.tells → IsTrue O.tells → IsTrue S.tells → (start : State) → S.stands start steps.old
         → Outcome S.EngineSteps result start (lines_of (I.left input.old)) (I.left input.new) (O.holds out.old) (O.holds out.new) steps.old steps.new }
+    ensures ends { EndsRun result }
     ensures read { result ≡ Status.ReadFault → Rose (I.faults input.old) (I.faults input.new) }
     ensures write { result ≡ Status.WriteFault → Rose (O.faults out.old) (O.faults out.new) }
     ensures disk { result ≡ Status.DiskFault → Rose (S.faults steps.old) (S.faults steps.new) }
@@ -61,6 +62,7 @@ fn one_line<I: Source, O: Sink, S: EngineSteps, G: Gate>(
     ensures turns { IsTrue I.tells → IsTrue O.tells → IsTrue S.tells → (state : State) → S.stands state steps.old
         → Turns S.EngineSteps result state (ahead lines.old (I.left input.old)) (ahead lines.new (I.left input.new)) (I.left input.new)
             (O.holds out.old) (O.holds out.new) steps.old steps.new }
+    ensures ends { GoesOnOrEnds result }
     ensures ready { IsTrue S.tells → (state : State) → S.stands state steps.old → result ≡ Turn.More → (after : State) × S.stands after steps.new }
     ensures limit { S.limit steps.new ≡ S.limit steps.old }
     ensures progress { result ≡ Turn.More → work_left lines.new < work_left lines.old }
@@ -86,6 +88,7 @@ fn one_line<I: Source, O: Sink, S: EngineSteps, G: Gate>(
 
 // Tells what became of a line: its reply, or the end of the run.
 fn answer<O: Sink>(alloc: Global, out: &mut O, outcome: Result<Reply, Ended>) -> Turn
+    ensures ends { GoesOnOrEnds result }
     ensures replied { result ≡ Turn.More → IsOk outcome }
     ensures tells { IsTrue O.tells → Tells result outcome (O.holds out.old) (O.holds out.new) }
     ensures write { result ≡ Turn.Over Status.WriteFault → Rose (O.faults out.old) (O.faults out.new) }
@@ -104,6 +107,7 @@ fn answer<O: Sink>(alloc: Global, out: &mut O, outcome: Result<Reply, Ended>) ->
 
 // Writes a reply.
 fn send<O: Sink>(alloc: Global, out: &mut O, reply: &Reply) -> Turn
+    ensures ends { GoesOnOrEnds result }
     ensures sends { IsTrue O.tells → Sends result reply.now (O.holds out.old) (O.holds out.new) }
     ensures write { result ≡ Turn.Over Status.WriteFault → Rose (O.faults out.old) (O.faults out.new) }
     ensures never_falls { O.faults out.old ≤ O.faults out.new }

@@ -1,0 +1,131 @@
+ghost use Rattle.std.specs.Prelude.{◌≡◌, ◌++◌, ◌↔◌, ℕ, List, [], true, map, take, slice_index_or, Some, None, IsTrue};
+ghost use Rattle.std.specs.String.{string_bytes};
+ghost use Rattle.fts_faults.specs.Count.{Rose};
+ghost use Rattle.fts_commits.specs.Settings.{is_column_name as is_name};
+ghost use Rattle.fts_rowcodec.specs.Payload.{one_column};
+ghost use Rattle.fts_steps.specs.State.{State, IsCreated, IsDatabase, created_with};
+ghost use Rattle.fts_engine.specs.Opening.{IsNoDatabase};
+ghost use Rattle.fts_engine.specs.declared.create.TheConstants.{LARGEST_LOG};
+ghost use Rattle.fts_top.specs.Command.{command_of as the_command};
+ghost use Rattle.fts_top.specs.Once.{Completes, Creates, created_text as the_created_text};
+
+use crate::command::{Command, command_of};
+use crate::script::run;
+use crate::{Device, Status};
+use fts_disk::Disk;
+use fts_engine::{CreateError, LARGEST_LOG as LIMIT, OpenError, create_engine, open_engine};
+use fts_io::{Gate, Sink, Source, write_whole};
+use fts_schema::created_text;
+use fts_sessions::Direct;
+use std::alloc::Global;
+
+// Opens the database and executes the script.
+fn run_script<I: Source, O: Sink, D: Disk, G: Gate>(
+    alloc: Global,
+    input: &mut I,
+    out: &mut O,
+    rows: D,
+    gate: &G,
+) -> (Status, D)
+    ensures done { result.0 ≡ Status.Done → IsTrue I.tells → IsTrue O.tells → IsTrue D.tells
+        → (start : State) × IsDatabase start (D.seen rows 0) × Completes LARGEST_LOG start (I.left input.old) (O.holds out.old) (O.holds out.new) (D.seen result.1 0) }
+    ensures usage { result.0 ≡ Status.Usage → ⊥ }
+    ensures already { result.0 ≡ Status.AlreadyCreated → ⊥ }
+    ensures not_created { result.0 ≡ Status.NotCreated → (input.new ≡ input.old) × (out.new ≡ out.old)
+        × (IsTrue D.tells → (IsCreated (D.seen rows 0) → ⊥) × (D.seen result.1 ≡ D.seen rows)) }
+    ensures damaged { (at : ℕ) → result.0 ≡ Status.Damaged Device.Rows 0 at → (input.new ≡ input.old) × (out.new ≡ out.old)
+        × (IsTrue D.tells → IsCreated (D.seen rows 0) × IsNoDatabase (D.seen rows 0) × (D.seen result.1 ≡ D.seen rows)) }
+    ensures read { result.0 ≡ Status.ReadFault → Rose (I.faults input.old) (I.faults input.new) }
+    ensures write { result.0 ≡ Status.WriteFault → Rose (O.faults out.old) (O.faults out.new) }
+    ensures disk { result.0 ≡ Status.DiskFault → Rose (D.faults rows) (D.faults result.1) }
+{
+    match open_engine(alloc, rows, LIMIT) {
+        Ok(engine) => {
+            let mut steps = Direct { engine };
+            let status = run(alloc, input, out, &mut steps, gate);
+            let Direct { engine } = steps;
+            (status, engine.close())
+        }
+        Err((OpenError::NoMemory, device)) => (Status::NoMemory, device),
+        Err((OpenError::NotCreated, device)) => (Status::NotCreated, device),
+        Err((OpenError::Damaged { at }, device)) => (
+            Status::Damaged {
+                device: Device::Rows,
+                file: 0,
+                at,
+            },
+            device,
+        ),
+        Err((OpenError::DiskFault, device)) => (Status::DiskFault, device),
+    }
+}
+
+// Makes a database, and says so.
+fn create<O: Sink, D: Disk>(alloc: Global, column: &[u8], out: &mut O, rows: D) -> (Status, D)
+    requires { is_name column.now ≡ true }
+    ensures done { result.0 ≡ Status.Done → IsTrue O.tells → IsTrue D.tells
+        → Creates column.now (D.seen rows 0) (D.seen result.1 0) (O.holds out.old) (O.holds out.new) }
+    ensures write { result.0 ≡ Status.WriteFault → Rose (O.faults out.old) (O.faults out.new) }
+    ensures late { result.0 ≡ Status.WriteFault → IsTrue O.tells → IsTrue D.tells
+        → IsDatabase (created_with (one_column column.now)) (D.seen result.1 0) × ((n : ℕ) × (O.holds out.new ≡ O.holds out.old ++ take n the_created_text)) }
+    ensures already { result.0 ≡ Status.AlreadyCreated → (out.new ≡ out.old) × (IsTrue D.tells → IsCreated (D.seen rows 0) × (D.seen result.1 ≡ D.seen rows)) }
+    ensures disk { result.0 ≡ Status.DiskFault → (out.new ≡ out.old) × Rose (D.faults rows) (D.faults result.1) }
+    ensures memory { result.0 ≡ Status.NoMemory → (out.new ≡ out.old) × (result.1 ≡ rows) }
+    ensures usage { result.0 ≡ Status.Usage → ⊥ }
+    ensures others { (result.0 ≡ Status.ReadFault → ⊥) × (result.0 ≡ Status.NotCreated → ⊥) × ((device : _) (file at : ℕ) → result.0 ≡ Status.Damaged device file at → ⊥) × ((lines bytes : ℕ) → result.0 ≡ Status.ScriptTooLong lines bytes → ⊥) }
+{
+    match create_engine(alloc, column, rows) {
+        Ok(device) => match write_whole(out, created_text().as_bytes()) {
+            Ok(()) => (Status::Done, device),
+            Err(_) => (Status::WriteFault, device),
+        },
+        Err((CreateError::NoMemory, device)) => (Status::NoMemory, device),
+        Err((CreateError::AlreadyCreated, device)) => (Status::AlreadyCreated, device),
+        Err((CreateError::DiskFault, device)) => (Status::DiskFault, device),
+    }
+}
+
+/// Does what the words ask for: `create` makes a database on the rows device, and `run` opens it and executes the
+/// lines of the input, each line's reply written before the next line is executed.
+///
+/// `words` are all words behind the program's name. The first names the folder, which concerns the caller that
+/// made the devices of it. Both devices are handed back. The index device isn't touched yet.
+pub fn fts_once<I: Source, O: Sink, D: Disk, E: Disk, G: Gate>(
+    alloc: Global,
+    words: &[String],
+    input: &mut I,
+    out: &mut O,
+    rows: D,
+    index: E,
+    gate: &G,
+) -> (Status, D, E)
+    ensures usage { (result.0 ≡ Status.Usage) ↔ (the_command (map string_bytes words.now) ≡ None) }
+    ensures refused { result.0 ≡ Status.Usage → (input.new ≡ input.old) × (out.new ≡ out.old) × (result.1 ≡ rows) }
+
+    ensures create_done { the_command (map string_bytes words.now) ≡ Some Command.Create → result.0 ≡ Status.Done → IsTrue O.tells → IsTrue D.tells
+        → Creates (slice_index_or (map string_bytes words.now) 3 []) (D.seen rows 0) (D.seen result.1 0) (O.holds out.old) (O.holds out.new) }
+    ensures run_done { the_command (map string_bytes words.now) ≡ Some Command.Run → result.0 ≡ Status.Done → IsTrue I.tells → IsTrue O.tells → IsTrue D.tells
+        → (start : State) × IsDatabase start (D.seen rows 0) × Completes LARGEST_LOG start (I.left input.old) (O.holds out.old) (O.holds out.new) (D.seen result.1 0) }
+
+    ensures already { result.0 ≡ Status.AlreadyCreated → (input.new ≡ input.old) × (out.new ≡ out.old) × (IsTrue D.tells → IsCreated (D.seen rows 0) × (D.seen result.1 ≡ D.seen rows)) }
+    ensures not_created { result.0 ≡ Status.NotCreated → (input.new ≡ input.old) × (out.new ≡ out.old)
+        × (IsTrue D.tells → (IsCreated (D.seen rows 0) → ⊥) × (D.seen result.1 ≡ D.seen rows)) }
+    ensures damaged { (at : ℕ) → result.0 ≡ Status.Damaged Device.Rows 0 at → (input.new ≡ input.old) × (out.new ≡ out.old)
+        × (IsTrue D.tells → IsCreated (D.seen rows 0) × IsNoDatabase (D.seen rows 0) × (D.seen result.1 ≡ D.seen rows)) }
+    ensures read { result.0 ≡ Status.ReadFault → Rose (I.faults input.old) (I.faults input.new) }
+    ensures write { result.0 ≡ Status.WriteFault → Rose (O.faults out.old) (O.faults out.new) }
+    ensures disk { result.0 ≡ Status.DiskFault → Rose (D.faults rows) (D.faults result.1) }
+    ensures index { result.2 ≡ index }
+{
+    match command_of(words) {
+        None => (Status::Usage, rows, index),
+        Some(Command::Create) => {
+            let (status, rows) = create(alloc, words[3].as_bytes(), out, rows);
+            (status, rows, index)
+        }
+        Some(Command::Run) => {
+            let (status, rows) = run_script(alloc, input, out, rows, gate);
+            (status, rows, index)
+        }
+    }
+}
