@@ -1,14 +1,14 @@
-use Rattle.std.proofs.Common.{◌≡◌, ◌⊎◌, ℕ, ◌+◌, ◌-◌, ◌<◌, ◌≤◌, ◌^◌, List, [], ◌∷◌, ◌++◌, refl, ap, subst, sym, ◌∙◌, length, arith, map, inl, inr, length-append}
-use Rattle.std.proofs.lemmas.List.{append-nil, map-append, length-map}
+use Rattle.std.proofs.Common.{◌≡◌, ◌⊎◌, ℕ, ◌+◌, ◌-◌, ◌<◌, ◌^◌, List, [], ◌∷◌, ◌++◌, refl, ap, subst, sym, ◌∙◌, length, arith, map, inl, inr, length-append}
+use Rattle.std.proofs.lemmas.List.{map-append, length-map}
 use Rattle.std.proofs.lemmas.List.Elements.{All-push}
-use Rattle.std.proofs.lemmas.Bool.{ltb-true, false_from_ne_true, true_from_ne_false}
-use Rattle.std.specs.Prelude.{Bool, true, false, ◌==◌, Ok, Err, IsOk, All, nat_lt, filter}
+use Rattle.std.proofs.lemmas.Bool.{ltb-true, false_from_ne_true}
+use Rattle.std.specs.Prelude.{Bool, true, false, ◌==◌, nat_lt, filter}
 use Rattle.std.specs.List.{list_any}
 use Rattle.fts_disk.specs.declared.disk.Disk.{Ghosts}
 use Rattle.fts_commits.specs.Word.{words_of, is_among}
-use Rattle.fts_commits.specs.Commit.{Commit, Rows, has_key, with_row, after_commit, replay, no_rows}
+use Rattle.fts_commits.specs.Commit.{Commit, Rows, has_key, replay, no_rows}
 use Rattle.fts_commits.specs.Scan.{scan}
-use Rattle.fts_log.specs.Record.{IsLog, IsLogOfEither, log_end, front}
+use Rattle.fts_log.specs.Record.{IsLog, IsLogOfEither, log_end}
 use Rattle.fts_log.specs.Log as log
 use Rattle.fts_log.specs.Log.{StandsFor, device_of, magic_of, limit_of, end_of}
 use Rattle.fts_log.specs.Frame.{payload_of}
@@ -16,8 +16,8 @@ use Rattle.fts_log.specs.declared.frame.Framed.{Framed}
 use Rattle.fts_log.specs.declared.log.Log.{Log}
 use Rattle.fts_log.proofs.Bytes.{length-front-push}
 use Rattle.fts_rowcodec.specs.Payload.{one_insert, commit_payload, settings_payload, IsText, IsWritten}
-use Rattle.fts_steps.specs.State.{State, payloads, rows_magic, end_after, with_commits, IsSound, IsDatabase}
-use Rattle.fts_steps.specs.Step.{to_commit, to_find, committed, duplicate, full, found, plain_answer}
+use Rattle.fts_steps.specs.State.{State, payloads, rows_magic, end_after, with_commits, IsSound}
+use Rattle.fts_steps.specs.Step.{to_commit, committed, duplicate, full, found, plain_answer}
 use Rattle.fts_engine.specs.declared.engine.Engine.{Engine}
 use Rattle.fts_engine.specs.declared.entry.Entry.{Entry}
 use Rattle.fts_engine.specs.Kept.{entry_of}
@@ -33,10 +33,11 @@ module _ (state : State) (key : ℕ) (text : List ℕ) where
   pub sound-push : IsSound state → key < 2 ^ 64 → IsText text → has_key key (replay state.commits).list ≡ false
       → IsSound (with_commits state (one_insert key text ∷ []))
   sound-push sound fits is_text fresh = record {
-      settings = sound.settings;
-      written = All-push IsWritten state.commits (one_insert key text) sound.written
+    settings = sound.settings;
+    written = All-push IsWritten state.commits (one_insert key text) sound.written
         (record { key = key; text = text; is = refl; fits = record { key_fits = fits; is_text = is_text } });
-      accepted = AreAccepted-push no_rows state.commits (one_insert key text) sound.accepted (rw (accepts key text (replay state.commits) fresh) refl) }
+    accepted = AreAccepted-push no_rows state.commits (one_insert key text) sound.accepted (rw (accepts key text (replay state.commits) fresh) refl);
+  }
 
   answered : (limit : ℕ) (b : Bool) → has_key key (replay state.commits).list ≡ false → nat_lt limit (end_after state (one_insert key text)) ≡ b
       → plain_answer limit state (to_commit (one_insert key text)) ≡ elim b [ true ↦ full (end_after state (one_insert key text)) | false ↦ committed (length state.commits + 1) ]
@@ -86,13 +87,13 @@ module _ {D : Type 0} {disk : Ghosts D} (state : State) (engine : Engine D disk)
   -- the commit's number is the new document's id
   pub same_doc : has_key key (replay state.commits).list ≡ false
       → map entry_of (replay (state.commits ++ one_insert key text ∷ [])).list
-        ≡ engine.entries.items ++ record { key = key; doc = log.count_of engine.log; words = words_of text } ∷ []
+      ≡ engine.entries.items ++ record { key = key; doc = log.count_of engine.log; words = words_of text } ∷ []
   same_doc fresh =
       ap (λ (rows : Rows). map entry_of rows.list) (replay_accepted state.commits key text fresh)
       ∙ entries-push key text (replay state.commits)
       ∙ ap (λ (entries : List Entry). entries ++ record { key = key; doc = (replay state.commits).largest + 1; words = words_of text } ∷ []) (sym stands.kept)
       ∙ ap (λ (doc : ℕ). engine.entries.items ++ record { key = key; doc = doc; words = words_of text } ∷ [])
-          (ap (λ (n : ℕ). n + 1) stands.largest ∙ sym same_count)
+      (ap (λ (n : ℕ). n + 1) stands.largest ∙ sym same_count)
 
   -- the engine after the commit stands for the state after it
   pub stands_after : (new : Engine D disk) → key < 2 ^ 64 → IsText text → has_key key (replay state.commits).list ≡ false
@@ -102,23 +103,25 @@ module _ {D : Type 0} {disk : Ghosts D} (state : State) (engine : Engine D disk)
       → StandsFor (payloads state ++ commit_payload (one_insert key text) ∷ []) new.log
       → Stands (with_commits state (one_insert key text ∷ [])) new
   stands_after new fits is_text fresh column entries magic logged = record {
-      sound = sound-push state key text stands.sound fits is_text fresh;
-      column = stands.column ∙ ap (λ (name : List ℕ). name ∷ []) (sym column);
-      kept = entries ∙ sym (same_doc fresh);
-      largest = ap (λ (rows : Rows). rows.largest) (replay_accepted state.commits key text fresh)
+    sound = sound-push state key text stands.sound fits is_text fresh;
+    column = stands.column ∙ ap (λ (name : List ℕ). name ∷ []) (sym column);
+    kept = entries ∙ sym (same_doc fresh);
+    largest = ap (λ (rows : Rows). rows.largest) (replay_accepted state.commits key text fresh)
         ∙ ap (λ (n : ℕ). n + 1) stands.largest ∙ sym (length-append state.commits (one_insert key text ∷ []));
-      magic = magic ∙ stands.magic;
-      log = subst (λ (entries : List (List ℕ)). StandsFor entries new.log) (sym (payloads-push state (one_insert key text))) logged }
+    magic = magic ∙ stands.magic;
+    log = subst (λ (entries : List (List ℕ)). StandsFor entries new.log) (sym (payloads-push state (one_insert key text))) logged;
+  }
 
   -- an engine with the same log and the same rows stands for the same state
   pub stands_still : (new : Engine D disk) → new.column ≡ engine.column → new.entries.items ≡ engine.entries.items → new.log ≡ engine.log → Stands state new
   stands_still new column entries same = record {
-      sound = stands.sound;
-      column = stands.column ∙ ap (λ (name : List ℕ). name ∷ []) (sym column);
-      kept = entries ∙ stands.kept;
-      largest = stands.largest;
-      magic = ap magic_of same ∙ stands.magic;
-      log = subst (λ (l : Log D disk). StandsFor (payloads state) l) (sym same) stands.log }
+    sound = stands.sound;
+    column = stands.column ∙ ap (λ (name : List ℕ). name ∷ []) (sym column);
+    kept = entries ∙ stands.kept;
+    largest = stands.largest;
+    magic = ap magic_of same ∙ stands.magic;
+    log = subst (λ (l : Log D disk). StandsFor (payloads state) l) (sym same) stands.log;
+  }
 
   -- what a fault of the device leaves
   pub reads_either : (new : Engine D disk) → key < 2 ^ 64 → IsText text → has_key key (replay state.commits).list ≡ false
@@ -130,7 +133,8 @@ module _ {D : Type 0} {disk : Ghosts D} (state : State) (engine : Engine D disk)
       inr (record {
         sound = sound-push state key text stands.sound fits is_text fresh;
         log = subst (λ (entries : List (List ℕ)). IsLog rows_magic entries (disk.seen (device_of new.log) 0)) (sym (payloads-push state (one_insert key text)))
-          (subst (λ (m : List ℕ). IsLog m (payloads state ++ commit_payload (one_insert key text) ∷ []) (disk.seen (device_of new.log) 0)) stands.magic behind) })
+            (subst (λ (m : List ℕ). IsLog m (payloads state ++ commit_payload (one_insert key text) ∷ []) (disk.seen (device_of new.log) 0)) stands.magic behind);
+      })
 
 module _ {D : Type 0} {disk : Ghosts D} (state : State) (engine : Engine D disk) (stands : Stands state engine) (word : List ℕ) where
   -- what is found among the words kept is the scan

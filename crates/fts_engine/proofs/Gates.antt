@@ -1,11 +1,8 @@
-use Rattle.std.proofs.Common.{◌≡◌, ℕ, ◌+◌, ◌<◌, List, [], ◌∷◌, ◌++◌, refl, ap, subst, sym, ◌∙◌, length, arith}
-use Rattle.std.specs.Prelude.{Bool, true, false, Result, Ok, Err, IfOk, slice_index}
-use Rattle.fts_disk.specs.declared.disk.Disk.{Ghosts}
-use Rattle.fts_log.specs.Record.{IsLog, IsDamagedAt, front, records, record_of}
-use Rattle.fts_log.specs.Log.{StandsFor, device_of, magic_of, count_of}
-use Rattle.fts_log.specs.declared.log.Log.{Log}
+use Rattle.std.proofs.Common.{ℕ, ◌<◌, List, [], ◌∷◌, ◌++◌, refl, subst, sym, length, arith}
+use Rattle.std.specs.Prelude.{Result, Ok, Err, IfOk}
+use Rattle.fts_log.specs.Record.{IsLog, IsDamagedAt, front}
 use Rattle.fts_log.proofs.Unique.{one_list, not_damaged}
-use Rattle.fts_steps.specs.State.{State, payloads, rows_magic, IsCreated, IsDatabase}
+use Rattle.fts_steps.specs.State.{payloads, rows_magic, IsCreated}
 use Rattle.fts_engine.specs.Opening.{IsNoDatabase}
 use Rattle.fts_engine.specs.Loading.{AreNoState}
 

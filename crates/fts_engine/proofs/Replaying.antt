@@ -1,11 +1,11 @@
-use Rattle.std.proofs.Common.{◌≡◌, ℕ, ◌+◌, List, [], ◌∷◌, ◌++◌, refl, ap, subst, sym, ◌∙◌, length, arith, map}
-use Rattle.std.proofs.lemmas.List.{append-nil, map-append, length-map}
+use Rattle.std.proofs.Common.{◌≡◌, ℕ, ◌+◌, List, [], ◌∷◌, ◌++◌, refl, ap, ◌∙◌, arith, map}
+use Rattle.std.proofs.lemmas.List.{append-nil, map-append}
 use Rattle.std.proofs.lemmas.List.Sums.{fold-append}
-use Rattle.std.specs.Prelude.{Bool, true, false, ◌||◌, ◌==◌, Result, Ok, Err, IsOk, fold, filter, cond}
+use Rattle.std.specs.Prelude.{Bool, true, false, ◌||◌, ◌==◌, Ok, Err, IsOk, fold, filter}
 use Rattle.std.specs.List.{list_any, flat_map}
 use Rattle.fts_commits.specs.Word.{is_among, words_of}
-use Rattle.fts_commits.specs.Commit.{Commit, Row, Rows, Refused, insert, duplicate_key, no_rows, has_key, with_row, after_commit, after_changes, rows_after, replay, AreAccepted}
-use Rattle.fts_commits.specs.Scan.{has_word, scan}
+use Rattle.fts_commits.specs.Commit.{Commit, Row, Rows, duplicate_key, no_rows, has_key, with_row, after_commit, rows_after, replay, AreAccepted}
+use Rattle.fts_commits.specs.Scan.{has_word}
 use Rattle.fts_rowcodec.specs.Payload.{one_insert}
 use Rattle.fts_engine.specs.declared.entry.Entry.{Entry}
 use Rattle.fts_engine.specs.Kept.{entry_of}

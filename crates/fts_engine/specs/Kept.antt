@@ -1,4 +1,3 @@
-use Rattle.std.specs.Prelude.{ℕ, List, map}
 use Rattle.std.specs.List.{flat_map}
 use Rattle.fts_commits.specs.Word.{words_of}
 use Rattle.fts_commits.specs.Commit.{Row}

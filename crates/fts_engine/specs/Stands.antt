@@ -44,5 +44,6 @@ Stands-column state engine stands = stands.column
 -- and its device reads as the state's database
 pub Stands-reads : {D : Type 0} {disk : Ghosts D} (state : State) (engine : Engine D disk) → Stands state engine → Reads state engine
 Stands-reads {disk} state engine stands = record {
-    sound = stands.sound;
-    log = subst (λ (m : List ℕ). IsLog m (payloads state) (disk.seen (device_of engine.log) 0)) stands.magic stands.log.is_log }
+  sound = stands.sound;
+  log = subst (λ (m : List ℕ). IsLog m (payloads state) (disk.seen (device_of engine.log) 0)) stands.magic stands.log.is_log;
+}

@@ -63,7 +63,10 @@ impl<D: Disk> Engine<D> {
             → MayAnswer (engine_limit self.now) state (to_find word.now) (view_answer_of result) }
     {
         let docs = find(self.alloc, &self.entries, word)?;
-        Ok(View { number: self.commits(), docs })
+        Ok(View {
+            number: self.commits(),
+            docs,
+        })
     }
 
     /// How many commits there are.
@@ -85,7 +88,12 @@ impl<D: Disk> Engine<D> {
         ensures reads { IsTrue D.tells → (state : State) → Reads state self → IsDatabase state (D.seen result 0) }
         ensures faults { D.faults result ≡ engine_faults self }
     {
-        let Engine { alloc: _, log, column: _, entries: _ } = self;
+        let Engine {
+            alloc: _,
+            log,
+            column: _,
+            entries: _,
+        } = self;
         log.close()
     }
 }

@@ -127,5 +127,6 @@ fn load_commit<D: Disk>(
 
 // The place behind a record.
 fn next_record(at: u64, payload: usize) -> u64 {
-    at.saturating_add(RECORD_HEAD).saturating_add(payload as u64)
+    at.saturating_add(RECORD_HEAD)
+        .saturating_add(payload as u64)
 }

@@ -1,7 +1,7 @@
-use Rattle.std.proofs.Common.{◌≡◌, ◌⊎◌, ℕ, List, [], ◌∷◌, refl, ap, subst, sym, inl, inr}
-use Rattle.std.specs.Prelude.{Option, Some, None, Result, Ok, Err, Bool, true, false}
+use Rattle.std.proofs.Common.{◌≡◌, ℕ, List, [], ◌∷◌, refl, ap, subst, sym, inl, inr}
+use Rattle.std.specs.Prelude.{Option, Some, None, Result, Ok, Err}
 use Rattle.fts_commits.specs.Word.{query_word}
-use Rattle.fts_io.specs.Text.{Line, whole}
+use Rattle.fts_io.specs.Text.{whole}
 use Rattle.fts_rowcodec.specs.Payload.{one_insert, IsText}
 use Rattle.fts_schema.specs.declared.reply.Reply.{Reply}
 use Rattle.fts_schema.specs.declared.reply.Reply.TheVariants.{QuerySyntax, Syntax}
@@ -9,12 +9,12 @@ use Rattle.fts_sql.specs.Statement.{IsStatement}
 use Rattle.fts_sql.specs.declared.statement.Statement.{Statement}
 use Rattle.fts_sql.specs.declared.statement.Statement.TheVariants.{Insert, Match}
 use Rattle.fts_steps.specs.State.{State}
-use Rattle.fts_steps.specs.Step.{Ask, to_commit, to_find, Answer, Call}
+use Rattle.fts_steps.specs.Step.{to_commit, to_find}
 use Rattle.fts_sessions.specs.declared.ended.Ended.{Ended}
 use Rattle.fts_sessions.specs.declared.ended.Ended.TheVariants.{NoMemory}
 use Rattle.fts_sessions.specs.declared.steps.EngineSteps.{Ghosts}
 use Rattle.fts_sessions.specs.Request.{column_of, makes, unknown}
-use Rattle.fts_sessions.specs.Conversation.{Next, asks, ends, search_for}
+use Rattle.fts_sessions.specs.Conversation.{ends, search_for}
 use Rattle.fts_sessions.specs.Execute.{Executes, Makes, Searches}
 
 module _ {S : Type 0} (steps : Ghosts S) (state : State) (line name : List ℕ) (columns : state.settings.columns ≡ name ∷ []) where
@@ -26,19 +26,21 @@ module _ {S : Type 0} (steps : Ghosts S) (state : State) (line name : List ℕ) 
   pub inserts : (key : ℕ) (text : List ℕ) (old : S) (outcome : Result Reply Ended) (new : S) → IsStatement name line (Insert key text)
       → Makes steps state (to_commit (one_insert key text)) old outcome new → Executes steps state (whole line) old outcome new
   inserts key text old outcome new is made = record {
-      calls = record { ask = to_commit (one_insert key text); answer = made.answer } ∷ [];
-      says = inl (makes (Insert key text), column_is (Insert key text) is, (refl, ap ends made.told));
-      follows = (made.may, tt);
-      leaves = made.leaves }
+    calls = record { ask = to_commit (one_insert key text); answer = made.answer } ∷ [];
+    says = inl (makes (Insert key text), column_is (Insert key text) is, (refl, ap ends made.told));
+    follows = (made.may, tt);
+    leaves = made.leaves;
+  }
 
   -- a search for one word makes its one step
   finds : (query word : List ℕ) (here : S) (outcome : Result Reply Ended) → IsStatement name line (Match query)
       → query_word query ≡ Some word → Makes steps state (to_find word) here outcome here → Executes steps state (whole line) here outcome here
   finds query word here outcome is one made = record {
-      calls = record { ask = to_find word; answer = made.answer } ∷ [];
-      says = inl (makes (Match query), column_is (Match query) is, (ap search_for one, ap ends made.told));
-      follows = (made.may, tt);
-      leaves = made.leaves }
+    calls = record { ask = to_find word; answer = made.answer } ∷ [];
+    says = inl (makes (Match query), column_is (Match query) is, (ap search_for one, ap ends made.told));
+    follows = (made.may, tt);
+    leaves = made.leaves;
+  }
 
   -- a search whose query isn't one word makes no step
   refuses : (query : List ℕ) (here : S) (outcome : Result Reply Ended) → IsStatement name line (Match query) → steps.stands state here
@@ -48,7 +50,8 @@ module _ {S : Type 0} (steps : Ghosts S) (state : State) (line name : List ℕ) 
         calls = [];
         says = inl (makes (Match query), column_is (Match query) is, ap search_for none);
         follows = tt;
-        leaves = stands })
+        leaves = stands;
+      })
 
   -- memory ran out before the first step
   pub gives_up : (here : S) (outcome : Result Reply Ended) → steps.stands state here → outcome ≡ Err NoMemory → Executes steps state (whole line) here outcome here
@@ -63,7 +66,8 @@ module _ {S : Type 0} (steps : Ghosts S) (state : State) (line name : List ℕ) 
         calls = [];
         says = inl (unknown, λ statement is. none statement (subst (λ (names : List (List ℕ)). IsStatement (column_of names) line statement) columns is), refl);
         follows = tt;
-        leaves = stands })
+        leaves = stands;
+      })
 
   searched : (query : List ℕ) (here : S) (outcome : Result Reply Ended) (word : Option (List ℕ)) → query_word query ≡ word → IsStatement name line (Match query)
       → steps.stands state here → Searches steps state word here outcome → Executes steps state (whole line) here outcome here

@@ -1,4 +1,4 @@
-use Rattle.std.specs.Prelude.{◌≡◌, ◌⊎◌, ℕ, List, [], ◌∷◌, ◌++◌, Result, Ok, Err, Option, Some, None}
+use Rattle.std.specs.Prelude.{◌≡◌, ◌⊎◌, ℕ, List, [], ◌∷◌, Result, Ok, Err, Option, Some, None}
 use Rattle.fts_io.specs.Text.{Line}
 use Rattle.fts_commits.specs.Settings.{Settings}
 use Rattle.fts_schema.specs.declared.reply.Reply.{Reply}

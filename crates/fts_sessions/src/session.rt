@@ -29,7 +29,12 @@ impl Session {
     }
 
     /// Executes a line, which is within the limit, and gives its reply.
-    pub fn execute<S: EngineSteps, G: Gate>(&mut self, steps: &mut S, gate: &G, line: &[u8]) -> Result<Reply, Ended>
+    pub fn execute<S: EngineSteps, G: Gate>(
+        &mut self,
+        steps: &mut S,
+        gate: &G,
+        line: &[u8],
+    ) -> Result<Reply, Ended>
         requires { IsTrue S.tells → (state : State) × S.stands state steps.old }
         ensures executes { IsTrue S.tells → (state : State) → S.stands state steps.old
             → Executes S.EngineSteps state (whole line.now) steps.old result steps.new }
@@ -44,7 +49,12 @@ impl Session {
     }
 
     // Parses the line and makes its step.
-    fn outcome<S: EngineSteps, G: Gate>(&self, steps: &mut S, gate: &G, line: &[u8]) -> Result<Reply, Ended>
+    fn outcome<S: EngineSteps, G: Gate>(
+        &self,
+        steps: &mut S,
+        gate: &G,
+        line: &[u8],
+    ) -> Result<Reply, Ended>
         requires { IsTrue S.tells → (state : State) × S.stands state steps.old }
         ensures executes { IsTrue S.tells → (state : State) → S.stands state steps.old
             → Executes S.EngineSteps state (whole line.now) steps.old result steps.new }
@@ -54,7 +64,13 @@ impl Session {
     {
         match parse_statement(self.alloc, steps.column(), line) {
             Ok(Statement::Insert { key, text }) => insert(steps, key, text.as_slice()),
-            Ok(Statement::Match { query }) => search(self.alloc, steps, gate, self.number, query.as_slice()),
+            Ok(Statement::Match { query }) => search(
+                self.alloc,
+                steps,
+                gate,
+                self.number,
+                query.as_slice(),
+            ),
             Err(ParseError::Syntax { at }) => Ok(Reply::Syntax { at }),
             Err(ParseError::NoMemory) => Err(Ended::NoMemory),
         }
@@ -101,7 +117,12 @@ fn search<S: EngineSteps, G: Gate>(
 }
 
 // The step of a search for one word, and what tells its answer.
-fn look_for<S: EngineSteps, G: Gate>(steps: &S, gate: &G, number: u32, word: &[u8]) -> Result<Reply, Ended>
+fn look_for<S: EngineSteps, G: Gate>(
+    steps: &S,
+    gate: &G,
+    number: u32,
+    word: &[u8],
+) -> Result<Reply, Ended>
     requires ready { IsTrue S.tells → (state : State) × S.stands state steps.now }
     ensures makes { IsTrue S.tells → (state : State) → S.stands state steps.now
         → Makes S.EngineSteps state (to_find word.now) steps.now result steps.now }

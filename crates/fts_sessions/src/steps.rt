@@ -52,5 +52,6 @@ pub trait EngineSteps {
         ensures { result.now ≡ name self.now };
 
     ghost column_is: { (steps : Self) (state : State) → stands state steps → state.settings.columns ≡ name steps ∷ [] };
+
     ghost is_read: { (steps : Self) (state : State) → stands state steps → reads state steps };
 }

@@ -1,5 +1,4 @@
 use Rattle.std.specs.Prelude.{ℕ, Result, Ok, Err}
-use Rattle.std.specs.declared.alloc.AllocError.{AllocError}
 use Rattle.fts_steps.specs.declared.commit.CommitError.{CommitError}
 use Rattle.fts_steps.specs.declared.commit.CommitError.TheVariants.{NoMemory, DuplicateKey, LogFull, DiskFault}
 use Rattle.fts_steps.specs.declared.view.View.{View}

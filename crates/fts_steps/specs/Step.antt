@@ -1,4 +1,4 @@
-use Rattle.std.specs.Prelude.{Bool, true, false, ◌≡◌, ℕ, ◌+◌, if◌then◌else◌, nat_lt, List, [], ◌∷◌, ◌++◌, length, map, Result, Ok, Err}
+use Rattle.std.specs.Prelude.{Bool, true, false, ◌≡◌, ℕ, ◌+◌, if◌then◌else◌, nat_lt, List, [], ◌∷◌, ◌++◌, length, Result, Ok, Err}
 use Rattle.fts_commits.specs.Commit.{Commit, Rows, Refused, duplicate_key, after_commit, replay}
 use Rattle.fts_commits.specs.Scan.{scan}
 use Rattle.fts_steps.specs.State.{State, with_commits, end_after}

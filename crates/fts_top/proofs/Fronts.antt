@@ -1,44 +1,50 @@
-use Rattle.std.proofs.Common.{◌≡◌, ◌⊎◌, ℕ, List, [], ◌∷◌, ◌++◌, refl, ap, subst, sym, ◌∙◌, append_assoc, inl, inr}
+use Rattle.std.proofs.Common.{◌≡◌, ℕ, List, [], ◌∷◌, ◌++◌, refl, ap, subst, sym, ◌∙◌, append_assoc, inl, inr}
 use Rattle.std.proofs.lemmas.List.{append-nil}
-use Rattle.std.specs.Prelude.{Result, Ok, Err}
+use Rattle.std.specs.Prelude.{Ok}
 use Rattle.fts_io.specs.Text.{Line}
 use Rattle.fts_schema.specs.declared.reply.Reply.{Reply}
 use Rattle.fts_schema.specs.Reply.{text_of}
 use Rattle.fts_steps.specs.State.{State}
 use Rattle.fts_steps.specs.Step.{Call, after_all, Follows}
-use Rattle.fts_sessions.specs.declared.ended.Ended.{Ended}
-use Rattle.fts_sessions.specs.declared.ended.Ended.TheVariants.{NoMemory, DiskFault}
 use Rattle.fts_sessions.specs.declared.steps.EngineSteps.{Ghosts}
 use Rattle.fts_sessions.specs.Request.{Request, IsRequest}
 use Rattle.fts_sessions.specs.Conversation.{Converses}
 use Rattle.fts_sessions.specs.Execute.{Executes, Says}
 use Rattle.fts_top.specs.declared.status.Status.{Status}
 use Rattle.fts_top.specs.declared.status.Status.TheVariants as status
-use Rattle.fts_top.specs.declared.script.Turn.{Turn}
 use Rattle.fts_top.specs.declared.script.Turn.TheVariants.{More, Over}
-use Rattle.fts_top.specs.Talk.{Talks}
-use Rattle.fts_top.specs.Run.{Front, Answers, Breaks, Late, Broken, Stops, Begun, Turns, Outcome}
+use Rattle.fts_top.specs.Run.{Front, Turns, Outcome}
 use Rattle.fts_top.proofs.Talking.{settings_stay, after_more, follows_more, talks_more}
 
 module _ {S : Type 0} (steps : Ghosts S) (start : State) (script : List Line) where
   -- before the first line
   pub nothing_yet : (held : List ℕ) (here : S) → steps.stands start here → Front steps start script script held held here here
   nothing_yet held here stands = record {
-      lines = []; calls = []; text = []; front = refl; written = sym (append-nil held); talks = (refl, refl); follows = tt; limit = refl; stands = stands }
+    lines = [];
+    calls = [];
+    text = [];
+    front = refl;
+    written = sym (append-nil held);
+    talks = (refl, refl);
+    follows = tt;
+    limit = refl;
+    stands = stands;
+  }
 
   -- the same front, seen by equal values
   abbrev pub again : (ahead ahead' : List Line) (before now now' : List ℕ) (old new new' : S) → Front steps start script ahead before now old new
       → ahead ≡ ahead' → now' ≡ now → new' ≡ new → Front steps start script ahead' before now' old new'
   again ahead ahead' before now now' old new new' front same_ahead same_now same_new = record {
-      lines = front.lines;
-      calls = front.calls;
-      text = front.text;
-      front = front.front ∙ ap (λ (a : List Line). front.lines ++ a) same_ahead;
-      written = same_now ∙ front.written;
-      talks = front.talks;
-      follows = front.follows;
-      limit = ap steps.limit same_new ∙ front.limit;
-      stands = subst (λ (s : S). steps.stands (after_all start front.calls) s) (sym same_new) front.stands }
+    lines = front.lines;
+    calls = front.calls;
+    text = front.text;
+    front = front.front ∙ ap (λ (a : List Line). front.lines ++ a) same_ahead;
+    written = same_now ∙ front.written;
+    talks = front.talks;
+    follows = front.follows;
+    limit = ap steps.limit same_new ∙ front.limit;
+    stands = subst (λ (s : S). steps.stands (after_all start front.calls) s) (sym same_new) front.stands;
+  }
 
   -- a reply was given, so the line was a request, and no want of memory came before it
   said : (line : Line) (calls : List Call) (reply : Reply) (state : State) → Says state.settings line calls (Ok reply)
@@ -60,11 +66,12 @@ module _ {S : Type 0} (steps : Ghosts S) (start : State) (script : List Line) wh
         front = front.front ∙ sym (append_assoc front.lines (line ∷ []) ahead);
         written = written ∙ ap (λ (t : List ℕ). t ++ text_of reply) front.written ∙ append_assoc before front.text (text_of reply);
         talks = talks_more start.settings front.lines front.calls front.text line says.0 executes.calls reply front.talks
-          (subst (λ (s : _). IsRequest s line says.0) (settings_stay start front.calls) says.1) says.2;
+            (subst (λ (s : _). IsRequest s line says.0) (settings_stay start front.calls) says.1) says.2;
         follows = follows_more (steps.limit old) start front.calls executes.calls front.follows
-          (subst (λ (n : ℕ). Follows n (after_all start front.calls) executes.calls) front.limit executes.follows);
+            (subst (λ (n : ℕ). Follows n (after_all start front.calls) executes.calls) front.limit executes.follows);
         limit = limit ∙ front.limit;
-        stands = subst (λ (s : State). steps.stands s new) (sym (after_more start front.calls executes.calls)) executes.leaves }
+        stands = subst (λ (s : State). steps.stands s new) (sym (after_more start front.calls executes.calls)) executes.leaves;
+      }
 
   -- a turn that goes on
   pub goes_on : (ahead after : List Line) (left before so_far now : List ℕ) (old middle new : S)
@@ -73,8 +80,8 @@ module _ {S : Type 0} (steps : Ghosts S) (start : State) (script : List Line) wh
       → Front steps start script after before now old new
   goes_on ahead after left before so_far now old middle new front turn limit =
       one_more turn.0 after before so_far now old middle new turn.2.0
-        (again ahead (turn.0 ∷ after) before so_far so_far old middle middle front turn.1 refl refl)
-        turn.2.1 turn.2.2 limit
+      (again ahead (turn.0 ∷ after) before so_far so_far old middle middle front turn.1 refl refl)
+      turn.2.1 turn.2.2 limit
 
   -- a turn that ends the run
   pub ends : (result : Status) (ahead after : List Line) (left before so_far now : List ℕ) (old middle new : S)
@@ -87,28 +94,46 @@ module _ {S : Type 0} (steps : Ghosts S) (start : State) (script : List Line) wh
       record { ahead = ahead; front = again ahead ahead before so_far now old middle new front refl turn.1 turn.2; begun = turn.0 }
   ends (status.ScriptTooLong lines bytes) ahead after left before so_far now old middle new front turn =
       record { ahead = ahead; front = again ahead ahead before so_far now old middle new front refl turn.1 turn.2; begun = turn.0 }
-  ends status.WriteFault ahead after left before so_far now old middle new front turn =
-      (turn.2.0, record {
-        line = turn.0; ahead = after; middle = middle; so_far = so_far;
-        front = again ahead (turn.0 ∷ after) before so_far so_far old middle middle front turn.1 refl refl;
-        answers = turn.2.1 })
+  ends status.WriteFault ahead after left before so_far now old middle new front turn = (
+    turn.2.0,
+    record {
+      line = turn.0;
+      ahead = after;
+      middle = middle;
+      so_far = so_far;
+      front = again ahead (turn.0 ∷ after) before so_far so_far old middle middle front turn.1 refl refl;
+      answers = turn.2.1;
+    },
+  )
   ends status.DiskFault ahead after left before so_far now old middle new front turn =
       record {
-        line = turn.0; ahead = after; middle = middle; so_far = so_far;
+        line = turn.0;
+        ahead = after;
+        middle = middle;
+        so_far = so_far;
         front = again ahead (turn.0 ∷ after) before so_far so_far old middle middle front turn.1 refl refl;
-        breaks = turn.2 }
+        breaks = turn.2;
+      }
   ends status.NoMemory ahead after left before so_far now old middle new front (inl turn) =
       inl (ahead, again ahead ahead before so_far now old middle new front refl turn.0 turn.1)
   ends status.NoMemory ahead after left before so_far now old middle new front (inr (line, one, inl answers)) =
       inr (inl (record {
-        line = line; ahead = after; middle = middle; so_far = so_far;
+        line = line;
+        ahead = after;
+        middle = middle;
+        so_far = so_far;
         front = again ahead (line ∷ after) before so_far so_far old middle middle front one refl refl;
-        answers = answers }))
+        answers = answers;
+      }))
   ends status.NoMemory ahead after left before so_far now old middle new front (inr (line, one, inr breaks)) =
       inr (inr (record {
-        line = line; ahead = after; middle = middle; so_far = so_far;
+        line = line;
+        ahead = after;
+        middle = middle;
+        so_far = so_far;
         front = again ahead (line ∷ after) before so_far so_far old middle middle front one refl refl;
-        breaks = breaks }))
+        breaks = breaks;
+      }))
   ends status.Usage ahead after left before so_far now old middle new front turn = absurd turn
   ends status.NotCreated ahead after left before so_far now old middle new front turn = absurd turn
   ends status.AlreadyCreated ahead after left before so_far now old middle new front turn = absurd turn

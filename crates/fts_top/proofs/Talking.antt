@@ -1,15 +1,15 @@
-use Rattle.std.proofs.Common.{◌≡◌, ◌⊎◌, ℕ, List, [], ◌∷◌, ◌++◌, refl, ap, subst, sym, ◌∙◌, append_assoc}
+use Rattle.std.proofs.Common.{◌≡◌, ℕ, List, [], ◌∷◌, ◌++◌, refl, ap, sym, ◌∙◌, append_assoc}
 use Rattle.std.proofs.lemmas.List.{append-nil}
-use Rattle.std.specs.Prelude.{Result, Ok, Err}
+use Rattle.std.specs.Prelude.{Ok}
 use Rattle.fts_commits.specs.Settings.{Settings}
 use Rattle.fts_io.specs.Text.{Line}
 use Rattle.fts_schema.specs.declared.reply.Reply.{Reply}
 use Rattle.fts_schema.specs.Reply.{text_of}
 use Rattle.fts_steps.specs.State.{State}
-use Rattle.fts_steps.specs.Step.{Ask, to_commit, to_find, Answer, committed, duplicate, full, found, disk_fault, no_memory, Call, after, after_all, Follows}
+use Rattle.fts_steps.specs.Step.{Ask, to_commit, Answer, committed, Call, after, after_all, Follows}
 use Rattle.fts_sessions.specs.Request.{Request, IsRequest}
 use Rattle.fts_sessions.specs.Conversation.{Converses}
-use Rattle.fts_top.specs.Talk.{First, Talks}
+use Rattle.fts_top.specs.Talk.{Talks}
 
 -- no step changes the settings
 pub settings_after : (state : State) (ask : Ask) (answer : Answer) → (after state ask answer).settings ≡ state.settings
@@ -35,24 +35,26 @@ pub talks_more : (settings : Settings) (lines : List Line) (calls : List Call) (
     → Talks settings lines calls text → IsRequest settings line request → Converses request [] here (Ok reply)
     → Talks settings (lines ++ line ∷ []) (calls ++ here) (text ++ text_of reply)
 talks_more settings [] calls text line request here reply talks asked converses = record {
-    request = request;
-    here = here;
-    more = [];
-    reply = reply;
-    rest = [];
-    asked = asked;
-    converses = converses;
-    calls_are = ap (λ (c : List Call). c ++ here) talks.0 ∙ sym (append-nil here);
-    text_is = ap (λ (t : List ℕ). t ++ text_of reply) talks.1 ∙ sym (append-nil (text_of reply));
-    goes_on = (refl, refl) }
+  request = request;
+  here = here;
+  more = [];
+  reply = reply;
+  rest = [];
+  asked = asked;
+  converses = converses;
+  calls_are = ap (λ (c : List Call). c ++ here) talks.0 ∙ sym (append-nil here);
+  text_is = ap (λ (t : List ℕ). t ++ text_of reply) talks.1 ∙ sym (append-nil (text_of reply));
+  goes_on = (refl, refl);
+}
 talks_more settings (first ∷ lines) calls text line request here reply talks asked converses = record {
-    request = talks.request;
-    here = talks.here;
-    more = talks.more ++ here;
-    reply = talks.reply;
-    rest = talks.rest ++ text_of reply;
-    asked = talks.asked;
-    converses = talks.converses;
-    calls_are = ap (λ (c : List Call). c ++ here) talks.calls_are ∙ append_assoc talks.here talks.more here;
-    text_is = ap (λ (t : List ℕ). t ++ text_of reply) talks.text_is ∙ append_assoc (text_of talks.reply) talks.rest (text_of reply);
-    goes_on = talks_more settings lines talks.more talks.rest line request here reply talks.goes_on asked converses }
+  request = talks.request;
+  here = talks.here;
+  more = talks.more ++ here;
+  reply = talks.reply;
+  rest = talks.rest ++ text_of reply;
+  asked = talks.asked;
+  converses = talks.converses;
+  calls_are = ap (λ (c : List Call). c ++ here) talks.calls_are ∙ append_assoc talks.here talks.more here;
+  text_is = ap (λ (t : List ℕ). t ++ text_of reply) talks.text_is ∙ append_assoc (text_of talks.reply) talks.rest (text_of reply);
+  goes_on = talks_more settings lines talks.more talks.rest line request here reply talks.goes_on asked converses;
+}

@@ -1,5 +1,5 @@
-use Rattle.std.proofs.Common.{◌≡◌, ◌⊎◌, ℕ, List, [], ◌∷◌, ◌++◌, refl, ap, subst, sym, ◌∙◌, inl, inr, append-nil}
-use Rattle.std.specs.Prelude.{Result, Ok, Err, IsOk, take}
+use Rattle.std.proofs.Common.{◌≡◌, ℕ, List, [], ◌∷◌, refl, subst, sym, ◌∙◌, inl, inr, append-nil}
+use Rattle.std.specs.Prelude.{Result, Ok, Err, IsOk}
 use Rattle.fts_io.specs.Text.{Line, too_long}
 use Rattle.fts_schema.specs.declared.reply.Reply.{Reply}
 use Rattle.fts_schema.specs.declared.reply.Reply.TheVariants.{LineTooLong}
@@ -46,10 +46,10 @@ module _ {S : Type 0} (steps : Ghosts S) (state : State) where
       sent turn line reply ahead after left before now old new one executes tells
   told turn line (Err NoMemory) ahead after left before now old new one executes tells =
       subst (λ (t : Turn). Turns steps t state ahead after left before now old new) (sym tells.0)
-        (inr (line, one, inr (record { executes = executes; written = tells.1 })))
+      (inr (line, one, inr (record { executes = executes; written = tells.1 })))
   told turn line (Err DiskFault) ahead after left before now old new one executes tells =
       subst (λ (t : Turn). Turns steps t state ahead after left before now old new) (sym tells.0)
-        (line, one, record { executes = executes; written = tells.1 })
+      (line, one, record { executes = executes; written = tells.1 })
 
   -- where a line has its reply the engine stands for a state again
   pub stands_on : (line : Line) (outcome : Result Reply Ended) (old new : S) → IsOk outcome → Executes steps state line old outcome new

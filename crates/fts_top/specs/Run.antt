@@ -99,7 +99,7 @@ Turns steps (Over status.DiskFault) state ahead after left before now old new =
 Turns steps (Over status.NoMemory) state ahead after left before now old new =
     ((now ≡ before) × (new ≡ old))
     ⊎ ((line : Line) × (ahead ≡ line ∷ after)
-        × (Answers steps state line 0 before now old new ⊎ Breaks steps state line NoMemory before now old new))
+    × (Answers steps state line 0 before now old new ⊎ Breaks steps state line NoMemory before now old new))
 Turns steps (Over status.Usage) state ahead after left before now old new = ⊥
 Turns steps (Over status.NotCreated) state ahead after left before now old new = ⊥
 Turns steps (Over status.AlreadyCreated) state ahead after left before now old new = ⊥

@@ -10,3 +10,6 @@ pub use command::{Command, command_of};
 pub use once::fts_once;
 pub use script::run;
 pub use status::{Device, Status};
+
+#[cfg(test)]
+mod tests;

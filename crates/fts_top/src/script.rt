@@ -61,7 +61,7 @@ fn one_line<I: Source, O: Sink, S: EngineSteps, G: Gate>(
     requires ready { IsTrue S.tells → (state : State) × S.stands state steps.old }
     ensures turns { IsTrue I.tells → IsTrue O.tells → IsTrue S.tells → (state : State) → S.stands state steps.old
         → Turns S.EngineSteps result state (ahead lines.old (I.left input.old)) (ahead lines.new (I.left input.new)) (I.left input.new)
-            (O.holds out.old) (O.holds out.new) steps.old steps.new }
+        (O.holds out.old) (O.holds out.new) steps.old steps.new }
     ensures ends { GoesOnOrEnds result }
     ensures ready { IsTrue S.tells → (state : State) → S.stands state steps.old → result ≡ Turn.More → (after : State) × S.stands after steps.new }
     ensures limit { S.limit steps.new ≡ S.limit steps.old }
@@ -80,7 +80,10 @@ fn one_line<I: Source, O: Sink, S: EngineSteps, G: Gate>(
         Next::Line(line) => answer(alloc, out, session.execute(steps, gate, &line)),
         Next::TooLong { line: _ } => send(alloc, out, &Reply::LineTooLong),
         Next::End => Turn::Over(Status::Done),
-        Next::Endless { bytes } => Turn::Over(Status::ScriptTooLong { lines: lines.given(), bytes }),
+        Next::Endless { bytes } => Turn::Over(Status::ScriptTooLong {
+            lines: lines.given(),
+            bytes,
+        }),
         Next::ReadFault => Turn::Over(Status::ReadFault),
         Next::NoMemory => Turn::Over(Status::NoMemory),
     }

@@ -70,7 +70,10 @@ impl fmt::Display for Status {
             Status::DiskFault => write!(f, "disk fault"),
             Status::NotCreated => write!(f, "not created"),
             Status::AlreadyCreated => write!(f, "already created"),
-            Status::Damaged { device, file, at } => write!(f, "damaged {device} file {file} at {at}"),
+            Status::Damaged { device, file, at } => write!(
+                f,
+                "damaged {device} file {file} at {at}"
+            ),
             Status::ScriptTooLong { .. } => write!(f, "script too long"),
         }
     }

@@ -8,4 +8,4 @@ use Rattle.fts_engine.proofs.create.create_engine.Goals as goal
 pub returns-in-Ok-false-clause-fresh : goal.returns-in-Ok-false-clause-fresh
 returns-in-Ok-false-clause-fresh g c =
     always (IsTrue g.D.Disk.tells → IsCreated (g.D.Disk.seen c.args.rows 0) → ⊥) c.make.result
-      (λ told created. false≢true (sym c.in-Ok-false.field-0-test ∙ (c.in-Ok-false.ensures.created told).1 created))
+    (λ told created. false≢true (sym c.in-Ok-false.field-0-test ∙ (c.in-Ok-false.ensures.created told).1 created))

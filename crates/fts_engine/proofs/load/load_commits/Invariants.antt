@@ -1,6 +1,6 @@
-use Rattle.std.proofs.Common.{◌≡◌, ◌≤◌, ◌<◌, List, ℕ, [], IsTrue, length}
+use Rattle.std.proofs.Common.{◌≡◌, ◌≤◌, List, ℕ, [], IsTrue}
 use Rattle.fts_log.specs.Device.{LooksOnly}
-use Rattle.fts_log.specs.Log.{StandsFor, IsReady, KeepsMaking, device_of, found_count, count_of}
+use Rattle.fts_log.specs.Log.{StandsFor, IsReady, KeepsMaking, device_of, found_count}
 use Rattle.fts_engine.specs.Loading.{IsLoaded}
 use Rattle.fts_engine.proofs.load.load_commits.Given as goal
 
@@ -12,5 +12,5 @@ invariant-loop-k g l = record {
   looks : IsTrue g.D.Disk.tells → LooksOnly g.D.Disk (device_of l.initial.log) (device_of l.log);
   kept : KeepsMaking l.initial.log l.log;
   found : found_count l.log ≡ l.count;
-  never_falls : g.D.Disk.faults (device_of l.initial.log) ≤ g.D.Disk.faults (device_of l.log)
+  never_falls : g.D.Disk.faults (device_of l.initial.log) ≤ g.D.Disk.faults (device_of l.log);
 }

@@ -1,6 +1,4 @@
-use Rattle.std.proofs.Common.{rules}
 use Rattle.fts_io.specs.Text.{whole}
-use Rattle.fts_sessions.specs.Execute.{Executes}
 use Rattle.fts_top.proofs.Turning.{skips, sent, told, stands_on}
 use Rattle.fts_io.specs.Text.{too_long}
 use Rattle.fts_schema.specs.declared.reply.Reply.TheVariants.{LineTooLong}
@@ -10,22 +8,22 @@ use Rattle.fts_top.proofs.script.one_line.Goals as goal
 pub returns-in-Line-clause-turns : goal.returns-in-Line-clause-turns
 returns-in-Line-clause-turns g c tells_input tells_out tells_steps state stands =
     told g.S.EngineSteps state c.answer.result (whole c.in-Line.line.items) c.execute.result
-      (ahead c.args.lines.now (g.I.Source.left c.args.input.now)) (ahead c.next_line.new.self (g.I.Source.left c.next_line.new.source))
-      (g.I.Source.left c.next_line.new.source) (g.O.Sink.holds c.args.out.now) (g.O.Sink.holds c.answer.new.out) c.args.steps.now c.execute.new.steps
-      (c.in-Line.ensures.lines tells_input)
-      (rw c.deref.ensures.value at (c.execute.ensures.executes tells_steps state stands))
-      (c.answer.ensures.tells tells_out)
+    (ahead c.args.lines.now (g.I.Source.left c.args.input.now)) (ahead c.next_line.new.self (g.I.Source.left c.next_line.new.source))
+    (g.I.Source.left c.next_line.new.source) (g.O.Sink.holds c.args.out.now) (g.O.Sink.holds c.answer.new.out) c.args.steps.now c.execute.new.steps
+    (c.in-Line.ensures.lines tells_input)
+    (rw c.deref.ensures.value at (c.execute.ensures.executes tells_steps state stands))
+    (c.answer.ensures.tells tells_out)
 
 pub returns-in-TooLong-clause-turns : goal.returns-in-TooLong-clause-turns
 returns-in-TooLong-clause-turns g c tells_input tells_out tells_steps state stands =
     sent g.S.EngineSteps state c.send.result too_long LineTooLong
-      (ahead c.args.lines.now (g.I.Source.left c.args.input.now)) (ahead c.next_line.new.self (g.I.Source.left c.next_line.new.source))
-      (g.I.Source.left c.next_line.new.source) (g.O.Sink.holds c.args.out.now) (g.O.Sink.holds c.send.new.out) c.args.steps.now c.args.steps.now
-      (c.in-TooLong.ensures.lines tells_input)
-      (skips g.S.EngineSteps state c.args.steps.now stands)
-      (c.send.ensures.sends tells_out)
+    (ahead c.args.lines.now (g.I.Source.left c.args.input.now)) (ahead c.next_line.new.self (g.I.Source.left c.next_line.new.source))
+    (g.I.Source.left c.next_line.new.source) (g.O.Sink.holds c.args.out.now) (g.O.Sink.holds c.send.new.out) c.args.steps.now c.args.steps.now
+    (c.in-TooLong.ensures.lines tells_input)
+    (skips g.S.EngineSteps state c.args.steps.now stands)
+    (c.send.ensures.sends tells_out)
 
 pub returns-in-Line-clause-ready : goal.returns-in-Line-clause-ready
 returns-in-Line-clause-ready g c tells state stands more =
     stands_on g.S.EngineSteps state (whole c.deref.result.now) c.execute.result c.args.steps.now c.execute.new.steps
-      (c.answer.ensures.replied more) (c.execute.ensures.executes tells state stands)
+    (c.answer.ensures.replied more) (c.execute.ensures.executes tells state stands)

@@ -1,4 +1,4 @@
-use Rattle.std.proofs.Common.{rules, arith, inl, ℕ}
+use Rattle.std.proofs.Common.{arith, inl}
 use Rattle.fts_io.specs.Text.{lines_of}
 use Rattle.fts_io.specs.Reading.{ahead}
 use Rattle.fts_steps.specs.Step.{after_all}
@@ -11,25 +11,26 @@ returns-in-Err-clause-runs g c tells_input tells_out tells_steps start stands =
 
 pub lines-preserved : goal.lines-preserved
 lines-preserved g c = record {
-    ready = λ tells_steps. let old = c.lines.invariant.ready tells_steps in c.one_line.ensures.ready tells_steps old.0 old.1 c.in-More.is;
-    front = λ tells_input tells_out tells_steps start stands.
+  ready = λ tells_steps. let old = c.lines.invariant.ready tells_steps in c.one_line.ensures.ready tells_steps old.0 old.1 c.in-More.is;
+  front = λ tells_input tells_out tells_steps start stands.
       let front = c.lines.invariant.front tells_input tells_out tells_steps start stands in
       goes_on g.S.EngineSteps start (lines_of (g.I.Source.left c.args.input.now))
-        (ahead c.lines.lines (g.I.Source.left c.lines.input)) (ahead c.one_line.new.lines (g.I.Source.left c.one_line.new.input))
-        (g.I.Source.left c.one_line.new.input) (g.O.Sink.holds c.args.out.now) (g.O.Sink.holds c.lines.out) (g.O.Sink.holds c.one_line.new.out)
-        c.args.steps.now c.lines.steps c.one_line.new.steps front
-        (c.in-More.ensures.turns tells_input tells_out tells_steps (after_all start front.calls) front.stands)
-        c.one_line.ensures.limit;
-    counts = λ tells. let one = c.one_line.ensures.counts tells in let old = c.lines.invariant.counts tells in omega arith;
-    input_never_falls = omega arith;
-    out_never_falls = omega arith;
-    steps_never_fall = omega arith }
+      (ahead c.lines.lines (g.I.Source.left c.lines.input)) (ahead c.one_line.new.lines (g.I.Source.left c.one_line.new.input))
+      (g.I.Source.left c.one_line.new.input) (g.O.Sink.holds c.args.out.now) (g.O.Sink.holds c.lines.out) (g.O.Sink.holds c.one_line.new.out)
+      c.args.steps.now c.lines.steps c.one_line.new.steps front
+      (c.in-More.ensures.turns tells_input tells_out tells_steps (after_all start front.calls) front.stands)
+      c.one_line.ensures.limit;
+  counts = λ tells. let one = c.one_line.ensures.counts tells in let old = c.lines.invariant.counts tells in omega arith;
+  input_never_falls = omega arith;
+  out_never_falls = omega arith;
+  steps_never_fall = omega arith;
+}
 
 pub returns-in-Over-clause-runs : goal.returns-in-Over-clause-runs
 returns-in-Over-clause-runs g c tells_input tells_out tells_steps start stands =
     let front = c.lines.invariant.front tells_input tells_out tells_steps start stands in
     ends g.S.EngineSteps start (lines_of (g.I.Source.left c.args.input.now)) c.in-Over.status
-      (ahead c.lines.lines (g.I.Source.left c.lines.input)) (ahead c.one_line.new.lines (g.I.Source.left c.one_line.new.input))
-      (g.I.Source.left c.one_line.new.input) (g.O.Sink.holds c.args.out.now) (g.O.Sink.holds c.lines.out) (g.O.Sink.holds c.one_line.new.out)
-      c.args.steps.now c.lines.steps c.one_line.new.steps front
-      (c.in-Over.ensures.turns tells_input tells_out tells_steps (after_all start front.calls) front.stands)
+    (ahead c.lines.lines (g.I.Source.left c.lines.input)) (ahead c.one_line.new.lines (g.I.Source.left c.one_line.new.input))
+    (g.I.Source.left c.one_line.new.input) (g.O.Sink.holds c.args.out.now) (g.O.Sink.holds c.lines.out) (g.O.Sink.holds c.one_line.new.out)
+    c.args.steps.now c.lines.steps c.one_line.new.steps front
+    (c.in-Over.ensures.turns tells_input tells_out tells_steps (after_all start front.calls) front.stands)

@@ -1,4 +1,4 @@
-use Rattle.std.proofs.Common.{◌≡◌, ◌+◌, ◌≤◌, ℕ, IsTrue, length}
+use Rattle.std.proofs.Common.{◌≡◌, ◌+◌, ◌≤◌, IsTrue, length}
 use Rattle.fts_io.specs.Text.{lines_of}
 use Rattle.fts_io.specs.Reading.{ahead, taken_by, work_left}
 use Rattle.fts_steps.specs.State.{State}
@@ -10,11 +10,11 @@ invariant-lines g l = record {
   ready : IsTrue g.S.EngineSteps.tells → (state : State) × g.S.EngineSteps.stands state l.steps;
   front : IsTrue g.I.Source.tells → IsTrue g.O.Sink.tells → IsTrue g.S.EngineSteps.tells → (start : State) → g.S.EngineSteps.stands start l.initial.steps
       → Front g.S.EngineSteps start (lines_of (g.I.Source.left l.initial.input)) (ahead l.lines (g.I.Source.left l.input))
-          (g.O.Sink.holds l.initial.out) (g.O.Sink.holds l.out) l.initial.steps l.steps;
+      (g.O.Sink.holds l.initial.out) (g.O.Sink.holds l.out) l.initial.steps l.steps;
   counts : IsTrue g.I.Source.tells → taken_by l.lines + length (g.I.Source.left l.input) ≡ length (g.I.Source.left l.initial.input);
   input_never_falls : g.I.Source.faults l.initial.input ≤ g.I.Source.faults l.input;
   out_never_falls : g.O.Sink.faults l.initial.out ≤ g.O.Sink.faults l.out;
-  steps_never_fall : g.S.EngineSteps.faults l.initial.steps ≤ g.S.EngineSteps.faults l.steps
+  steps_never_fall : g.S.EngineSteps.faults l.initial.steps ≤ g.S.EngineSteps.faults l.steps;
 }
 
 abbrev pub decreases-lines : goal.decreases-lines
