@@ -19,10 +19,7 @@ use Rattle.fts_turn.specs.Views.{IsOut, both_parts, spent_part}
 use Rattle.fts_turn.specs.Promises.{number_in, gave_in, seen_in, seats_of, opening_of, IsSeat, IsToldBy, Numbered, AreAccountsOf, IsGathered, HasWholeHistory}
 use Rattle.fts_turn.proofs.Steps.{keeps_rule, rests_not_out}
 use Rattle.fts_turn.proofs.Parts.{joins}
-
-pub Numbered-at : {A : Type 0} (P : ℕ → A → Type 0) (k : ℕ) (xs ys : List A) (x : A) → Numbered P k (xs ++ x ∷ ys) → P (k + length xs) x
-Numbered-at P k [] ys x all = subst (λ n. P n x) (let e : k ≡ k + 0 = omega arith in e) all.0
-Numbered-at P k (z ∷ xs) ys x all = subst (λ n. P n x) (let e : suc k + length xs ≡ k + suc (length xs) = omega arith in e) (Numbered-at P (suc k) xs ys x all.1)
+use Rattle.fts_turn.proofs.Seats.{Numbered-at}
 
 -- of the seats in their order, those behind were taken in by one seat, and those in front were not
 pub record IsGathering {T E : Type 0} (turn : Turn T E) (seats front : List (Seat T E)) (all : Seat T E) : Type 0 where

@@ -4,3 +4,4 @@ pub mod Parts
 pub mod Words
 pub mod Seats
 pub mod Closing
+pub mod Counting

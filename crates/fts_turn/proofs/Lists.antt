@@ -32,6 +32,9 @@ module _ {E : Type 0} where
   pub begins_more : (seen history added : List E) → Begins seen history → Begins seen (history ++ added)
   begins_more seen history added b = (b.0 ++ added, ap (λ h. h ++ added) b.1 ∙ append_assoc seen b.0 added)
 
+  pub begins_further : (seen later history : List E) → Begins seen later → Begins later history → Begins seen history
+  begins_further seen later history b c = (b.0 ++ c.0, c.1 ∙ ap (λ l. l ++ c.0) b.1 ∙ append_assoc seen b.0 c.0)
+
   module _ (by : E → ℕ) where
     pub entries_by-append : (k : ℕ) (xs ys : List E) → entries_by by k (xs ++ ys) ≡ entries_by by k xs ++ entries_by by k ys
     entries_by-append k xs ys = filter-append (λ e. by e == k) xs ys

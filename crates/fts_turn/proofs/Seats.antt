@@ -10,7 +10,7 @@ use Rattle.fts_turn.specs.declared.view.View.{View}
 use Rattle.fts_turn.specs.Rule.{Fits}
 use Rattle.fts_turn.specs.Steps.{Seated}
 use Rattle.fts_turn.specs.Views.{first_view, new_account, account_beside, kept_part, new_part}
-use Rattle.fts_turn.specs.Promises.{number_in, gave_in, seen_in, seats_of, opening_of, IsUnused, IsSeat, IsMaker, Numbered}
+use Rattle.fts_turn.specs.Promises.{number_in, gave_in, seen_in, seats_of, opening_of, IsUnused, IsSameSeat, IsAtRest, IsSeat, IsMaker, Numbered}
 use Rattle.fts_turn.proofs.Steps.{keeps_rule}
 use Rattle.fts_turn.proofs.Parts.{splits}
 
@@ -18,6 +18,20 @@ use Rattle.fts_turn.proofs.Parts.{splits}
 pub Numbered-snoc : {A : Type 0} (P : ℕ → A → Type 0) (k : ℕ) (xs : List A) (x : A) → Numbered P k xs → P (k + length xs) x → Numbered P k (xs ++ x ∷ [])
 Numbered-snoc P k [] x all here = (subst (λ n. P n x) (let e : k + 0 ≡ k = omega arith in e) here, tt)
 Numbered-snoc P k (y ∷ xs) x all here = (all.0, Numbered-snoc P (suc k) xs x all.1 (subst (λ n. P n x) (let e : k + suc (length xs) ≡ suc k + length xs = omega arith in e) here))
+
+-- the item at a place
+pub Numbered-at : {A : Type 0} (P : ℕ → A → Type 0) (k : ℕ) (xs ys : List A) (x : A) → Numbered P k (xs ++ x ∷ ys) → P (k + length xs) x
+Numbered-at P k [] ys x all = subst (λ n. P n x) (let e : k ≡ k + 0 = omega arith in e) all.0
+Numbered-at P k (z ∷ xs) ys x all = subst (λ n. P n x) (let e : suc k + length xs ≡ k + suc (length xs) = omega arith in e) (Numbered-at P (suc k) xs ys x all.1)
+
+-- those in front
+pub Numbered-front : {A : Type 0} (P : ℕ → A → Type 0) (k : ℕ) (xs ys : List A) → Numbered P k (xs ++ ys) → Numbered P k xs
+Numbered-front P k [] ys all = tt
+Numbered-front P k (x ∷ xs) ys all = (all.0, Numbered-front P (suc k) xs ys all.1)
+
+-- a seat that was used and rests again is at its place
+pub same_place : {T E : Type 0} (turn : Turn T E) (number : ℕ) (old new : Seat T E) → IsSeat turn number old → IsAtRest turn new → IsSameSeat old new → IsSeat turn number new
+same_place turn number old new is rest same = record { rest = rest; number_is = same.number ∙ is.number_is; last = λ e. same.makes ∙ is.last e; others = λ e. same.makes ∙ is.others e }
 
 module _ {T E : Type 0} (stands_for : T → T → List E → Type 0) (at_first : T → ℕ) (by : E → ℕ) (start : T) where
   -- the rule holds of the value alone and the first seat

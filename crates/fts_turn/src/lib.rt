@@ -20,3 +20,6 @@ pub use turn::Turn;
 
 /// The most seats that a turn may have.
 pub const MOST_SEATS: usize = 18;
+
+#[cfg(test)]
+mod tests;

@@ -237,7 +237,7 @@ fn value_of<T>(mut slots: Vec<Option<T>>) -> T
 }
 
 // Puts a seat behind the others. There is room for it.
-fn append<T: Historied>(all: &mut Vec<Seat<T>>, seat: Seat<T>)
+pub(crate) fn append<T: Historied>(all: &mut Vec<Seat<T>>, seat: Seat<T>)
     requires { vec_len all.old < vec_capacity all.old }
     ensures items { all.new.items ≡ all.old.items ++ seat ∷ [] }
     ensures room { vec_capacity all.old ≤ vec_capacity all.new }
