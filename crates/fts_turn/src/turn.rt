@@ -1,5 +1,5 @@
 //! The turn.
-ghost use Rattle.std.specs.Prelude.{◌≡◌, ◌+◌, ◌-◌, ◌^◌, ◌<◌, ◌≤◌, ◌++◌, ℕ, List, [], ◌∷◌, length, suc, vec_len, vec_capacity, Some, IfOk, IfErr};
+ghost use Rattle.std.specs.Prelude.{◌≡◌, ◌+◌, ◌<◌, ◌≤◌, ◌++◌, [], ◌∷◌, length, vec_len, vec_capacity, IfOk, IfErr};
 
 use crate::MOST_SEATS;
 use crate::historied::{Adds, Historied};
@@ -39,7 +39,6 @@ pub struct Turn<T: Historied> {
 impl<T: Historied> Turn<T> {
     ghost use Rattle.fts_turn.specs.Histories.{Begins, entries_by, AllBy};
     ghost use Rattle.fts_turn.specs.Promises.{seat_number, seat_gave, seat_seen, seat_turns, seats_of, opening_of, IsAtRest, HasItsTurn, IsSameSeat, IsUnused, IsSeat, IsMaker, IsWaiting, IsServedAt, IsGathered, Numbered, HasWholeHistory};
-    ghost use Rattle.fts_turn.specs.declared.TheConstants.{MOST_SEATS};
 
     /// A turn with this value, and its seats, with numbers from 0 on in their order. There are 1 to 18 seats.
     ///
@@ -101,7 +100,9 @@ impl<T: Historied> Turn<T> {
         all
     }
 
-    /// Waits until the seat has the turn, and hands out the value.
+    /// Waits until the seat has the turn, and hands out the value. The seat is at rest.
+    ///
+    /// It may wait for ever: while another seat keeps the turn, or after 2^63 turns.
     ///
     /// The value stands for a history that begins with all that the seat had seen. Of the seat's own entries the
     /// history has those that it gave, each once.
@@ -142,9 +143,9 @@ impl<T: Historied> Turn<T> {
         unreachable!()
     }
 
-    /// Puts the value back, with `added` entries more, and lets the next seat have the turn.
+    /// Puts the value back, with `added` entries more, and lets the next seat have the turn. The seat has the turn.
     ///
-    /// `B` names the entries.
+    /// `B` names the entries, all of this seat's number. It takes no memory and waits for nobody.
     pub fn give<B: Adds<T::Entry>>(&self, seat: &mut Seat<T>, value: T, added: u64)
         requires turn { HasItsTurn self.now seat.old }
         requires count { length B.added ≡ added }
@@ -171,7 +172,7 @@ impl<T: Historied> Turn<T> {
     /// Hands out the value at the end. The seats are all that `make` gave, in their order, and each is at rest.
     ///
     /// The value stands for one history. What each seat has seen begins it, and it has the entries that the seats gave
-    /// and no others.
+    /// and no others. It takes no memory and waits for nobody.
     pub fn close(self, seats: Vec<Seat<T>>) -> T
         requires count { length seats.items ≡ seats_of self }
         requires seats { Numbered (IsSeat self) 0 seats.items }
