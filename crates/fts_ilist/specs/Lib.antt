@@ -1,0 +1,5 @@
+pub mod Number
+pub mod Spelling
+pub mod Fault
+pub mod Reading
+pub mod Progress
