@@ -73,8 +73,8 @@ pub takes_group : (bytes : List ℕ) (i value byte : ℕ) → TakesGroups bytes 
     → TakesGroups bytes (i + 1) (value * 128 + byte)
 takes_group bytes i value byte t e small positive = record {
   front = t.front ∙ ap (λ (w : List ℕ). all_groups value ++ w) e
-    ∙ sym (append_assoc (all_groups value) (byte ∷ []) (drop (i + 1) bytes))
-    ∙ ap (λ (w : List ℕ). w ++ drop (i + 1) bytes) (sym (one_more_group value byte small positive));
+      ∙ sym (append_assoc (all_groups value) (byte ∷ []) (drop (i + 1) bytes))
+      ∙ ap (λ (w : List ℕ). w ++ drop (i + 1) bytes) (sym (one_more_group value byte small positive));
   same = t.same ∙ ap (items_after value) e ∙ reads_group value byte (drop (i + 1) bytes) small positive;
 }
 
@@ -101,8 +101,8 @@ none_from_zero bytes i value byte t e zeros b =
     let v : value ≡ 0 = omega arith in
     let w : byte ≡ 0 = omega arith in
     no_end b.0 (items_after 0 (drop (i + 1) bytes)) (items_after 0 b.1)
-        (sym (ap (λ (x : ℕ). items_after x (drop i bytes)) v ∙ ap (items_after 0) (e ∙ ap (λ (x : ℕ). x ∷ drop (i + 1) bytes) w) ∙ reads_end (drop (i + 1) bytes))
-        ∙ number_read bytes i value b.0 b.1 t b.3)
+    (sym (ap (λ (x : ℕ). items_after x (drop i bytes)) v ∙ ap (items_after 0) (e ∙ ap (λ (x : ℕ). x ∷ drop (i + 1) bytes) w) ∙ reads_end (drop (i + 1) bytes))
+    ∙ number_read bytes i value b.0 b.1 t b.3)
 
 nothing_after : (v n : ℕ) (others : List Item) → items_after v [] ≡ increase n ∷ others → ⊥
 unfolding items_after

@@ -58,15 +58,15 @@ never_stuck bytes from at s js last e all g =
     let same : items_bytes items ++ drop at bytes ≡ items_bytes js ++ [] = sym g.reads.parts ∙ e ∙ sym (append-nil (items_bytes js)) in
     elim (cases_order (length (drop at bytes)) 0) [
       | inl zero_len ↦
-        let r = equally_long items js (drop at bytes) [] same zero_len in
-        let here : Runs s items (between last) = subst (λ (w : List Item). Runs s w (between last)) (sym r.0) all in
-        g.stuck.unfinished last r.1 (runs_same items s g.state (between last) g.reads.runs here)
+          let r = equally_long items js (drop at bytes) [] same zero_len in
+          let here : Runs s items (between last) = subst (λ (w : List Item). Runs s w (between last)) (sym r.0) all in
+          g.stuck.unfinished last r.1 (runs_same items s g.state (between last) g.reads.runs here)
       | inr (inl lt) ↦ absurd (omega arith)
       | inr (inr lt) ↦
-        let r = longer items js (drop at bytes) [] same lt in
-        let p = runs_split items (r.item ∷ r.more) s (between last) (subst (λ (w : List Item). Runs s w (between last)) r.items_are all) in
-        let f = first_of_run r.item r.more p.0 (between last) p.2 in
-        g.stuck.none r.item (items_bytes r.more ++ []) f.0 r.bytes_are (subst (λ (w : State). Runs w (r.item ∷ []) f.0) (runs_same items s p.0 g.state p.1 g.reads.runs) f.1)
+          let r = longer items js (drop at bytes) [] same lt in
+          let p = runs_split items (r.item ∷ r.more) s (between last) (subst (λ (w : List Item). Runs s w (between last)) r.items_are all) in
+          let f = first_of_run r.item r.more p.0 (between last) p.2 in
+          g.stuck.none r.item (items_bytes r.more ++ []) f.0 r.bytes_are (subst (λ (w : State). Runs w (r.item ∷ []) f.0) (runs_same items s p.0 g.state p.1 g.reads.runs) f.1)
     ]
 
 pub stuck_is_fault : (bytes : List ℕ) (at : ℕ) → GetsStuck bytes 0 (between 0) at → IsFirstFault bytes at
@@ -84,7 +84,7 @@ stuck_is_fault bytes at g = record {
 begins_front : (items : List Item) (item : Item) (more : List Item) → BeginsList (items ++ item ∷ more) → BeginsList (items ++ item ∷ [])
 begins_front items item more b =
     let regroup : items ++ item ∷ more ++ b.1 ≡ (items ++ item ∷ []) ++ (more ++ b.1)
-        = append_assoc items (item ∷ more) b.1 ∙ sym (append_assoc items (item ∷ []) (more ++ b.1)) in
+    = append_assoc items (item ∷ more) b.1 ∙ sym (append_assoc items (item ∷ []) (more ++ b.1)) in
     (b.0, more ++ b.1, b.2, b.3 ∙ regroup)
 
 not_before : (bytes : List ℕ) (a b : ℕ) → IsFirstFault bytes a → IsFirstFault bytes b → a < b → ⊥

@@ -101,12 +101,12 @@ grows v n [] items h e = absurd cc
 grows v n (b ∷ bs) items h e =
     elim (cases_lt b 128) [
       | inl lt ↦
-        let more : v * 128 + b ≤ (v * 128 + b) * 128 = omega arith in
-        let rest : (v * 128 + b) * 128 ≤ n = grows (v * 128 + b) n bs items (omega arith) (sym (reads_group v b bs lt (omega arith)) ∙ e) in
-        omega arith
+          let more : v * 128 + b ≤ (v * 128 + b) * 128 = omega arith in
+          let rest : (v * 128 + b) * 128 ≤ n = grows (v * 128 + b) n bs items (omega arith) (sym (reads_group v b bs lt (omega arith)) ∙ e) in
+          omega arith
       | inr le ↦
-        let same : v * 128 + (b - 128) ≡ n = first_is (v * 128 + (b - 128)) n (items_after 0 bs) items (sym (reads_last v b bs le) ∙ e) in
-        omega arith
+          let same : v * 128 + (b - 128) ≡ n = first_is (v * 128 + (b - 128)) n (items_after 0 bs) items (sym (reads_last v b bs le) ∙ e) in
+          omega arith
     ]
 
 -- ---- lengths

@@ -1,3 +1,4 @@
+pub mod Rows
 pub mod Groups
 pub mod Items
 pub mod Postings
@@ -6,3 +7,5 @@ pub mod Faults
 pub mod Codec
 pub mod Reader
 pub mod Tails
+pub mod Lists
+pub mod Merging

@@ -40,7 +40,7 @@ positions_back next (q ∷ qs) h =
 pub positions_in-bytes : (next : ℕ) (qs : List ℕ) → PositionsFrom next qs → positions_in next (items_bytes (position_items next qs)) ≡ qs
 positions_in-bytes next qs h =
     let whole : items_after 0 (items_bytes (position_items next qs)) ≡ position_items next qs
-        = ap (items_after 0) (sym (append-nil (items_bytes (position_items next qs)))) ∙ reads_items (position_items next qs) [] ∙ ap (λ (w : List Item). position_items next qs ++ w) nothing ∙ append-nil (position_items next qs) in
+    = ap (items_after 0) (sym (append-nil (items_bytes (position_items next qs)))) ∙ reads_items (position_items next qs) [] ∙ ap (λ (w : List Item). position_items next qs ++ w) nothing ∙ append-nil (position_items next qs) in
     ap (positions_of next) whole ∙ positions_back next qs h
 
 pub position_items-append : (next : ℕ) (a b : List ℕ) → position_items next (a ++ b) ≡ position_items next a ++ position_items (next_at_end next a) b

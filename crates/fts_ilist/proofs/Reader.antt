@@ -50,15 +50,15 @@ one_more_position bytes start at next value end r i =
     let le : next_at_end 0 r.positions ≤ p = omega (arith, i.above, r.next_is) in
     let small : p ≤ 131071 = omega (arith, i.above, i.within_limit) in
     let one : number_bytes (value - next) ≡ items_bytes (position_items (next_at_end 0 r.positions) (p ∷ []))
-        = ap (λ (w : ℕ). number_bytes (w - next)) (sym e) ∙ ap (λ (w : ℕ). number_bytes (p + 1 - w)) r.next_is ∙ sym (append-nil (number_bytes (p + 1 - next_at_end 0 r.positions))) in
+    = ap (λ (w : ℕ). number_bytes (w - next)) (sym e) ∙ ap (λ (w : ℕ). number_bytes (p + 1 - w)) r.next_is ∙ sym (append-nil (number_bytes (p + 1 - next_at_end 0 r.positions))) in
     record {
       positions = r.positions ++ p ∷ [];
       from = PositionsFrom-push 0 r.positions p r.from le small;
       next_is = sym e ∙ sym (next_at_end-push 0 r.positions p);
       parts = r.parts
-        ∙ ap (λ (w : List ℕ). items_bytes (position_items 0 r.positions) ++ w) (i.parts ∙ ap (λ (w : List ℕ). w ++ drop end bytes) one)
-        ∙ sym (bytes_append (position_items 0 r.positions) (position_items (next_at_end 0 r.positions) (p ∷ [])) (drop end bytes))
-        ∙ ap (λ (w : List Item). items_bytes w ++ drop end bytes) (sym (position_items-append 0 r.positions (p ∷ [])));
+          ∙ ap (λ (w : List ℕ). items_bytes (position_items 0 r.positions) ++ w) (i.parts ∙ ap (λ (w : List ℕ). w ++ drop end bytes) one)
+          ∙ sym (bytes_append (position_items 0 r.positions) (position_items (next_at_end 0 r.positions) (p ∷ [])) (drop end bytes))
+          ∙ ap (λ (w : List Item). items_bytes w ++ drop end bytes) (sym (position_items-append 0 r.positions (p ∷ [])));
       order = omega (arith, r.order, i.order);
       within = i.within;
     }
@@ -100,8 +100,8 @@ stuck_inside bytes at id next no_increase no_end = record {
   none = λ item. elim item as (λ i. (rest : List ℕ) (t : State) → drop at bytes ≡ item_bytes i ++ rest → Runs (inside id next) (i ∷ []) t → ⊥) [
     | increase n ↦ λ rest t e run. no_increase n rest e run.0 run.1
     | document_end ↦ λ rest t e run.
-      let within : at < length bytes = within_bytes bytes at 0 rest e in
-      no_end run.0 within (head_is (get_or bytes at 0) 0 (drop (at + 1) bytes) rest (sym (drop_more bytes at 0 within) ∙ e))
+        let within : at < length bytes = within_bytes bytes at 0 rest e in
+        no_end run.0 within (head_is (get_or bytes at 0) 0 (drop (at + 1) bytes) rest (sym (drop_more bytes at 0 within) ∙ e))
   ];
   unfinished = λ last e same. inside_is_not_between id next last same;
 }

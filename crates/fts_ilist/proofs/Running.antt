@@ -48,7 +48,7 @@ pub posting_runs : (last : ℕ) (d : Posting) → last < d.id → d.id < 2 ^ 63 
 posting_runs last d above limit are =
     let e : last + (d.id - last) ≡ d.id = omega arith in
     let body : Runs (inside d.id 0) (position_items 0 d.positions ++ document_end ∷ []) (between d.id)
-        = runs_append (position_items 0 d.positions) (document_end ∷ []) (inside d.id 0) (inside d.id (next_at_end 0 d.positions)) (between d.id) (positions_run d.id 0 d.positions are.1) (next_positive 0 d.positions (omega (arith, are.0)), refl) in
+    = runs_append (position_items 0 d.positions) (document_end ∷ []) (inside d.id 0) (inside d.id (next_at_end 0 d.positions)) (between d.id) (positions_run d.id 0 d.positions are.1) (next_positive 0 d.positions (omega (arith, are.0)), refl) in
     let positive : 0 < d.id - last = omega arith in
     let small : last + (d.id - last) < 2 ^ 63 = omega arith in
     (positive, small, subst (λ (w : ℕ). Runs (inside w 0) (position_items 0 d.positions ++ document_end ∷ []) (between d.id)) (sym e) body)
@@ -91,9 +91,9 @@ runs_back (increase n ∷ items) (between last) end h =
     let d : Posting = record { id = last + n; positions = r.positions } in
     let e : last + n - last ≡ n = omega arith in
     let one : increase n ∷ items ≡ posting_items last d ++ r.others
-        = ap (λ (w : List Item). increase n ∷ w) r.items_are
-        ∙ ap (λ (w : ℕ). increase w ∷ (position_items 0 r.positions ++ document_end ∷ r.others)) (sym e)
-        ∙ sym (posting_regroup last d r.others) in
+    = ap (λ (w : List Item). increase n ∷ w) r.items_are
+    ∙ ap (λ (w : ℕ). increase w ∷ (position_items 0 r.positions ++ document_end ∷ r.others)) (sym e)
+    ∙ sym (posting_regroup last d r.others) in
     let above : last < last + n = omega (arith, h.0) in
     let some : 0 < length r.positions = omega (arith, r.some) in
     record {

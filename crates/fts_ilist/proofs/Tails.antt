@@ -42,7 +42,7 @@ position_tail bytes next value end t i =
     let e : value - 1 + 1 ≡ value = omega (arith, i.above) in
     let from : PositionsFrom next ((value - 1) ∷ rest) = subst (PositionsFrom next) step t.from in
     let spelled : bytes ≡ number_bytes (value - next) ++ items_bytes (position_items value rest)
-        = t.spelled ∙ ap (λ (w : List ℕ). items_bytes (position_items next w)) step ∙ ap (λ (w : ℕ). number_bytes (w - next) ++ items_bytes (position_items w rest)) e in
+    = t.spelled ∙ ap (λ (w : List ℕ). items_bytes (position_items next w)) step ∙ ap (λ (w : ℕ). number_bytes (w - next) ++ items_bytes (position_items w rest)) e in
     record {
       limit = i.within_limit;
       from = subst (λ (w : ℕ). PositionsFrom w rest) e from.2;
@@ -75,7 +75,7 @@ encoded_is : (bytes : List ℕ) (last id start end : ℕ) (d : ReadsDocument byt
 encoded_is bytes last id start end d =
     let spelled = items_bytes (position_items 0 d.positions) in
     let len : length spelled ≡ end - 1 - start
-        = omega (arith, ap length d.body, length-append spelled (0 ∷ drop end bytes), length-drop start bytes, length-drop end bytes, d.order, d.within) in
+    = omega (arith, ap length d.body, length-append spelled (0 ∷ drop end bytes), length-drop start bytes, length-drop end bytes, d.order, d.within) in
     ap (take (end - 1 - start)) d.body ∙ take_at spelled (0 ∷ drop end bytes) (end - 1 - start) len
 
 encoded_gives : (bytes : List ℕ) (last id start end : ℕ) (d : ReadsDocument bytes 0 last id start end) → positions_in 0 (take (end - 1 - start) (drop start bytes)) ≡ d.positions
@@ -105,13 +105,13 @@ document_tail bytes last id start end t d =
     let p : Posting = record { id = id; positions = d.positions } in
     let rest = postings_in id (drop end bytes) in
     let step : postings_in last bytes ≡ p ∷ rest
-        = document_step bytes last id start end d ∙ ap (λ (w : List ℕ). let q : Posting = record { id = id; positions = w } in q ∷ rest) (encoded_gives bytes last id start end d) in
+    = document_step bytes last id start end d ∙ ap (λ (w : List ℕ). let q : Posting = record { id = id; positions = w } in q ∷ rest) (encoded_gives bytes last id start end d) in
     let after : PostingsAfter last (p ∷ rest) = subst (PostingsAfter last) step t.after in
     let spelled : bytes ≡ items_bytes (posting_items last p) ++ items_bytes (postings_items id rest)
-        = t.spelled ∙ ap (λ (w : List Posting). items_bytes (postings_items last w)) step
-        ∙ sym (append-nil (items_bytes (posting_items last p ++ postings_items id rest)))
-        ∙ bytes_append (posting_items last p) (postings_items id rest) []
-        ∙ ap (λ (w : List ℕ). items_bytes (posting_items last p) ++ w) (append-nil (items_bytes (postings_items id rest))) in
+    = t.spelled ∙ ap (λ (w : List Posting). items_bytes (postings_items last w)) step
+    ∙ sym (append-nil (items_bytes (posting_items last p ++ postings_items id rest)))
+    ∙ bytes_append (posting_items last p) (postings_items id rest) []
+    ∙ ap (λ (w : List ℕ). items_bytes (posting_items last p) ++ w) (append-nil (items_bytes (postings_items id rest))) in
     record {
       limit = d.limit;
       after = after.3;

@@ -3,3 +3,5 @@ pub mod Spelling
 pub mod Fault
 pub mod Reading
 pub mod Progress
+pub mod Changes
+pub mod Parsed

@@ -73,3 +73,7 @@ pub record ReadsDocument (bytes : List ℕ) (at last id start end : ℕ) : Type 
   pub front_order : at < start
   pub order : start < end
   pub within : end ≤ length bytes
+
+-- bytes were added at the end, or none
+abbrev pub Extends : List ℕ → List ℕ → Type 0
+Extends old new = (more : List ℕ) × (new ≡ old ++ more)

@@ -69,3 +69,8 @@ id_at_end before (p ∷ ps) = id_at_end p.id ps
 -- the id of the last document of a list, and 0 where there is none
 abbrev pub last_id : List Posting → ℕ
 last_id ps = id_at_end 0 ps
+
+-- a list has a first document, with this id
+abbrev pub HasFirstId : List Posting → ℕ → Type 0
+HasFirstId [] id = ⊥
+HasFirstId (p ∷ ps) id = p.id ≡ id

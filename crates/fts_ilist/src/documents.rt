@@ -1,9 +1,9 @@
 //! The documents of a list, and the positions of a document, read in place.
-ghost use Rattle.std.specs.Prelude.{◌≡◌, ℕ, ◌^◌, ◌<◌, ◌≤◌, List, length, drop};
+ghost use Rattle.std.specs.Prelude.{◌≡◌, ℕ, ◌^◌, ◌<◌, ◌≤◌, List, [], IfNone, IfSome};
 ghost use Rattle.std.specs.Iterator.{YieldsFirst, item_count};
-ghost use Rattle.fts_ilist.specs.Spelling.{Posting, ArePositions};
+ghost use Rattle.fts_ilist.specs.Spelling.{Posting, ArePositions, HasFirstId};
 
-use crate::reading::{LAST_POSITION, document_at, increase_at};
+use crate::reading::{LAST_ID, LAST_POSITION, document_at, increase_at};
 use std::iter::FusedIterator;
 use std::marker::Model;
 
@@ -109,6 +109,19 @@ impl<'a> Model for Documents<'a> {
     ghost view = { λ d. postings_in d.last d.rest.now };
 
     ghost invariant = { λ d. IsTail d.last d.rest.now };
+}
+
+impl<'a> Documents<'a> {
+    /// The id of the next document, where one is left. Nothing moves.
+    pub fn peek_id(&self) -> Option<u64>
+        ensures none { IfNone result (self.now ≡ []) }
+        ensures first { IfSome result (HasFirstId self.now) }
+    {
+        match increase_at(self.rest, 0, self.last, LAST_ID) {
+            Ok((id, _)) => Some(id),
+            Err(_) => None,
+        }
+    }
 }
 
 impl<'a> Iterator for Documents<'a> {

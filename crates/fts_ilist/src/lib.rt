@@ -5,9 +5,14 @@
 #![tactic(auto)]
 
 mod documents;
+mod list;
 mod number;
 mod reading;
 
 pub use documents::{Document, Documents, Positions};
+pub use list::{Ilist, ParseError, lists_have_one_spelling, parse};
 pub use number::{Bad, NUMBER_ROOM, numbers_have_one_spelling, put_number, take_number};
 pub use reading::{LAST_ID, LAST_POSITION};
+
+#[cfg(test)]
+mod tests;

@@ -105,8 +105,7 @@ pub fn take_number(bytes: &[u8]) -> Result<(u64, usize), Bad>
 /// Each number has one spelling, and none begins another.
 pub fn numbers_have_one_spelling()
     ensures { (m n : ℕ) (x y : List ℕ) → number_bytes m ++ x ≡ number_bytes n ++ y → (m ≡ n) × (x ≡ y) }
-{
-}
+{}
 
 /// Writes the number at the end.
 pub(crate) fn append_number(out: &mut Vec<u8>, n: u64) -> Result<(), AllocError>

@@ -18,7 +18,7 @@ pub returns-then-byte-ge128-clause-length : goal.returns-then-byte-ge128-clause-
 returns-then-byte-ge128-clause-length c =
     let e : drop c.loop-i.i c.args.bytes.now ≡ c.from-byte.result ∷ drop (c.loop-i.i + 1) c.args.bytes.now = cc (drop_more c.args.bytes.now c.loop-i.i 0 c.loop-i-test.true, c.from-byte.ensures) in
     length_at_last c.args.bytes.now c.loop-i.i _ c.loop-i-test.true
-        (takes_last c.args.bytes.now c.loop-i.i c.loop-i.value c.from-byte.result c.loop-i.invariant e (omega arith) (omega (arith, c.type_inv.bytes c.loop-i.i, c.from-byte.ensures)))
+    (takes_last c.args.bytes.now c.loop-i.i c.loop-i.value c.from-byte.result c.loop-i.invariant e (omega arith) (omega (arith, c.type_inv.bytes c.loop-i.i, c.from-byte.ensures)))
 
 pub returns-then-value-byte-eq0-clause-none : goal.returns-then-value-byte-eq0-clause-none
 returns-then-value-byte-eq0-clause-none c =

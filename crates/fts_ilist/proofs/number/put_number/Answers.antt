@@ -15,7 +15,7 @@ loop-at-init c =
     record {
       groups_left = omega (arith, length_number c.args.n);
       within = omega (arith, length-set c.args.buf.now at (c.args.n % 128 + 128));
-      written = ap (λ w. number_bytes c.args.n ++ drop w c.args.buf.now) (sym e) ∙ writes_last c.args.n at c.args.buf.now (omega arith) (omega arith)
+      written = ap (λ w. number_bytes c.args.n ++ drop w c.args.buf.now) (sym e) ∙ writes_last c.args.n at c.args.buf.now (omega arith) (omega arith);
     }
 
 pub loop-at-preserved : goal.loop-at-preserved
@@ -27,5 +27,5 @@ loop-at-preserved c =
       groups_left = omega (arith, length_all_groups c.loop-at.rest positive);
       within = omega (arith, length-set c.loop-at.buf at (c.loop-at.rest % 128));
       written = writes_group c.loop-at.rest at c.loop-at.buf _ (omega arith) (omega arith)
-        (c.loop-at.invariant.written ∙ ap (λ w. all_groups c.loop-at.rest ++ drop w c.loop-at.buf) e)
+          (c.loop-at.invariant.written ∙ ap (λ w. all_groups c.loop-at.rest ++ drop w c.loop-at.buf) e);
     }

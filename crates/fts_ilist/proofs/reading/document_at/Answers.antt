@@ -9,11 +9,11 @@ pub returns-in_err-id-clause-stuck : goal.returns-in_err-id-clause-stuck
 returns-in_err-id-clause-stuck c =
     let p = err_from_is_err_and c.from_residual.result c.from_residual.ensures.1 in
     rw (p.1, p.2)
-      (subst (λ at. GetsStuck c.args.bytes.now c.args.at (between c.args.last) at) (sym c.in_err-id.ensures.place)
-        (stuck_here c.args.bytes.now c.args.at _ (omega arith) (stuck_between c.args.bytes.now c.args.at c.args.last c.requires.within c.in_err-id.ensures.none)))
+    (subst (λ at. GetsStuck c.args.bytes.now c.args.at (between c.args.last) at) (sym c.in_err-id.ensures.place)
+    (stuck_here c.args.bytes.now c.args.at _ (omega arith) (stuck_between c.args.bytes.now c.args.at c.args.last c.requires.within c.in_err-id.ensures.none)))
 
 pub returns-in_err-end-clause-stuck : goal.returns-in_err-end-clause-stuck
 returns-in_err-end-clause-stuck c =
     let p = err_from_is_err_and c.from_residual-in_err-end.result c.from_residual-in_err-end.ensures.1 in
     rw (p.1, p.2)
-      (stuck_later _ _ _ _ _ _ (reads_increase c.args.bytes.now c.args.at c.args.last c.in_ok-id.id c.in_ok-id.start c.in_ok-id.ensures.found) (c.in_err-end.ensures.stuck c.in_ok-id.id))
+    (stuck_later _ _ _ _ _ _ (reads_increase c.args.bytes.now c.args.at c.args.last c.in_ok-id.id c.in_ok-id.start c.in_ok-id.ensures.found) (c.in_err-end.ensures.stuck c.in_ok-id.id))

@@ -12,5 +12,5 @@ returns-in_err-document-clause-fault c =
 pub loop-at-preserved : goal.loop-at-preserved
 loop-at-preserved c = record {
   reads = reads_on _ _ _ _ _ _ _ c.loop-at.invariant.reads (reads_document _ _ _ _ _ _ c.in_ok-document.ensures.found);
-  limit = c.in_ok-document.ensures.found.limit
+  limit = c.in_ok-document.ensures.found.limit;
 }
