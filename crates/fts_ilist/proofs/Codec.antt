@@ -1,12 +1,12 @@
 -- What the loops over the bytes of a number keep.
-use Rattle.std.proofs.Common.{◌≡◌, ◌≢◌, ℕ, zero, suc, ◌+◌, ◌-◌, ◌*◌, ◌/◌, ◌%◌, ◌^◌, ◌<◌, ◌≤◌, List, [], ◌∷◌, ◌++◌, length, get_or, set, drop, Result, Ok, Err, refl, sym, ap, subst, ◌∙◌, append_assoc, arith, inl, inr}
+use Rattle.std.proofs.Common.{◌≡◌, ℕ, zero, suc, ◌+◌, ◌-◌, ◌*◌, ◌/◌, ◌%◌, ◌^◌, ◌<◌, ◌≤◌, List, [], ◌∷◌, ◌++◌, length, set, drop, refl, sym, ap, ◌∙◌, append_assoc, arith, inl, inr}
 use Rattle.std.proofs.lemmas.Bool.{cases_lt}
-use Rattle.std.proofs.lemmas.List.{drop-set, drop_more, append-nil, length-append, length-drop, append_cancel_left, nil_from_length}
+use Rattle.std.proofs.lemmas.List.{drop-set, length-append, length-drop, append_cancel_left, nil_from_length}
 use Rattle.fts_ilist.specs.Number.{number_bytes, BeginsWithNumber}
 use Rattle.fts_ilist.specs.Spelling.{Item}
 use Rattle.fts_ilist.specs.Spelling.Item.{increase, document_end}
 use Rattle.fts_ilist.specs.Reading.{items_after}
-use Rattle.fts_ilist.proofs.Groups.{all_groups, one_more_group, last_byte, number_is, reads_end, reads_group, reads_last, reads_number, number_first, grows, groups_of_positive, length_all_groups, length_no_groups, length_number}
+use Rattle.fts_ilist.proofs.Groups.{all_groups, one_more_group, last_byte, number_is, reads_end, reads_group, reads_number, number_first, grows, groups_of_positive, length_all_groups, length_no_groups, length_number}
 
 -- ---- lengths
 
@@ -25,13 +25,6 @@ short_groups (suc k) n h =
 
 pub number_fits : (n : ℕ) → n < 2 ^ 64 → length (number_bytes n) ≤ 10
 number_fits n h = omega (arith, length_number n, short_groups 9 (n / 128) (omega arith))
-
-pub no_groups : (n : ℕ) → length (all_groups n) ≡ 0 → n ≡ 0
-no_groups n h =
-    elim (cases_lt 0 n) [
-      | inl lt ↦ absurd (omega (arith, length_all_groups n lt))
-      | inr le ↦ omega arith
-    ]
 
 pub groups_positive : (n : ℕ) → 0 < length (all_groups n) → 0 < n
 groups_positive n h =
@@ -124,3 +117,12 @@ pub reads_back : (m len n : ℕ) (x rest bytes : List ℕ) → bytes ≡ number_
 reads_back m len n x rest bytes e l f =
     let same : m ≡ n = number_first m n x rest (sym e ∙ f) in
     ap (λ (w : ℕ). (m, w)) l ∙ ap (λ (w : ℕ). (w, length (number_bytes w))) same
+
+-- a number of one byte
+pub small_number : (n : ℕ) → n < 128 → number_bytes n ≡ (n + 128) ∷ []
+small_number n h =
+    let q : n / 128 ≡ 0 = omega arith in
+    let r : n % 128 + 128 ≡ n + 128 = omega arith in
+    number_is n ∙ ap (λ (w : ℕ). all_groups w ++ (n % 128 + 128) ∷ []) q
+    ∙ ap (λ (w : List ℕ). w ++ (n % 128 + 128) ∷ []) (nil_from_length (all_groups 0) length_no_groups)
+    ∙ ap (λ (w : ℕ). w ∷ []) r

@@ -1,14 +1,14 @@
 -- Where a reader gets stuck is the first fault, and there is one first fault.
-use Rattle.std.proofs.Common.{◌≡◌, ℕ, zero, suc, ◌+◌, ◌-◌, ◌^◌, ◌<◌, ◌≤◌, List, [], ◌∷◌, ◌++◌, length, drop, refl, sym, ap, subst, ◌∙◌, append_assoc, arith, inl, inr}
+use Rattle.std.proofs.Common.{◌≡◌, ℕ, ◌<◌, List, [], ◌∷◌, ◌++◌, length, drop, refl, sym, ap, subst, ◌∙◌, append_assoc, arith, inl, inr}
 use Rattle.std.proofs.lemmas.Bool.{cases_order}
 use Rattle.std.proofs.lemmas.List.{append-nil, length-append, length-drop}
-use Rattle.fts_ilist.specs.Spelling.{Posting, Item, item_bytes, items_bytes, postings_items, list_bytes, ArePostings, last_id}
+use Rattle.fts_ilist.specs.Spelling.{Item, item_bytes, items_bytes, postings_items, last_id}
 use Rattle.fts_ilist.specs.Reading.{State}
-use Rattle.fts_ilist.specs.Reading.State.{between, inside}
+use Rattle.fts_ilist.specs.Reading.State.{between}
 use Rattle.fts_ilist.specs.Fault.{BeginsList, IsFirstFault}
-use Rattle.fts_ilist.specs.Progress.{Runs, Reads, IsStuck, GetsStuck}
-use Rattle.fts_ilist.proofs.Items.{bytes_cons, bytes_append, item_first, item_positive}
-use Rattle.fts_ilist.proofs.Running.{runs_split, runs_append, runs_same, postings_run, runs_begin, begins_runs}
+use Rattle.fts_ilist.specs.Progress.{Runs, IsStuck, GetsStuck}
+use Rattle.fts_ilist.proofs.Items.{bytes_cons, item_first, item_positive}
+use Rattle.fts_ilist.proofs.Running.{runs_split, runs_same, postings_run, runs_begin, begins_runs}
 
 -- ---- fronts of spelled items
 

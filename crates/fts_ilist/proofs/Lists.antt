@@ -1,19 +1,19 @@
 -- Whole lists: their making, and what is added to them.
-use Rattle.std.proofs.Common.{◌≡◌, ℕ, zero, suc, ◌+◌, ◌-◌, ◌^◌, ◌<◌, ◌≤◌, ◌⊎◌, Bool, true, false, List, [], ◌∷◌, ◌++◌, length, get_or, take, drop, Result, Ok, Err, eqb, refl, sym, ap, subst, ◌∙◌, append_assoc, arith, inl, inr}
+use Rattle.std.proofs.Common.{◌≡◌, ℕ, ◌-◌, ◌^◌, ◌<◌, ◌≤◌, List, [], ◌∷◌, ◌++◌, length, get_or, drop, Result, Ok, Err, eqb, refl, sym, ap, subst, ◌∙◌, append_assoc, arith, inl, inr}
 use Rattle.std.specs.Result.{MatchResult, is_ok}
 use Rattle.std.proofs.lemmas.Bool.{cases_lt, ne_eqb, eq-eqb}
-use Rattle.std.proofs.lemmas.List.{append-nil, length-append, length-drop, append_cancel_left, nil_from_length, drop_all, drop_more, get_or_default}
+use Rattle.std.proofs.lemmas.List.{append-nil, append_cancel_left, drop_all, get_or_default}
 use Rattle.std.proofs.lemmas.List.Folds.{list_any_at, list_any_none}
 use Rattle.fts_ilist.specs.Number.{number_bytes}
-use Rattle.fts_ilist.specs.Spelling.{Posting, Item, items_bytes, position_items, posting_items, postings_items, list_bytes, PositionsFrom, ArePositions, PostingsAfter, ArePostings, id_at_end, last_id, HasFirstId}
-use Rattle.fts_ilist.specs.Spelling.Item.{increase, document_end}
-use Rattle.fts_ilist.specs.Reading.{State, postings_in, positions_in, IsTail, IsDocument, IsList}
+use Rattle.fts_ilist.specs.Spelling.{Posting, items_bytes, position_items, posting_items, postings_items, list_bytes, ArePositions, PostingsAfter, ArePostings, id_at_end, last_id, HasFirstId}
+use Rattle.fts_ilist.specs.Spelling.Item.{document_end}
+use Rattle.fts_ilist.specs.Reading.{postings_in, IsTail, IsDocument, IsList}
 use Rattle.fts_ilist.specs.Reading.State.{between}
 use Rattle.fts_ilist.specs.Fault.{IsFirstFault}
 use Rattle.fts_ilist.specs.Progress.{Reads, ReadsIncrease, HasNoIncrease}
 use Rattle.fts_ilist.specs.Changes.{is_among}
 use Rattle.fts_ilist.proofs.Items.{bytes_append}
-use Rattle.fts_ilist.proofs.Postings.{postings_in-bytes, no_postings_in, postings_items-append, id_at_end-append, PostingsAfter-append, id_limit}
+use Rattle.fts_ilist.proofs.Postings.{postings_in-bytes, postings_items-append, id_at_end-append, PostingsAfter-append, id_limit}
 use Rattle.fts_ilist.proofs.Running.{ends_from}
 use Rattle.fts_ilist.proofs.Reader.{same_increase, document_bytes}
 use Rattle.fts_ilist.proofs.Tails.{posting_in}

@@ -1,12 +1,11 @@
 -- Lists without some documents, and the merge of two lists.
-use Rattle.std.proofs.Common.{◌≡◌, ℕ, zero, suc, ◌+◌, ◌-◌, ◌^◌, ◌<◌, ◌≤◌, ◌⊎◌, Bool, true, false, cond, not, List, [], ◌∷◌, ◌++◌, length, get_or, Option, Some, None, Result, Ok, Err, refl, sym, ap, subst, ◌∙◌, append_assoc, arith, inl, inr}
-use Rattle.std.specs.List.{Contains, filter}
+use Rattle.std.proofs.Common.{◌≡◌, ℕ, ◌+◌, ◌<◌, ◌≤◌, Bool, true, false, cond, not, List, [], ◌∷◌, ◌++◌, length, Some, Result, Ok, Err, refl, sym, ap, subst, ◌∙◌, append_assoc, arith, inl, inr}
+use Rattle.std.specs.List.{Contains}
 use Rattle.std.specs.List.Sorted.{IsPermutation}
 use Rattle.std.specs.Result.{OnOk, OnErr}
-use Rattle.std.proofs.lemmas.List.{append-nil, length-append}
 use Rattle.std.proofs.lemmas.List.Elements.{Contains-append_right, Contains-append_left}
 use Rattle.std.proofs.lemmas.List.Sorted.{IsPermutation-append_comm, IsPermutation-append_left, IsPermutation-append_right, IsPermutation-trans}
-use Rattle.fts_ilist.specs.Spelling.{Posting, ArePositions, PostingsAfter, ArePostings, id_at_end, last_id, HasFirstId}
+use Rattle.fts_ilist.specs.Spelling.{Posting, PostingsAfter, ArePostings, last_id, HasFirstId}
 use Rattle.fts_ilist.specs.Changes.{is_among, postings_without, AreDisjoint, TakesFirst, MergesNext}
 use Rattle.fts_ilist.proofs.Postings.{id_at_end-append, PostingsAfter-append}
 
@@ -23,12 +22,6 @@ last_of_push out d = id_at_end-append 0 out (d ∷ [])
 pub record IsLeaving (ids : List ℕ) (all left rest : List Posting) : Type 0 where
   pub parts : postings_without ids all ≡ left ++ postings_without ids rest
   pub after : PostingsAfter (last_id left) rest
-
-pub leaves_all : (ids : List ℕ) (all : List Posting) → ArePostings all → IsLeaving ids all [] all
-leaves_all ids all are = record { parts = refl; after = are }
-
-pub leaving_above : (ids : List ℕ) (all left rest later : List Posting) (d : Posting) → IsLeaving ids all left rest → rest ≡ d ∷ later → last_id left < d.id
-leaving_above ids all left rest later d l e = (subst (PostingsAfter (last_id left)) e l.after).0
 
 without_kept : (ids : List ℕ) (d : Posting) (rest : List Posting) → is_among ids d.id ≡ false → postings_without ids (d ∷ rest) ≡ d ∷ postings_without ids rest
 without_kept ids d rest e = ap (λ (b : Bool). cond (not b) (d ∷ postings_without ids rest) (postings_without ids rest)) e
@@ -51,9 +44,6 @@ leaves_dropped ids all left rest later d l e among =
       parts = l.parts ∙ ap (λ (w : List Posting). left ++ postings_without ids w) e ∙ ap (λ (w : List Posting). left ++ w) (without_dropped ids d later among);
       after = after_sooner d.id (last_id left) later after.3 (omega (arith, after.0));
     }
-
-pub leaves_none : (ids : List ℕ) (all left rest : List Posting) → IsLeaving ids all left rest → rest ≡ [] → left ≡ postings_without ids all
-leaves_none ids all left rest l e = sym (l.parts ∙ ap (λ (w : List Posting). left ++ postings_without ids w) e ∙ append-nil left)
 
 -- ---- a whole merge
 
@@ -136,13 +126,6 @@ merge_step a b out left right later_left later_right p m next =
       | inl h ↦ subst (λ (w : List Posting). HasMerged a b out left right later_left w p) (sym h.1) (merge_left a b out left right later_left p m h.0)
       | inr h ↦ subst (λ (w : List Posting). HasMerged a b out left right w later_right p) (sym h.1) (merge_right a b out left right later_right p m h.0)
     ]
-
-pub merge_start : (a b : List Posting) → ArePostings a → ArePostings b → AreDisjoint a b → IsPermutation (a ++ b) (a ++ b) → IsMerging a b [] a b
-merge_start a b p q disjoint same = record { union = same; out_are = tt; left_after = p; right_after = q; disjoint = disjoint }
-
-pub merge_end : (a b out left right : List Posting) → IsMerging a b out left right → left ≡ [] → right ≡ [] → IsPermutation (a ++ b) out
-merge_end a b out left right m e f =
-    subst (IsPermutation (a ++ b)) (ap (λ (w : List Posting). out ++ (w ++ right)) e ∙ ap (λ (w : List Posting). out ++ w) f ∙ append-nil out) m.union
 
 -- ---- joining
 

@@ -1,9 +1,9 @@
 -- Documents as items, and reading them back.
-use Rattle.std.proofs.Common.{◌≡◌, ℕ, zero, suc, ◌+◌, ◌-◌, ◌^◌, ◌<◌, ◌≤◌, List, [], ◌∷◌, ◌++◌, length, refl, sym, ap, subst, ◌∙◌, append_assoc, arith}
-use Rattle.std.proofs.lemmas.List.{append-nil, length-append}
+use Rattle.std.proofs.Common.{◌≡◌, ℕ, ◌+◌, ◌-◌, ◌^◌, ◌<◌, ◌≤◌, List, [], ◌∷◌, ◌++◌, refl, sym, ap, ◌∙◌, append_assoc, arith}
+use Rattle.std.proofs.lemmas.List.{append-nil}
 use Rattle.fts_ilist.specs.Spelling.{Posting, Item, items_bytes, position_items, posting_items, postings_items, PositionsFrom, ArePositions, PostingsAfter, id_at_end, next_at_end}
 use Rattle.fts_ilist.specs.Spelling.Item.{increase, document_end}
-use Rattle.fts_ilist.specs.Reading.{State, items_after, postings_of, postings_in, positions_of, positions_in}
+use Rattle.fts_ilist.specs.Reading.{items_after, postings_of, postings_in, positions_of, positions_in}
 use Rattle.fts_ilist.specs.Reading.State.{between, inside}
 use Rattle.fts_ilist.proofs.Items.{reads_items}
 

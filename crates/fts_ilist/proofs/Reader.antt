@@ -1,16 +1,15 @@
 -- What a reader of bytes keeps, item by item.
-use Rattle.std.proofs.Common.{◌≡◌, ◌≢◌, ℕ, zero, suc, ◌+◌, ◌-◌, ◌^◌, ◌<◌, ◌≤◌, List, [], ◌∷◌, ◌++◌, length, get_or, drop, refl, sym, ap, subst, ◌∙◌, append_assoc, arith, inl, inr}
-use Rattle.std.proofs.lemmas.Bool.{cases_lt}
-use Rattle.std.proofs.lemmas.List.{drop_more, drop_all, append-nil, length-append, length-drop}
+use Rattle.std.proofs.Common.{◌≡◌, ℕ, ◌+◌, ◌-◌, ◌^◌, ◌<◌, ◌≤◌, List, [], ◌∷◌, ◌++◌, length, get_or, drop, refl, sym, ap, subst, ◌∙◌, append_assoc, arith}
+use Rattle.std.proofs.lemmas.List.{drop_more, append-nil, length-drop}
 use Rattle.fts_ilist.specs.Number.{number_bytes}
-use Rattle.fts_ilist.specs.Spelling.{Posting, Item, item_bytes, items_bytes, position_items, posting_items, postings_items, list_bytes, PositionsFrom, ArePositions, PostingsAfter, next_at_end, id_at_end}
+use Rattle.fts_ilist.specs.Spelling.{Posting, Item, item_bytes, items_bytes, position_items, posting_items, next_at_end}
 use Rattle.fts_ilist.specs.Spelling.Item.{increase, document_end}
 use Rattle.fts_ilist.specs.Reading.{State}
 use Rattle.fts_ilist.specs.Reading.State.{between, inside}
-use Rattle.fts_ilist.specs.Progress.{Runs, Reads, IsStuck, GetsStuck, ReadsIncrease, HasNoIncrease, ReadsPositions, ReadsBody, ReadsDocument}
-use Rattle.fts_ilist.proofs.Items.{bytes_append, bytes_cons}
+use Rattle.fts_ilist.specs.Progress.{Runs, Reads, IsStuck, GetsStuck, ReadsIncrease, HasNoIncrease, ReadsPositions, ReadsDocument}
+use Rattle.fts_ilist.proofs.Items.{bytes_append}
 use Rattle.fts_ilist.proofs.Codec.{one_number}
-use Rattle.fts_ilist.proofs.Postings.{position_items-append, PositionsFrom-push, next_at_end-push, next_limit, posting_regroup}
+use Rattle.fts_ilist.proofs.Postings.{position_items-append, PositionsFrom-push, next_at_end-push, next_limit}
 use Rattle.fts_ilist.proofs.Running.{runs_append, positions_run, posting_runs}
 
 -- ---- the number at a place is one
@@ -37,9 +36,6 @@ stuck_later bytes a b s t at p g = record { state = g.state; reads = reads_on by
 
 -- ---- positions
 
-pub no_positions : (bytes : List ℕ) (start : ℕ) → start ≤ length bytes → ReadsPositions bytes start start 0
-no_positions bytes start h = record { positions = []; from = tt; next_is = refl; parts = refl; order = omega arith; within = h }
-
 pub positions_limit : (bytes : List ℕ) (start at next : ℕ) → ReadsPositions bytes start at next → next ≤ 131072
 positions_limit bytes start at next r = omega (arith, r.next_is, next_limit 0 r.positions (omega arith) r.from)
 
@@ -62,19 +58,6 @@ one_more_position bytes start at next value end r i =
       order = omega (arith, r.order, i.order);
       within = i.within;
     }
-
-length_of_positions : (next : ℕ) (ps : List ℕ) → 0 < next_at_end next ps → next ≡ 0 → 0 < length ps
-length_of_positions next [] h e = absurd (omega arith)
-length_of_positions next (p ∷ ps) h e = omega arith
-
-pub body_ends : (bytes : List ℕ) (start at next : ℕ) → ReadsPositions bytes start at next → 0 < next → at < length bytes → get_or bytes at 0 ≡ 0 → ReadsBody bytes start (at + 1)
-body_ends bytes start at next r positive within zeros = record {
-  positions = r.positions;
-  are_positions = (length_of_positions 0 r.positions (omega (arith, r.next_is)) refl, r.from);
-  body = r.parts ∙ ap (λ (w : List ℕ). items_bytes (position_items 0 r.positions) ++ w) (drop_more bytes at 0 within ∙ ap (λ (w : ℕ). w ∷ drop (at + 1) bytes) zeros);
-  order = omega (arith, r.order);
-  within = omega arith;
-}
 
 pub reads_positions : (bytes : List ℕ) (start at next id : ℕ) → ReadsPositions bytes start at next → Reads bytes start (inside id 0) at (inside id next)
 reads_positions bytes start at next id r = record {
@@ -132,19 +115,6 @@ stuck_between bytes at last within no_increase = record {
 
 pub stuck_here : (bytes : List ℕ) (at : ℕ) (s : State) → at ≤ length bytes → IsStuck bytes at s → GetsStuck bytes at s at
 stuck_here bytes at s h stuck = record { state = s; reads = reads_nothing bytes at s h; stuck = stuck }
-
-pub document_is : (bytes : List ℕ) (at last id start end : ℕ) → ReadsIncrease bytes at last 9223372036854775807 id start → ReadsBody bytes start end → ReadsDocument bytes at last id start end
-document_is bytes at last id start end i b = record {
-  positions = b.positions;
-  are_positions = b.are_positions;
-  above = i.above;
-  limit = omega (arith, i.within_limit);
-  front = i.parts;
-  body = b.body;
-  front_order = i.order;
-  order = b.order;
-  within = b.within;
-}
 
 -- the bytes of a document are those of its items
 pub document_bytes : (last id : ℕ) (positions rest : List ℕ) → number_bytes (id - last) ++ (items_bytes (position_items 0 positions) ++ 0 ∷ rest) ≡ items_bytes (posting_items last (record { id = id; positions = positions })) ++ rest

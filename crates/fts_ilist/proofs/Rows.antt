@@ -1,5 +1,5 @@
 -- The definitions at a few values, computed.
-use Rattle.std.proofs.Common.{◌≡◌, ℕ, List, [], ◌∷◌, refl}
+use Rattle.std.proofs.Common.{◌≡◌, List, [], ◌∷◌, refl}
 use Rattle.fts_ilist.specs.Number.{groups, number_bytes}
 use Rattle.fts_ilist.specs.Spelling.{Posting, list_bytes}
 use Rattle.fts_ilist.specs.Reading.{items_after, postings_of, postings_in}

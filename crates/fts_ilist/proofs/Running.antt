@@ -1,7 +1,7 @@
 -- A reader that takes items comes to one state, and the states are those of lists.
-use Rattle.std.proofs.Common.{◌≡◌, ℕ, zero, suc, ◌+◌, ◌-◌, ◌^◌, ◌<◌, ◌≤◌, List, [], ◌∷◌, ◌++◌, length, refl, sym, ap, subst, ◌∙◌, append_assoc, arith}
-use Rattle.std.proofs.lemmas.List.{append-nil, length-append}
-use Rattle.fts_ilist.specs.Spelling.{Posting, Item, items_bytes, position_items, posting_items, postings_items, PositionsFrom, ArePositions, PostingsAfter, ArePostings, id_at_end, next_at_end}
+use Rattle.std.proofs.Common.{◌≡◌, ℕ, zero, suc, ◌+◌, ◌-◌, ◌^◌, ◌<◌, ◌≤◌, List, [], ◌∷◌, ◌++◌, length, refl, sym, ap, subst, ◌∙◌, arith}
+use Rattle.std.proofs.lemmas.List.{append-nil}
+use Rattle.fts_ilist.specs.Spelling.{Posting, Item, position_items, posting_items, postings_items, PositionsFrom, ArePositions, PostingsAfter, id_at_end, next_at_end}
 use Rattle.fts_ilist.specs.Spelling.Item.{increase, document_end}
 use Rattle.fts_ilist.specs.Reading.{State}
 use Rattle.fts_ilist.specs.Reading.State.{between, inside}

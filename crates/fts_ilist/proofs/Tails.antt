@@ -1,10 +1,10 @@
 -- What an iterator over the bytes of a list has left, step by step.
-use Rattle.std.proofs.Common.{◌≡◌, ℕ, zero, suc, ◌+◌, ◌-◌, ◌^◌, ◌<◌, ◌≤◌, List, [], ◌∷◌, ◌++◌, length, take, drop, refl, sym, ap, subst, ◌∙◌, append_assoc, arith}
+use Rattle.std.proofs.Common.{◌≡◌, ℕ, ◌+◌, ◌-◌, ◌<◌, List, [], ◌∷◌, ◌++◌, length, take, drop, refl, sym, ap, subst, ◌∙◌, arith}
 use Rattle.std.proofs.lemmas.List.{append-nil, length-append, length-drop, append_cancel_left, nil_from_length, take_at}
 use Rattle.fts_ilist.specs.Number.{number_bytes}
 use Rattle.fts_ilist.specs.Spelling.{Posting, Item, items_bytes, position_items, posting_items, postings_items, PositionsFrom, PostingsAfter, id_at_end}
-use Rattle.fts_ilist.specs.Spelling.Item.{increase, document_end}
-use Rattle.fts_ilist.specs.Reading.{State, items_after, postings_of, positions_of, postings_in, positions_in, IsTail, IsPositionsTail, IsDocument}
+use Rattle.fts_ilist.specs.Spelling.Item.{increase}
+use Rattle.fts_ilist.specs.Reading.{items_after, postings_of, positions_of, postings_in, positions_in, IsTail, IsPositionsTail, IsDocument}
 use Rattle.fts_ilist.specs.Reading.State.{between}
 use Rattle.fts_ilist.specs.Progress.{GetsStuck, ReadsIncrease, HasNoIncrease, ReadsDocument}
 use Rattle.fts_ilist.proofs.Groups.{reads_number}

@@ -1,5 +1,5 @@
 -- What is left of a list without some documents, and two lists as one.
-use Rattle.std.specs.Prelude.{◌≡◌, ℕ, Bool, List, [], ◌∷◌, ◌++◌, not, ◌==◌, Contains, Option, Some, None, ◌⊎◌, ◌≤◌}
+use Rattle.std.specs.Prelude.{◌≡◌, ℕ, Bool, List, [], ◌∷◌, not, ◌==◌, Contains, Option, Some, None, ◌⊎◌, ◌≤◌}
 use Rattle.std.specs.List.{filter, list_any}
 use Rattle.fts_ilist.specs.Spelling.{Posting}
 

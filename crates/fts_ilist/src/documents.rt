@@ -33,6 +33,7 @@ impl<'a> Iterator for Positions<'a> {
 
     ghost remaining = { item_count (λ rest. rest) };
 
+    #[inline]
     fn next(&mut self) -> Option<u32> {
         if self.rest.is_empty() {
             return None;

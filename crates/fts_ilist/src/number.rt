@@ -60,8 +60,21 @@ pub fn put_number(n: u64, buf: &mut [u8]) -> usize
     len
 }
 
-/// The number at the front and how many bytes it takes, where there is one.
+/// The number at the front and how many bytes it takes, where there is one. Most have one byte.
+#[inline]
 fn first_number(bytes: &[u8]) -> Option<(u64, usize)>
+    ensures found { IfSome result (λ taken. bytes.now ≡ number_bytes taken.0 ++ drop taken.1 bytes.now) }
+    ensures length { IfSome result (λ taken. taken.1 ≡ length (number_bytes taken.0)) }
+    ensures none { IfNone result (BeginsWithNumber bytes.now → ⊥) }
+{
+    match bytes {
+        [byte, ..] if *byte >= 128 => Some((u64::from(*byte - 128), 1)),
+        _ => any_number(bytes),
+    }
+}
+
+/// The number at the front, of any length.
+fn any_number(bytes: &[u8]) -> Option<(u64, usize)>
     ensures found { IfSome result (λ taken. bytes.now ≡ number_bytes taken.0 ++ drop taken.1 bytes.now) }
     ensures length { IfSome result (λ taken. taken.1 ≡ length (number_bytes taken.0)) }
     ensures none { IfNone result (BeginsWithNumber bytes.now → ⊥) }
@@ -89,6 +102,7 @@ fn first_number(bytes: &[u8]) -> Option<(u64, usize)>
 ///
 /// `Bad { at: 0 }` where the bytes don't begin with a number: none is there or it has no end, it begins with a
 /// group of zeros, or it is above 2^64 - 1.
+#[inline]
 pub fn take_number(bytes: &[u8]) -> Result<(u64, usize), Bad>
     ensures found { IfOk result (λ taken. bytes.now ≡ number_bytes taken.0 ++ drop taken.1 bytes.now) }
     ensures length { IfOk result (λ taken. taken.1 ≡ length (number_bytes taken.0)) }
@@ -108,10 +122,15 @@ pub fn numbers_have_one_spelling()
 {}
 
 /// Writes the number at the end.
+#[inline]
 pub(crate) fn append_number(out: &mut Vec<u8>, n: u64) -> Result<(), AllocError>
     ensures ok { OnOk result (out.new.items ≡ out.old.items ++ number_bytes n) }
     ensures err { OnErr result (out.new.items ≡ out.old.items) }
 {
+    if n < 128 {
+        out.push(n as u8 + 128)?;
+        return Ok(());
+    }
     let mut buf = [0; NUMBER_ROOM];
     let len = put_number(n, &mut buf);
     out.extend_from_slice(&buf[..len])

@@ -22,6 +22,7 @@ pub(crate) struct Placed {
 }
 
 /// The number at a place, and the place behind it.
+#[inline]
 fn number_at(bytes: &[u8], at: usize) -> Result<(u64, usize), Bad>
     requires { at ≤ length bytes.now }
     ensures found { IfOk result (λ r. drop at bytes.now ≡ number_bytes r.0 ++ drop r.1 bytes.now) }
@@ -37,6 +38,7 @@ fn number_at(bytes: &[u8], at: usize) -> Result<(u64, usize), Bad>
 }
 
 /// The value to which the increase at a place brings `last`, and the place behind it.
+#[inline]
 pub(crate) fn increase_at(
     bytes: &[u8],
     at: usize,
@@ -60,6 +62,7 @@ pub(crate) fn increase_at(
 }
 
 /// Whether a document ends here, `next` being its last position + 1.
+#[inline]
 fn ends_at(bytes: &[u8], at: usize, next: u64) -> bool
     ensures { IsTrue result ↔ ((0 < next) × (at < length bytes.now) × (slice_index bytes.now at ≡ 0)) }
 {

@@ -139,3 +139,42 @@ fn documents_are_left_out(rt: HostRuntime) -> Result<(), Fail> {
     assert_eq!(rt; list.without(&[1, 300])?.bytes().len(), 0);
     Ok(())
 }
+
+#[test]
+fn documents_behind_are_joined(rt: HostRuntime) -> Result<(), Fail> {
+    let mut list = Ilist::new(rt.alloc());
+    list.push(1, &[4])?;
+    let mut behind = Ilist::new(rt.alloc());
+    behind.push(300, &[0, 127, 200])?;
+    list.join(&behind)?;
+    assert_eq!(rt; list.bytes(), EXAMPLE.as_slice());
+    Ok(())
+}
+
+#[test]
+fn documents_between_are_joined(rt: HostRuntime) -> Result<(), Fail> {
+    let mut list = Ilist::new(rt.alloc());
+    list.push(1, &[4])?;
+    list.push(300, &[0, 127, 200])?;
+    let mut between = Ilist::new(rt.alloc());
+    between.push(5, &[2])?;
+    list.join(&between)?;
+    let joined = [
+        0x81, 0x85, 0x00, 0x84, 0x83, 0x00, 0x02, 0xa7, 0x81, 0xff, 0xc9, 0x00,
+    ];
+    assert_eq!(rt; list.bytes(), joined.as_slice());
+    Ok(())
+}
+
+#[test]
+fn documents_are_copied(rt: HostRuntime) -> Result<(), Fail> {
+    let list = example(rt)?;
+    let mut copy = Ilist::new(rt.alloc());
+    for document in list.docs() {
+        if copy.last_id() < document.id() {
+            copy.push_document(&document)?;
+        }
+    }
+    assert_eq!(rt; copy.bytes(), EXAMPLE.as_slice());
+    Ok(())
+}

@@ -1,6 +1,5 @@
-use Rattle.std.proofs.Common.{◌≡◌, List, ℕ, sym, ap, subst, ◌∙◌, rules}
+use Rattle.std.proofs.Common.{sym, ap, subst, ◌∙◌}
 use Rattle.std.proofs.lemmas.Result.{err_from_is_err_and}
-use Rattle.fts_ilist.specs.Spelling.{list_bytes}
 use Rattle.fts_ilist.specs.Reading.{IsList, postings_in}
 use Rattle.fts_ilist.proofs.Faults.{one_fault}
 use Rattle.fts_ilist.proofs.Postings.{postings_in-bytes}

@@ -1,4 +1,4 @@
-use Rattle.std.proofs.Common.{arith, ◌≡◌, ◌<◌, ap, length}
+use Rattle.std.proofs.Common.{arith, ◌≡◌, ap, length}
 use Rattle.fts_ilist.proofs.Groups.{all_groups, length_number, length_all_groups, length_no_groups}
 use Rattle.fts_ilist.proofs.Codec.{number_fits}
 use Rattle.fts_ilist.proofs.number.number_len.Goals as goal

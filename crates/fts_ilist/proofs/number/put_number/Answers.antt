@@ -1,7 +1,7 @@
-use Rattle.std.proofs.Common.{arith, ◌≡◌, ◌+◌, ◌-◌, ◌%◌, ◌<◌, ◌++◌, ap, sym, ◌∙◌, length, drop}
+use Rattle.std.proofs.Common.{arith, ◌≡◌, ◌+◌, ◌-◌, ◌%◌, ◌<◌, ◌++◌, ap, sym, ◌∙◌, drop}
 use Rattle.std.proofs.lemmas.List.{length-set}
 use Rattle.fts_ilist.specs.Number.{number_bytes}
-use Rattle.fts_ilist.proofs.Groups.{all_groups, length_number, length_all_groups, length_no_groups}
+use Rattle.fts_ilist.proofs.Groups.{all_groups, length_number, length_all_groups}
 use Rattle.fts_ilist.proofs.Codec.{writes_last, writes_group, groups_positive}
 use Rattle.fts_ilist.proofs.number.put_number.Goals as goal
 

@@ -1,4 +1,4 @@
-use Rattle.std.proofs.Common.{◌≡◌, ℕ, Ok, ap}
+use Rattle.std.proofs.Common.{ℕ, Ok, ap}
 use Rattle.fts_ilist.proofs.Codec.{reads_back}
 use Rattle.fts_ilist.proofs.number.take_number.Goals as goal
 

@@ -1,4 +1,3 @@
-use Rattle.std.proofs.Common.{arith}
 use Rattle.std.proofs.lemmas.Result.{err_from_is_err_and}
 use Rattle.fts_ilist.proofs.Faults.{stuck_is_fault}
 use Rattle.fts_ilist.proofs.Reader.{reads_on, reads_document, stuck_later}

@@ -1,5 +1,5 @@
-use Rattle.std.proofs.Common.{rules, arith, ◌≡◌, ◌<◌, [], length, drop, sym, ◌∙◌, eqb}
-use Rattle.std.proofs.lemmas.Bool.{eqb-true, eqb-false}
+use Rattle.std.proofs.Common.{rules, ◌≡◌, [], sym, ◌∙◌}
+use Rattle.std.proofs.lemmas.Bool.{eqb-true}
 use Rattle.std.proofs.lemmas.List.{take_rest}
 use Rattle.fts_ilist.proofs.Tails.{none_left, encoded_document, document_step, document_tail, tail_never_stuck}
 use Rattle.fts_ilist.proofs.documents.DocumentsIterator.next.Goals as goal

@@ -1,4 +1,4 @@
-use Rattle.std.proofs.Common.{rules, arith, ◌≡◌, ◌<◌, [], length, drop, sym, ◌∙◌, eqb}
+use Rattle.std.proofs.Common.{rules, arith, ◌≡◌, ◌<◌, [], length, sym, ◌∙◌}
 use Rattle.std.proofs.lemmas.Bool.{eqb-true, eqb-false}
 use Rattle.std.proofs.lemmas.List.{take_rest}
 use Rattle.fts_ilist.proofs.Tails.{no_positions_in, position_step, position_tail, tail_has_increase}

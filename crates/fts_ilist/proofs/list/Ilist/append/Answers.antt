@@ -1,10 +1,10 @@
-use Rattle.std.proofs.Common.{arith, ◌≡◌, ◌<◌, ◌++◌, ◌-◌, ◌∷◌, [], ap, sym, subst, ◌∙◌, List, ℕ, drop, take, length}
+use Rattle.std.proofs.Common.{arith, ◌≡◌, ◌++◌, ◌-◌, [], ap, sym, subst, ◌∙◌, List, ℕ, drop}
 use Rattle.std.proofs.lemmas.List.{append-nil, take_rest}
 use Rattle.fts_ilist.specs.Number.{number_bytes}
 use Rattle.fts_ilist.specs.Spelling.{Posting, PostingsAfter, last_id}
 use Rattle.fts_ilist.specs.Reading.{postings_in}
 use Rattle.fts_ilist.specs.Progress.{ReadsIncrease, HasNoIncrease}
-use Rattle.fts_ilist.proofs.Lists.{appended, no_first_id, list_tail, IsAppended}
+use Rattle.fts_ilist.proofs.Lists.{appended, no_first_id, list_tail}
 use Rattle.fts_ilist.proofs.list.Ilist.append.Goals as goal
 
 pub overflow_sub-first : goal.overflow_sub-first

@@ -1,4 +1,4 @@
-use Rattle.std.proofs.Common.{arith, ◌≡◌, ◌<◌, ap, sym, subst}
+use Rattle.std.proofs.Common.{arith, ◌<◌, ap, sym, subst}
 use Rattle.fts_ilist.specs.Spelling.{ArePostings, HasFirstId, last_id}
 use Rattle.fts_ilist.specs.Changes.{AreDisjoint}
 use Rattle.fts_ilist.proofs.Merging.{behind_last, appended_are}

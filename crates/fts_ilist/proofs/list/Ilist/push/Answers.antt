@@ -1,4 +1,4 @@
-use Rattle.std.proofs.Common.{arith, ◌<◌, ◌^◌, ◌++◌, ◌∷◌, [], ap, ◌∙◌}
+use Rattle.std.proofs.Common.{arith, ◌<◌, ◌++◌, ◌∷◌, [], ap, ◌∙◌}
 use Rattle.fts_ilist.specs.Spelling.{Posting, last_id}
 use Rattle.fts_ilist.proofs.Lists.{pushed}
 use Rattle.fts_ilist.proofs.list.Ilist.push.Goals as goal
