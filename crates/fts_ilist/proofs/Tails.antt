@@ -1,0 +1,124 @@
+-- What an iterator over the bytes of a list has left, step by step.
+use Rattle.std.proofs.Common.{◌≡◌, ℕ, ◌+◌, ◌-◌, ◌<◌, List, [], ◌∷◌, ◌++◌, length, take, drop, refl, sym, ap, subst, ◌∙◌, arith}
+use Rattle.std.proofs.lemmas.List.{append-nil, length-append, length-drop, append_cancel_left, nil_from_length, take_at}
+use Rattle.fts_ilist.specs.Number.{number_bytes}
+use Rattle.fts_ilist.specs.Spelling.{Posting, Item, items_bytes, position_items, posting_items, postings_items, PositionsFrom, PostingsAfter, id_at_end}
+use Rattle.fts_ilist.specs.Spelling.Item.{increase}
+use Rattle.fts_ilist.specs.Reading.{items_after, postings_of, positions_of, postings_in, positions_in, IsTail, IsPositionsTail, IsDocument}
+use Rattle.fts_ilist.specs.Reading.State.{between}
+use Rattle.fts_ilist.specs.Progress.{GetsStuck, ReadsIncrease, HasNoIncrease, ReadsDocument}
+use Rattle.fts_ilist.proofs.Groups.{reads_number}
+use Rattle.fts_ilist.proofs.Items.{bytes_append, reads_items}
+use Rattle.fts_ilist.proofs.Postings.{posting_again, no_postings_in, positions_in-bytes}
+use Rattle.fts_ilist.proofs.Running.{postings_run}
+use Rattle.fts_ilist.proofs.Faults.{never_stuck}
+use Rattle.fts_ilist.proofs.Reader.{document_bytes}
+
+-- ---- positions
+
+no_positions_of : (next : ℕ) → positions_of next (items_after 0 []) ≡ []
+unfolding positions_of items_after
+no_positions_of next = refl
+
+pub no_positions_in : (next : ℕ) (bytes : List ℕ) → length bytes ≡ 0 → positions_in next bytes ≡ []
+no_positions_in next bytes e = ap (positions_in next) (nil_from_length bytes e) ∙ no_positions_of next
+
+first_position : (next n : ℕ) (items : List Item) → positions_of next (increase n ∷ items) ≡ (next + n - 1) ∷ positions_of (next + n) items
+unfolding positions_of
+first_position next n items = refl
+
+-- a step gives the first position that was left
+pub position_step : (bytes : List ℕ) (next value end : ℕ) → ReadsIncrease bytes 0 next 131072 value end → positions_in next bytes ≡ (value - 1) ∷ positions_in value (drop end bytes)
+position_step bytes next value end i =
+    let e : next + (value - next) ≡ value = omega (arith, i.above) in
+    ap (positions_of next) (ap (items_after 0) i.parts ∙ reads_number (value - next) (drop end bytes))
+    ∙ first_position next (value - next) (items_after 0 (drop end bytes))
+    ∙ ap (λ (w : ℕ). (w - 1) ∷ positions_of w (items_after 0 (drop end bytes))) e
+
+pub position_tail : (bytes : List ℕ) (next value end : ℕ) → IsPositionsTail next bytes → ReadsIncrease bytes 0 next 131072 value end → IsPositionsTail value (drop end bytes)
+position_tail bytes next value end t i =
+    let rest = positions_in value (drop end bytes) in
+    let step = position_step bytes next value end i in
+    let e : value - 1 + 1 ≡ value = omega (arith, i.above) in
+    let from : PositionsFrom next ((value - 1) ∷ rest) = subst (PositionsFrom next) step t.from in
+    let spelled : bytes ≡ number_bytes (value - next) ++ items_bytes (position_items value rest)
+    = t.spelled ∙ ap (λ (w : List ℕ). items_bytes (position_items next w)) step ∙ ap (λ (w : ℕ). number_bytes (w - next) ++ items_bytes (position_items w rest)) e in
+    record {
+      limit = i.within_limit;
+      from = subst (λ (w : ℕ). PositionsFrom w rest) e from.2;
+      spelled = append_cancel_left (number_bytes (value - next)) (drop end bytes) (items_bytes (position_items value rest)) (sym i.parts ∙ spelled);
+    }
+
+has_increase : (next : ℕ) (bytes ps : List ℕ) → bytes ≡ items_bytes (position_items next ps) → PositionsFrom next ps → 0 < length bytes → HasNoIncrease bytes 0 next 131072 → ⊥
+has_increase next bytes [] e from some none = absurd (omega (arith, ap length e))
+has_increase next bytes (p ∷ ps) e from some none =
+    none (p + 1 - next) (items_bytes (position_items (p + 1) ps)) e (omega (arith, from.0)) (omega (arith, from.0, from.1))
+
+pub tail_has_increase : (next : ℕ) (bytes : List ℕ) → IsPositionsTail next bytes → 0 < length bytes → HasNoIncrease bytes 0 next 131072 → ⊥
+tail_has_increase next bytes t some none = has_increase next bytes (positions_in next bytes) t.spelled t.from some none
+
+-- ---- documents
+
+pub none_left : (last : ℕ) (bytes : List ℕ) → length bytes ≡ 0 → postings_in last bytes ≡ []
+none_left last bytes e = ap (postings_in last) (nil_from_length bytes e) ∙ no_postings_in last
+
+abbrev pub posting_in : ℕ → List ℕ → Posting
+posting_in id encoded = record { id = id; positions = positions_in 0 encoded }
+
+document_parts : (bytes : List ℕ) (last id start end : ℕ) (d : ReadsDocument bytes 0 last id start end)
+    → bytes ≡ items_bytes (posting_items last (record { id = id; positions = d.positions })) ++ drop end bytes
+document_parts bytes last id start end d =
+    d.front ∙ ap (λ (w : List ℕ). number_bytes (id - last) ++ w) d.body ∙ document_bytes last id d.positions (drop end bytes)
+
+-- the part between is the spelling of the positions
+encoded_is : (bytes : List ℕ) (last id start end : ℕ) (d : ReadsDocument bytes 0 last id start end) → take (end - 1 - start) (drop start bytes) ≡ items_bytes (position_items 0 d.positions)
+encoded_is bytes last id start end d =
+    let spelled = items_bytes (position_items 0 d.positions) in
+    let len : length spelled ≡ end - 1 - start
+    = omega (arith, ap length d.body, length-append spelled (0 ∷ drop end bytes), length-drop start bytes, length-drop end bytes, d.order, d.within) in
+    ap (take (end - 1 - start)) d.body ∙ take_at spelled (0 ∷ drop end bytes) (end - 1 - start) len
+
+encoded_gives : (bytes : List ℕ) (last id start end : ℕ) (d : ReadsDocument bytes 0 last id start end) → positions_in 0 (take (end - 1 - start) (drop start bytes)) ≡ d.positions
+encoded_gives bytes last id start end d = ap (positions_in 0) (encoded_is bytes last id start end d) ∙ positions_in-bytes 0 d.positions d.are_positions.1
+
+pub encoded_document : (bytes : List ℕ) (last id start end : ℕ) → ReadsDocument bytes 0 last id start end → IsDocument id (take (end - 1 - start) (drop start bytes))
+encoded_document bytes last id start end d =
+    let gives = encoded_gives bytes last id start end d in
+    record {
+      positive = omega (arith, d.above);
+      limit = d.limit;
+      are_positions = rw gives d.are_positions;
+      spelled = encoded_is bytes last id start end d ∙ ap (λ (w : List ℕ). items_bytes (position_items 0 w)) (sym gives);
+    }
+
+-- a step gives the first document that was left
+pub document_step : (bytes : List ℕ) (last id start end : ℕ) → ReadsDocument bytes 0 last id start end
+    → postings_in last bytes ≡ posting_in id (take (end - 1 - start) (drop start bytes)) ∷ postings_in id (drop end bytes)
+document_step bytes last id start end d =
+    let p : Posting = record { id = id; positions = d.positions } in
+    ap (postings_of (between last) []) (ap (items_after 0) (document_parts bytes last id start end d) ∙ reads_items (posting_items last p) (drop end bytes))
+    ∙ posting_again last p (items_after 0 (drop end bytes)) d.above d.are_positions
+    ∙ ap (λ (w : List ℕ). let q : Posting = record { id = id; positions = w } in q ∷ postings_in id (drop end bytes)) (sym (encoded_gives bytes last id start end d))
+
+pub document_tail : (bytes : List ℕ) (last id start end : ℕ) → IsTail last bytes → ReadsDocument bytes 0 last id start end → IsTail id (drop end bytes)
+document_tail bytes last id start end t d =
+    let p : Posting = record { id = id; positions = d.positions } in
+    let rest = postings_in id (drop end bytes) in
+    let step : postings_in last bytes ≡ p ∷ rest
+    = document_step bytes last id start end d ∙ ap (λ (w : List ℕ). let q : Posting = record { id = id; positions = w } in q ∷ rest) (encoded_gives bytes last id start end d) in
+    let after : PostingsAfter last (p ∷ rest) = subst (PostingsAfter last) step t.after in
+    let spelled : bytes ≡ items_bytes (posting_items last p) ++ items_bytes (postings_items id rest)
+    = t.spelled ∙ ap (λ (w : List Posting). items_bytes (postings_items last w)) step
+    ∙ sym (append-nil (items_bytes (posting_items last p ++ postings_items id rest)))
+    ∙ bytes_append (posting_items last p) (postings_items id rest) []
+    ∙ ap (λ (w : List ℕ). items_bytes (posting_items last p) ++ w) (append-nil (items_bytes (postings_items id rest))) in
+    record {
+      limit = d.limit;
+      after = after.3;
+      spelled = append_cancel_left (items_bytes (posting_items last p)) (drop end bytes) (items_bytes (postings_items id rest)) (sym (document_parts bytes last id start end d) ∙ spelled);
+    }
+
+pub tail_never_stuck : (last : ℕ) (bytes : List ℕ) (at : ℕ) → IsTail last bytes → GetsStuck bytes 0 (between last) at → ⊥
+tail_never_stuck last bytes at t stuck =
+    let ds = postings_in last bytes in
+    never_stuck bytes 0 at (between last) (postings_items last ds) (id_at_end last ds) t.spelled (postings_run last ds t.after) stuck

@@ -1,0 +1,10 @@
+use Rattle.std.proofs.Common.{◌-◌, ◌^◌, ◌<◌, length}
+use Rattle.fts_ilist.specs.Reading.State.{between}
+use Rattle.fts_ilist.specs.Progress.{Reads}
+use Rattle.fts_ilist.proofs.reading.last_of.Given as goal
+
+abbrev pub invariant-loop-at : goal.invariant-loop-at
+invariant-loop-at l = record { reads : Reads l.bytes 0 (between 0) l.at (between l.last); limit : l.last < 2 ^ 63 }
+
+abbrev pub decreases-loop-at : goal.decreases-loop-at
+decreases-loop-at l = length l.bytes - l.at

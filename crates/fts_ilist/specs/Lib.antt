@@ -1,0 +1,7 @@
+pub mod Number
+pub mod Spelling
+pub mod Fault
+pub mod Reading
+pub mod Progress
+pub mod Changes
+pub mod Parsed

@@ -1,0 +1,330 @@
+//! Position lists as values.
+ghost use Rattle.std.specs.Prelude.{◌≡◌, ℕ, ◌-◌, ◌^◌, ◌<◌, ◌≤◌, ◌↔◌, List, [], ◌∷◌, ◌++◌, IsTrue, IfOk, IfErr, OnOk, OnErr};
+ghost use Rattle.std.specs.List.Sorted.{IsPermutation, IsNonDecreasing};
+ghost use Rattle.fts_ilist.specs.Number.{number_bytes};
+ghost use Rattle.fts_ilist.specs.Spelling.{Posting, items_bytes, position_items, list_bytes, ArePositions, PostingsAfter, ArePostings, last_id};
+ghost use Rattle.fts_ilist.specs.Fault.{IsFirstFault};
+ghost use Rattle.fts_ilist.specs.Progress.{Extends};
+ghost use Rattle.fts_ilist.specs.Changes.{is_among, postings_without, AreDisjoint, MergesNext};
+ghost use Rattle.fts_ilist.specs.Parsed.{GivesList, IsRefusedAt, IsCause};
+ghost use Rattle.fts_ilist.specs.declared.list.ParseError.TheVariants as errors;
+
+use crate::documents::{Document, Documents};
+use crate::number::{Bad, append_number};
+use crate::reading::{LAST_ID, increase_at, last_of};
+use std::alloc::{AllocError, Global};
+use std::error::Error;
+use std::fmt;
+use std::marker::Model;
+
+/// Why bytes were not read as a list.
+#[derive(Debug, Drop)]
+pub enum ParseError {
+    /// They are no list: the place of the first fault.
+    Bad(Bad),
+    /// There was no memory for the list.
+    NoMemory,
+}
+
+impl fmt::Display for ParseError {
+    fn fmt<W: fmt::Write>(&self, f: &mut fmt::Formatter<W>) -> fmt::Result {
+        match self {
+            ParseError::Bad(bad) => write!(f, "no position list: {bad}"),
+            ParseError::NoMemory => f.write_str("no memory for a position list"),
+        }
+    }
+}
+
+impl Error for ParseError {}
+
+impl From<Bad> for ParseError {
+    ghost from_gives = { λ bad e. e ≡ errors.Bad bad };
+
+    fn from(bad: Bad) -> ParseError {
+        ParseError::Bad(bad)
+    }
+}
+
+impl From<AllocError> for ParseError {
+    ghost from_gives = { λ _ e. e ≡ errors.NoMemory };
+
+    fn from(_error: AllocError) -> ParseError {
+        ParseError::NoMemory
+    }
+}
+
+/// A position list: documents by ascending ids, each with its positions. It is kept as its bytes, and documents
+/// are added behind the last.
+#[derive(Drop)]
+pub struct Ilist {
+    bytes: Vec<u8>,
+    // The id of the last document, or 0.
+    last: u64,
+}
+
+impl Model for Ilist {
+    ghost use Rattle.std.specs.Prelude.{List};
+    ghost use Rattle.fts_ilist.specs.Spelling.{Posting};
+    ghost use Rattle.fts_ilist.specs.Reading.{postings_in, IsList};
+
+    ghost Value = { List Posting };
+
+    ghost view = { λ l. postings_in 0 l.bytes.items };
+
+    ghost invariant = { λ l. IsList l.last l.bytes.items };
+}
+
+/// Writes the increase and the bytes behind it at the end.
+fn append_tail(out: &mut Vec<u8>, increase: u64, tail: &[u8]) -> Result<(), AllocError>
+    ensures ok { OnOk result (out.new.items ≡ out.old.items ++ (number_bytes increase ++ tail.now)) }
+    ensures extends { Extends out.old.items out.new.items }
+{
+    append_number(out, increase)?;
+    out.extend_from_slice(tail)
+}
+
+/// Writes a document at the end: the increase of its id, its encoded positions, its end.
+fn append_document(out: &mut Vec<u8>, increase: u64, encoded: &[u8]) -> Result<(), AllocError>
+    ensures ok { OnOk result (out.new.items ≡ out.old.items ++ (number_bytes increase ++ (encoded.now ++ 0 ∷ []))) }
+    ensures extends { Extends out.old.items out.new.items }
+{
+    append_tail(out, increase, encoded)?;
+    out.push(0)?;
+    Ok(())
+}
+
+/// Writes positions at the end.
+fn append_positions(out: &mut Vec<u8>, positions: &[u32]) -> Result<(), AllocError>
+    requires { ArePositions positions.now }
+    ensures ok { OnOk result (out.new.items ≡ out.old.items ++ items_bytes (position_items 0 positions.now)) }
+    ensures extends { Extends out.old.items out.new.items }
+{
+    let mut next = 0;
+    for position in positions {
+        append_number(out, u64::from(*position + 1 - next))?;
+        next = *position + 1;
+    }
+    Ok(())
+}
+
+/// Writes a document at the end: the increase of its id, its positions, its end.
+fn append_posting(out: &mut Vec<u8>, increase: u64, positions: &[u32]) -> Result<(), AllocError>
+    requires { ArePositions positions.now }
+    ensures ok { OnOk result (out.new.items ≡ out.old.items ++ (number_bytes increase ++ (items_bytes (position_items 0 positions.now) ++ 0 ∷ []))) }
+    ensures extends { Extends out.old.items out.new.items }
+{
+    append_number(out, increase)?;
+    append_positions(out, positions)?;
+    out.push(0)?;
+    Ok(())
+}
+
+impl Ilist {
+    /// The list without documents, which has no bytes. What it holds later lies in this allocator.
+    pub fn new(alloc: Global) -> Self
+        ensures { result ≡ [] }
+    {
+        Ilist {
+            bytes: Vec::new(alloc),
+            last: 0,
+        }
+    }
+
+    /// Whether the list has no documents.
+    pub fn is_empty(&self) -> bool
+        ensures { IsTrue result ↔ (self.now ≡ []) }
+    {
+        self.last == 0
+    }
+
+    /// The id of the last document, or 0 where there is none.
+    pub fn last_id(&self) -> u64
+        ensures value { result ≡ last_id self.now }
+        ensures limit { result < 2 ^ 63 }
+    {
+        self.last
+    }
+
+    /// The bytes that spell the list.
+    pub fn bytes(&self) -> &[u8]
+        ensures spelled { result.now ≡ list_bytes self.now }
+        ensures are { ArePostings self.now }
+    {
+        &self.bytes
+    }
+
+    /// The documents, by ascending ids. They are read in place, and no memory is taken.
+    pub fn docs(&self) -> Documents<'_>
+        ensures documents { result ≡ self.now }
+        ensures are { ArePostings result }
+    {
+        Documents {
+            rest: &self.bytes,
+            last: 0,
+        }
+    }
+
+    /// Adds a document behind the last. Where there is no memory for it, the list stays as it was.
+    pub fn push(&mut self, doc: u64, positions: &[u32]) -> Result<(), AllocError>
+        requires above { last_id self.old < doc }
+        requires limit { doc ≤ LAST_ID }
+        requires positions { ArePositions positions.now }
+        ensures ok { OnOk result (self.new ≡ self.old ++ record { id = doc; positions = positions.now } ∷ []) }
+        ensures err { OnErr result (self.new ≡ self.old) }
+    {
+        let before = self.bytes.len();
+        match append_posting(&mut self.bytes, doc - self.last, positions) {
+            Ok(()) => {
+                self.last = doc;
+                Ok(())
+            }
+            Err(error) => {
+                self.bytes.truncate(before);
+                Err(error)
+            }
+        }
+    }
+
+    /// Adds a document of another list behind the last, as `push` does; its positions are copied as they stand.
+    pub fn push_document(&mut self, document: &Document<'_>) -> Result<(), AllocError>
+        requires { last_id self.old < document.now.id }
+        ensures ok { OnOk result (self.new ≡ self.old ++ document.now ∷ []) }
+        ensures err { OnErr result (self.new ≡ self.old) }
+    {
+        let before = self.bytes.len();
+        match append_document(&mut self.bytes, document.id - self.last, document.encoded) {
+            Ok(()) => {
+                self.last = document.id;
+                Ok(())
+            }
+            Err(error) => {
+                self.bytes.truncate(before);
+                Err(error)
+            }
+        }
+    }
+
+    /// The list of the documents whose ids are not among `ids`, which ascend. It lies in this list's allocator.
+    pub fn without(&self, ids: &[u64]) -> Result<Ilist, AllocError>
+        requires { IsNonDecreasing ids.now }
+        ensures { IfOk result (λ left. left ≡ postings_without ids.now self.now) }
+    {
+        let mut left = Ilist::new(*self.bytes.allocator());
+        for document in self.docs() {
+            if !holds(ids, document.id()) {
+                left.push_document(&document)?;
+            }
+        }
+        Ok(left)
+    }
+
+    /// Adds the documents of the other list, which has none with an id of this one. Where there is no memory for
+    /// them, the list stays as it was. Where all are behind the last, this takes time for them alone.
+    pub fn join(&mut self, other: &Ilist) -> Result<(), AllocError>
+        requires { AreDisjoint self.old other.now }
+        ensures union { OnOk result (IsPermutation (self.old ++ other.now) self.new) }
+        ensures ascending { ArePostings self.new }
+        ensures err { OnErr result (self.new ≡ self.old) }
+    {
+        let last = self.last;
+        match other.docs().peek_id() {
+            None => Ok(()),
+            Some(first) if first > last => self.append(other),
+            Some(_) => {
+                let joined = merged(*self.bytes.allocator(), self.docs(), other.docs())?;
+                *self = joined;
+                Ok(())
+            }
+        }
+    }
+
+    /// Adds the documents of the other list behind the last.
+    fn append(&mut self, other: &Ilist) -> Result<(), AllocError>
+        requires { PostingsAfter (last_id self.old) other.now }
+        ensures ok { OnOk result (self.new ≡ self.old ++ other.now) }
+        ensures err { OnErr result (self.new ≡ self.old) }
+    {
+        match increase_at(&other.bytes, 0, 0, LAST_ID) {
+            Err(_) => Ok(()),
+            Ok((first, start)) => {
+                let before = self.bytes.len();
+                let tail = &other.bytes[start..];
+                match append_tail(&mut self.bytes, first - self.last, tail) {
+                    Ok(()) => {
+                        self.last = other.last;
+                        Ok(())
+                    }
+                    Err(error) => {
+                        self.bytes.truncate(before);
+                        Err(error)
+                    }
+                }
+            }
+        }
+    }
+}
+
+/// Whether the id is among `ids`, which ascend.
+fn holds(ids: &[u64], id: u64) -> bool
+    requires { IsNonDecreasing ids.now }
+    ensures { result ≡ is_among ids.now id }
+{
+    ids.binary_search(&id).is_ok()
+}
+
+/// The document with the smaller id, of the next ones of two lists.
+fn next_of<'a>(left: &mut Documents<'a>, right: &mut Documents<'a>) -> Option<Document<'a>>
+    ensures { MergesNext left.old right.old left.new right.new result }
+{
+    match (left.peek_id(), right.peek_id()) {
+        (Some(a), Some(b)) if b < a => right.next(),
+        (None, _) => right.next(),
+        _ => left.next(),
+    }
+}
+
+/// The documents of both lists, by ascending ids.
+fn merged<'a>(
+    alloc: Global,
+    mut left: Documents<'a>,
+    mut right: Documents<'a>,
+) -> Result<Ilist, AllocError>
+    requires left { ArePostings left }
+    requires right { ArePostings right }
+    requires disjoint { AreDisjoint left right }
+    ensures union { IfOk result (λ joined. IsPermutation (left.entry ++ right.entry) joined) }
+    ensures ascending { IfOk result (λ joined. ArePostings joined) }
+{
+    let mut joined = Ilist::new(alloc);
+    while let Some(document) = next_of(&mut left, &mut right) {
+        joined.push_document(&document)?;
+    }
+    Ok(joined)
+}
+
+/// Reads the bytes as a list, all of them, and copies them.
+///
+/// # Errors
+///
+/// `Bad` exactly where the bytes are no list, with the place at which the first faulty item begins: a number or
+/// a byte 00 that can't stand there, a number that has no end, is not in its fewest bytes or is too large. An item
+/// that is missing at the end has the place behind the last byte. `NoMemory` where there is none for the copy.
+pub fn parse(alloc: Global, bytes: &[u8]) -> Result<Ilist, ParseError>
+    // What is read is spelled so.
+    ensures found { IfOk result (λ list. ArePostings list × (bytes.now ≡ list_bytes list)) }
+    // What is spelled so is read.
+    ensures read_back { (ps : List Posting) → ArePostings ps → bytes.now ≡ list_bytes ps → GivesList ps result }
+    // A refusal has its place,
+    ensures cause { IfErr result (IsCause bytes.now) }
+    // and each fault is refused there.
+    ensures refused { (at : ℕ) → IsFirstFault bytes.now at → IsRefusedAt at result }
+{
+    let last = last_of(bytes)?;
+    let bytes = Vec::from_slice(alloc, bytes)?;
+    Ok(Ilist { bytes, last })
+}
+
+/// Each list has one spelling, and each spelling is of one list.
+pub fn lists_have_one_spelling()
+    ensures { (ps qs : List Posting) → ArePostings ps → ArePostings qs → list_bytes ps ≡ list_bytes qs → ps ≡ qs }
+{}

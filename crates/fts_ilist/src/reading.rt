@@ -1,0 +1,113 @@
+//! Reading lists from left to right, each item tried where it stands.
+ghost use Rattle.std.specs.Prelude.{◌≡◌, ◌+◌, ◌^◌, ◌<◌, ◌≤◌, ◌++◌, ◌↔◌, List, ℕ, length, drop, slice_index, IsTrue, IfOk, IfErr};
+ghost use Rattle.fts_ilist.specs.Number.{number_bytes, BeginsWithNumber};
+ghost use Rattle.fts_ilist.specs.Reading.State.{between, inside};
+ghost use Rattle.fts_ilist.specs.Fault.{IsFirstFault};
+ghost use Rattle.fts_ilist.specs.Progress.{Reads, GetsStuck, ReadsIncrease, HasNoIncrease, ReadsBody, ReadsDocument};
+
+use crate::number::{Bad, take_number};
+
+/// The largest id of a document.
+pub const LAST_ID: u64 = (1 << 63) - 1;
+
+/// The largest position.
+pub const LAST_POSITION: u32 = 131_071;
+
+/// Where a document stands: its id, the place of its first position, and the place behind its end.
+#[derive(Clone, Copy)]
+pub(crate) struct Placed {
+    pub id: u64,
+    pub start: usize,
+    pub end: usize,
+}
+
+/// The number at a place, and the place behind it.
+#[inline]
+fn number_at(bytes: &[u8], at: usize) -> Result<(u64, usize), Bad>
+    requires { at ≤ length bytes.now }
+    ensures found { IfOk result (λ r. drop at bytes.now ≡ number_bytes r.0 ++ drop r.1 bytes.now) }
+    ensures order { IfOk result (λ r. at < r.1) }
+    ensures within { IfOk result (λ r. r.1 ≤ length bytes.now) }
+    ensures place { IfErr result (λ bad. bad.at ≡ at) }
+    ensures none { IfErr result (λ bad. BeginsWithNumber (drop at bytes.now) → ⊥) }
+{
+    match take_number(&bytes[at..]) {
+        Ok((n, len)) => Ok((n, at + len)),
+        Err(_) => Err(Bad { at }),
+    }
+}
+
+/// The value to which the increase at a place brings `last`, and the place behind it.
+#[inline]
+pub(crate) fn increase_at(
+    bytes: &[u8],
+    at: usize,
+    last: u64,
+    limit: u64,
+) -> Result<(u64, usize), Bad>
+    requires within { at ≤ length bytes.now }
+    requires limit { last ≤ limit }
+    ensures found { IfOk result (λ r. ReadsIncrease bytes.now at last limit r.0 r.1) }
+    ensures place { IfErr result (λ bad. bad.at ≡ at) }
+    ensures none { IfErr result (λ bad. HasNoIncrease bytes.now at last limit) }
+{
+    let (increase, end) = number_at(bytes, at)?;
+    if increase == 0 {
+        return Err(Bad { at });
+    }
+    if increase > limit - last {
+        return Err(Bad { at });
+    }
+    Ok((last + increase, end))
+}
+
+/// Whether a document ends here, `next` being its last position + 1.
+#[inline]
+fn ends_at(bytes: &[u8], at: usize, next: u64) -> bool
+    ensures { IsTrue result ↔ ((0 < next) × (at < length bytes.now) × (slice_index bytes.now at ≡ 0)) }
+{
+    next > 0 && at < bytes.len() && bytes[at] == 0
+}
+
+/// The place behind the document whose positions begin at `start`.
+fn document_end(bytes: &[u8], start: usize) -> Result<usize, Bad>
+    requires { start ≤ length bytes.now }
+    ensures found { IfOk result (λ end. ReadsBody bytes.now start end) }
+    ensures stuck { IfErr result (λ bad. (id : ℕ) → GetsStuck bytes.now start (inside id 0) bad.at) }
+{
+    let mut at = start;
+    let mut next = 0;
+    while !ends_at(bytes, at, next) {
+        let (value, end) = increase_at(bytes, at, next, LAST_POSITION as u64 + 1)?;
+        next = value;
+        at = end;
+    }
+    Ok(at + 1)
+}
+
+/// The document at a place behind the id `last`.
+pub(crate) fn document_at(bytes: &[u8], at: usize, last: u64) -> Result<Placed, Bad>
+    requires within { at < length bytes.now }
+    requires limit { last < 2 ^ 63 }
+    ensures found { IfOk result (λ d. ReadsDocument bytes.now at last d.id d.start d.end) }
+    ensures stuck { IfErr result (λ bad. GetsStuck bytes.now at (between last) bad.at) }
+{
+    let (id, start) = increase_at(bytes, at, last, LAST_ID)?;
+    let end = document_end(bytes, start)?;
+    Ok(Placed { id, start, end })
+}
+
+/// The id of the last document of the list that the bytes are.
+pub(crate) fn last_of(bytes: &[u8]) -> Result<u64, Bad>
+    ensures found { IfOk result (λ last. Reads bytes.now 0 (between 0) (length bytes.now) (between last)) }
+    ensures fault { IfErr result (λ bad. IsFirstFault bytes.now bad.at) }
+{
+    let mut at = 0;
+    let mut last = 0;
+    while at < bytes.len() {
+        let document = document_at(bytes, at, last)?;
+        last = document.id;
+        at = document.end;
+    }
+    Ok(last)
+}

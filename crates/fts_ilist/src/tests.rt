@@ -1,0 +1,180 @@
+use super::*;
+use std::process::Abort;
+use std::test::Fail;
+
+// Documents 1 (position 4) and 300 (positions 0, 127 and 200).
+const EXAMPLE: [u8; 9] = [0x81, 0x85, 0x00, 0x02, 0xab, 0x81, 0xff, 0xc9, 0x00];
+
+fn spells(rt: &impl Abort, n: u64, bytes: &[u8]) {
+    let mut buf = [0x55; NUMBER_ROOM];
+    let len = put_number(n, &mut buf);
+    assert_eq!(rt; &buf[..len], bytes);
+    assert_eq!(rt; take_number(&buf), Ok((n, len)));
+}
+
+#[test]
+fn numbers(rt: HostRuntime) {
+    spells(&rt, 0, &[0x80]);
+    spells(&rt, 1, &[0x81]);
+    spells(&rt, 127, &[0xff]);
+    spells(&rt, 128, &[0x01, 0x80]);
+    spells(&rt, 300, &[0x02, 0xac]);
+    spells(
+        &rt,
+        u64::MAX,
+        &[1, 0x7f, 0x7f, 0x7f, 0x7f, 0x7f, 0x7f, 0x7f, 0x7f, 0xff],
+    );
+}
+
+#[test]
+fn faulty_numbers(rt: HostRuntime) {
+    let bad = Err(Bad { at: 0 });
+    assert_eq!(rt; take_number(&[]), bad);
+    assert_eq!(rt; take_number(&[0x00, 0x85]), bad);
+    assert_eq!(rt; take_number(&[0x05]), bad);
+    // One more than 2^64 - 1, and eleven groups.
+    assert_eq!(rt; take_number(&[2, 0, 0, 0, 0, 0, 0, 0, 0, 0x80]), bad);
+    assert_eq!(rt; take_number(&[1, 1, 1, 1, 1, 1, 1, 1, 1, 1, 0x81]), bad);
+}
+
+fn faulty_at(rt: HostRuntime, bytes: &[u8]) -> Option<usize> {
+    match parse(rt.alloc(), bytes) {
+        Err(ParseError::Bad(bad)) => Some(bad.at),
+        _ => None,
+    }
+}
+
+#[test]
+fn faulty_lists(rt: HostRuntime) {
+    // A first position, a whole number and a document's increase are missing.
+    assert_eq!(rt; faulty_at(rt, &[0x81, 0x00]), Some(1));
+    assert_eq!(rt; faulty_at(rt, &[0x81]), Some(1));
+    assert_eq!(rt; faulty_at(rt, &[0x81, 0x85]), Some(2));
+    assert_eq!(rt; faulty_at(rt, &[0x81, 0x05]), Some(1));
+    assert_eq!(rt; faulty_at(rt, &[0x81, 0x85, 0x00, 0x00]), Some(3));
+    // Increases of 0, and a group of zeros before a number.
+    assert_eq!(rt; faulty_at(rt, &[0x80, 0x85, 0x00]), Some(0));
+    assert_eq!(rt; faulty_at(rt, &[0x81, 0x85, 0x80, 0x00]), Some(2));
+    assert_eq!(rt; faulty_at(rt, &[0x81, 0x85, 0x00, 0x00, 0x85]), Some(3));
+    // The position 131,071 and one more.
+    assert_eq!(rt; faulty_at(rt, &[0x81, 0x08, 0x00, 0x80, 0x00]), None);
+    assert_eq!(rt; faulty_at(rt, &[0x81, 0x08, 0x00, 0x81, 0x00]), Some(1));
+    assert_eq!(rt;
+        faulty_at(rt, &[0x81, 0x81, 0x08, 0x00, 0x80, 0x00]),
+        Some(2)
+    );
+    // The id 2^63 - 1 and one more.
+    assert_eq!(rt;
+        faulty_at(
+            rt,
+            &[
+                0x7f, 0x7f, 0x7f, 0x7f, 0x7f, 0x7f, 0x7f, 0x7f, 0xff, 0x81, 0x00
+            ]
+        ),
+        None
+    );
+    assert_eq!(rt;
+        faulty_at(rt, &[1, 0, 0, 0, 0, 0, 0, 0, 0, 0x80, 0x81, 0x00]),
+        Some(0)
+    );
+}
+
+fn example(rt: HostRuntime) -> Result<Ilist, Fail> {
+    let mut list = Ilist::new(rt.alloc());
+    list.push(1, &[4])?;
+    list.push(300, &[0, 127, 200])?;
+    Ok(list)
+}
+
+#[test]
+fn example_is_written(rt: HostRuntime) -> Result<(), Fail> {
+    let empty = Ilist::new(rt.alloc());
+    assert!(rt; empty.is_empty());
+    assert_eq!(rt; empty.last_id(), 0);
+    assert_eq!(rt; empty.bytes().len(), 0);
+    assert_eq!(rt; empty.docs().peek_id(), None);
+    let list = example(rt)?;
+    assert_eq!(rt; list.bytes(), EXAMPLE.as_slice());
+    assert_eq!(rt; list.last_id(), 300);
+    assert!(rt; !list.is_empty());
+    Ok(())
+}
+
+#[test]
+fn example_is_read(rt: HostRuntime) -> Result<(), Fail> {
+    let list = parse(rt.alloc(), &EXAMPLE)?;
+    assert_eq!(rt; list.bytes(), EXAMPLE.as_slice());
+    let mut ids = Vec::new(rt.alloc());
+    let mut positions = Vec::new(rt.alloc());
+    for document in list.docs() {
+        ids.push(document.id())?;
+        for position in document.positions() {
+            positions.push(position)?;
+        }
+    }
+    assert_eq!(rt; ids.as_slice(), [1, 300].as_slice());
+    assert_eq!(rt; positions.as_slice(), [4, 0, 127, 200].as_slice());
+    Ok(())
+}
+
+#[test]
+fn limits_are_taken(rt: HostRuntime) -> Result<(), Fail> {
+    let mut list = Ilist::new(rt.alloc());
+    list.push(LAST_ID, &[0, LAST_POSITION])?;
+    let read = parse(rt.alloc(), list.bytes())?;
+    assert_eq!(rt; read.last_id(), LAST_ID);
+    Ok(())
+}
+
+#[test]
+fn documents_are_left_out(rt: HostRuntime) -> Result<(), Fail> {
+    let list = example(rt)?;
+    assert_eq!(rt; list.without(&[])?.bytes(), EXAMPLE.as_slice());
+    assert_eq!(rt; list.without(&[2, 300, 301])?.bytes(), &EXAMPLE[..3]);
+    let last = list.without(&[1])?;
+    assert_eq!(rt;
+        last.bytes(),
+        [0x02, 0xac, 0x81, 0xff, 0xc9, 0x00].as_slice()
+    );
+    assert_eq!(rt; list.without(&[1, 300])?.bytes().len(), 0);
+    Ok(())
+}
+
+#[test]
+fn documents_behind_are_joined(rt: HostRuntime) -> Result<(), Fail> {
+    let mut list = Ilist::new(rt.alloc());
+    list.push(1, &[4])?;
+    let mut behind = Ilist::new(rt.alloc());
+    behind.push(300, &[0, 127, 200])?;
+    list.join(&behind)?;
+    assert_eq!(rt; list.bytes(), EXAMPLE.as_slice());
+    Ok(())
+}
+
+#[test]
+fn documents_between_are_joined(rt: HostRuntime) -> Result<(), Fail> {
+    let mut list = Ilist::new(rt.alloc());
+    list.push(1, &[4])?;
+    list.push(300, &[0, 127, 200])?;
+    let mut between = Ilist::new(rt.alloc());
+    between.push(5, &[2])?;
+    list.join(&between)?;
+    let joined = [
+        0x81, 0x85, 0x00, 0x84, 0x83, 0x00, 0x02, 0xa7, 0x81, 0xff, 0xc9, 0x00,
+    ];
+    assert_eq!(rt; list.bytes(), joined.as_slice());
+    Ok(())
+}
+
+#[test]
+fn documents_are_copied(rt: HostRuntime) -> Result<(), Fail> {
+    let list = example(rt)?;
+    let mut copy = Ilist::new(rt.alloc());
+    for document in list.docs() {
+        if copy.last_id() < document.id() {
+            copy.push_document(&document)?;
+        }
+    }
+    assert_eq!(rt; copy.bytes(), EXAMPLE.as_slice());
+    Ok(())
+}
