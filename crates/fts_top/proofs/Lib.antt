@@ -1,3 +1,4 @@
 pub mod Turning
 pub mod Talking
 pub mod Fronts
+pub mod Finishing

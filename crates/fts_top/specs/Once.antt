@@ -1,4 +1,6 @@
-use Rattle.std.specs.Prelude.{◌≡◌, ℕ, List, ◌∷◌, [], ◌++◌, codes}
+use Rattle.fts_top.specs.declared.status.Status.{Status}
+use Rattle.fts_top.specs.declared.status.Status.TheVariants.{Done, NoMemory}
+use Rattle.std.specs.Prelude.{◌≡◌, ◌⊎◌, ℕ, List, ◌∷◌, [], ◌++◌, codes}
 use Rattle.fts_io.specs.Text.{lines_of}
 use Rattle.fts_steps.specs.State.{State, IsDatabase, IsCreated, created_with}
 use Rattle.fts_rowcodec.specs.Payload.{one_column}
@@ -24,3 +26,7 @@ pub record Creates (column old new before now : List ℕ) : Type 0 where
   pub fresh : IsCreated old → ⊥
   pub database : IsDatabase (created_with (one_column column)) new
   pub written : now ≡ before ++ created_text
+
+-- all was done, but for want of memory
+abbrev pub Finishes : Status → Type 0
+Finishes result = (result ≡ Done) ⊎ (result ≡ NoMemory)

@@ -1,4 +1,4 @@
-ghost use Rattle.std.specs.Prelude.{◌≡◌, ◌++◌, ◌↔◌, ℕ, List, [], true, map, take, slice_index_or, Some, None, IsTrue};
+ghost use Rattle.std.specs.Prelude.{◌≡◌, ◌++◌, ◌↔◌, ◌≤◌, ◌^◌, length, ℕ, List, [], true, map, take, slice_index_or, Some, None, IsTrue};
 ghost use Rattle.std.specs.String.{string_bytes};
 ghost use Rattle.fts_faults.specs.Count.{Rose};
 ghost use Rattle.fts_commits.specs.Settings.{is_column_name as is_name};
@@ -7,7 +7,7 @@ ghost use Rattle.fts_steps.specs.State.{State, IsCreated, IsDatabase, created_wi
 ghost use Rattle.fts_engine.specs.Opening.{IsNoDatabase};
 ghost use Rattle.fts_engine.specs.declared.create.TheConstants.{LARGEST_LOG};
 ghost use Rattle.fts_top.specs.Command.{command_of as the_command};
-ghost use Rattle.fts_top.specs.Once.{Completes, Creates, created_text as the_created_text};
+ghost use Rattle.fts_top.specs.Once.{Completes, Creates, Finishes, created_text as the_created_text};
 
 use crate::command::{Command, command_of};
 use crate::script::run;
@@ -29,6 +29,9 @@ fn run_script<I: Source, O: Sink, D: Disk, G: Gate>(
 ) -> (Status, D)
     ensures done { result.0 ≡ Status.Done → IsTrue I.tells → IsTrue O.tells → IsTrue D.tells
         → (start : State) × IsDatabase start (D.seen rows 0) × Completes LARGEST_LOG start (I.left input.old) (O.holds out.old) (O.holds out.new) (D.seen result.1 0) }
+    ensures complete { IsTrue I.tells → IsTrue D.tells → (state : State) → IsDatabase state (D.seen rows 0) → length (I.left input.old) ≤ 2 ^ 40
+        → (Rose (I.faults input.old) (I.faults input.new) → ⊥) → (Rose (O.faults out.old) (O.faults out.new) → ⊥) → (Rose (D.faults rows) (D.faults result.1) → ⊥)
+        → Finishes result.0 }
     ensures usage { result.0 ≡ Status.Usage → ⊥ }
     ensures already { result.0 ≡ Status.AlreadyCreated → ⊥ }
     ensures not_created { result.0 ≡ Status.NotCreated → (input.new ≡ input.old) × (out.new ≡ out.old)
@@ -72,6 +75,8 @@ fn create<O: Sink, D: Disk>(alloc: Global, column: &[u8], out: &mut O, rows: D) 
     ensures disk { result.0 ≡ Status.DiskFault → (out.new ≡ out.old) × Rose (D.faults rows) (D.faults result.1) }
     ensures memory { result.0 ≡ Status.NoMemory → (out.new ≡ out.old) × (result.1 ≡ rows) }
     ensures usage { result.0 ≡ Status.Usage → ⊥ }
+    ensures complete { IsTrue D.tells → (IsCreated (D.seen rows 0) → ⊥)
+        → (Rose (O.faults out.old) (O.faults out.new) → ⊥) → (Rose (D.faults rows) (D.faults result.1) → ⊥) → Finishes result.0 }
     ensures others { (result.0 ≡ Status.ReadFault → ⊥) × (result.0 ≡ Status.NotCreated → ⊥) × ((device : _) (file at : ℕ) → result.0 ≡ Status.Damaged device file at → ⊥) × ((lines bytes : ℕ) → result.0 ≡ Status.ScriptTooLong lines bytes → ⊥) }
 {
     match create_engine(alloc, column, rows) {
@@ -115,6 +120,15 @@ pub fn fts_once<I: Source, O: Sink, D: Disk, E: Disk, G: Gate>(
     ensures read { result.0 ≡ Status.ReadFault → Rose (I.faults input.old) (I.faults input.new) }
     ensures write { result.0 ≡ Status.WriteFault → Rose (O.faults out.old) (O.faults out.new) }
     ensures disk { result.0 ≡ Status.DiskFault → Rose (D.faults rows) (D.faults result.1) }
+
+    // Without a fault a command that fits the devices ends as Done, or for want of memory.
+    ensures create_complete { the_command (map string_bytes words.now) ≡ Some Command.Create → IsTrue D.tells → (IsCreated (D.seen rows 0) → ⊥)
+        → (Rose (O.faults out.old) (O.faults out.new) → ⊥) → (Rose (D.faults rows) (D.faults result.1) → ⊥) → Finishes result.0 }
+    ensures run_complete { the_command (map string_bytes words.now) ≡ Some Command.Run → IsTrue I.tells → IsTrue D.tells → (state : State) → IsDatabase state (D.seen rows 0)
+        → length (I.left input.old) ≤ 2 ^ 40
+        → (Rose (I.faults input.old) (I.faults input.new) → ⊥) → (Rose (O.faults out.old) (O.faults out.new) → ⊥) → (Rose (D.faults rows) (D.faults result.1) → ⊥)
+        → Finishes result.0 }
+
     ensures index { result.2 ≡ index }
 {
     match command_of(words) {
