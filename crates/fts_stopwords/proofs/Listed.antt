@@ -16,8 +16,8 @@ list_any-filter p q keeps (x ∷ xs) =
     let rest = list_any-filter p q keeps xs in
     ⊎_elim (λ (pass : q x ≡ true). rw pass (ap (λ (b : Bool). p x || b) rest))
     (λ (fail : q x ≡ false).
-        let out : p x ≡ false = ⊎_elim (λ here. absurd (false≢true (sym fail ∙ keeps x here))) (λ no_match. no_match) (cases_Bool (p x)) in
-        rw (fail, out) rest)
+    let out : p x ≡ false = ⊎_elim (λ here. absurd (false≢true (sym fail ∙ keeps x here))) (λ no_match. no_match) (cases_Bool (p x)) in
+    rw (fail, out) rest)
     (cases_Bool (q x))
 
 list_any-map : {X Y : Type 0} (f : X → Y) (p : Y → Bool) (xs : List X) → list_any (λ x. p (f x)) xs ≡ list_any p (map f xs)

@@ -12,9 +12,9 @@ ghost use Rattle.fts_stopwords.specs.StopSet.{words_of};
 ///
 /// Source: MySQL 8.0 Reference Manual, "Full-Text Stopwords".
 pub const DEFAULT: [&str; 36] = [
-    "a", "about", "an", "are", "as", "at", "be", "by", "com", "de", "en", "for", "from", "how", "i", "in",
-    "is", "it", "la", "of", "on", "or", "that", "the", "this", "to", "was", "what", "when", "where",
-    "who", "will", "with", "und", "the", "www",
+    "a", "about", "an", "are", "as", "at", "be", "by", "com", "de", "en", "for", "from", "how",
+    "i", "in", "is", "it", "la", "of", "on", "or", "that", "the", "this", "to", "was", "what",
+    "when", "where", "who", "will", "with", "und", "the", "www",
 ];
 
 /// A set of stopwords.
@@ -45,7 +45,9 @@ fn default_words_by(first: u8) -> &'static [&'static [u8]]
         b'o' => &[b"of", b"on", b"or"],
         b't' => &[b"that", b"the", b"this", b"to", b"the"],
         b'u' => &[b"und"],
-        b'w' => &[b"was", b"what", b"when", b"where", b"who", b"will", b"with", b"www"],
+        b'w' => &[
+            b"was", b"what", b"when", b"where", b"who", b"will", b"with", b"www",
+        ],
         _ => &[],
     }
 }

@@ -34,8 +34,10 @@ words_from_column columns column offset = ⊎_elim inside past (cases_lt column 
   where
     Goal : List (List ℕ) → Type 0
     Goal texts = placed_spans column offset 0 (raw_words (column_text columns column)) ++ placed_words_from (column + 1) (offset + length (column_text columns column) + 1) (drop (column + 1) columns) ≡ placed_words_from column offset texts
+
     inside : column < length columns → Goal (drop column columns)
     inside within = subst Goal (sym (drop_more columns column [] within)) refl
+
     past : length columns ≤ column → Goal (drop column columns)
     past over =
         let text_is : column_text columns column ≡ [] = get_or_past columns column [] over in

@@ -26,15 +26,15 @@ module _ (text : List ℕ) (at from : ℕ) (between : IsBetweenWords text at) (n
       not_in_word text k
       (λ word. clash (word_at text k) word (none k low high))
       (λ mark. ⊎_elim
-          (λ (less : k - 1 < at). ⊎_elim
-              (λ (some : 0 < k).
-                  let same : k ≡ at = omega arith in
-                  let both : (in_word text (k - 1) && in_word text at) ≡ true = and_from _ _ (in_word_by_byte text (k - 1) mark.left) (subst (λ (x : ℕ). in_word text x ≡ true) same (in_word_by_mark text k mark.mark mark.left mark.right)) in
-                  clash _ both (between (k - 1) (omega arith)))
-              (λ (least : k ≤ 0). let same : k - 1 ≡ k = omega arith in clash (word_at text k) (subst (λ (x : ℕ). word_at text x ≡ true) same mark.left) (none k low high))
-              (cases_lt 0 k))
-          (λ (more : at ≤ k - 1). clash (word_at text (k - 1)) mark.left (none (k - 1) more (omega arith)))
-          (cases_lt (k - 1) at))
+      (λ (less : k - 1 < at). ⊎_elim
+      (λ (some : 0 < k).
+      let same : k ≡ at = omega arith in
+      let both : (in_word text (k - 1) && in_word text at) ≡ true = and_from _ _ (in_word_by_byte text (k - 1) mark.left) (subst (λ (x : ℕ). in_word text x ≡ true) same (in_word_by_mark text k mark.mark mark.left mark.right)) in
+      clash _ both (between (k - 1) (omega arith)))
+      (λ (least : k ≤ 0). let same : k - 1 ≡ k = omega arith in clash (word_at text k) (subst (λ (x : ℕ). word_at text x ≡ true) same mark.left) (none k low high))
+      (cases_lt 0 k))
+      (λ (more : at ≤ k - 1). clash (word_at text (k - 1)) mark.left (none (k - 1) more (omega arith)))
+      (cases_lt (k - 1) at))
 
   -- the text has no word from the place on
   pub no_word : at ≤ length text → from ≡ length text → raw_words_from text at ≡ []
@@ -49,8 +49,8 @@ module _ (text : List ℕ) (at from : ℕ) (between : IsBetweenWords text at) (n
         each = each;
         before = λ k next. ⊎_elim
             (λ (less : k < at).
-                let same : from ≡ at = omega arith in
-                ⊎_elim (λ pass. clash _ (and_from (in_word text k) _ pass (subst (λ (x : ℕ). in_word text x ≡ true) same (each from (omega arith) some))) (between k (omega arith))) (λ fail. fail) (cases_Bool (in_word text k)))
+            let same : from ≡ at = omega arith in
+            ⊎_elim (λ pass. clash _ (and_from (in_word text k) _ pass (subst (λ (x : ℕ). in_word text x ≡ true) same (each from (omega arith) some))) (between k (omega arith))) (λ fail. fail) (cases_Bool (in_word text k)))
             (λ (more : at ≤ k). outside order k more (omega arith))
             (cases_lt k at);
         behind = behind;

@@ -6,13 +6,17 @@
 
 mod indexable;
 mod indexed;
+mod laws;
 mod lower;
 mod placed;
 mod raw;
+#[cfg(test)]
+mod tests;
 mod words;
 
 pub use indexable::is_indexable;
 pub use indexed::IndexedWords;
+pub use laws::{indexed_words_are_exact, placed_words_are_exact};
 pub use lower::lowered_into;
 pub use placed::PlacedWords;
 pub use raw::{RawWords, is_word_byte};

@@ -1,4 +1,4 @@
-ghost use Rattle.std.specs.Prelude.{◌≡◌, ℕ, ◌+◌, ◌<◌, ◌↔◌, List, [], ◌∷◌, ◌++◌, length, map, IsTrue, OnOk, OnErr, IfErr, slice_index_or, slice_get, option_map};
+ghost use Rattle.std.specs.Prelude.{◌≡◌, ℕ, ◌<◌, ◌↔◌, List, [], ◌∷◌, ◌++◌, ◌≤◌, length, map, sum_by, IsTrue, OnOk, OnErr, IfErr, slice_index_or};
 
 use std::alloc::{AllocFailed, Global};
 use std::marker::Model;
@@ -22,6 +22,8 @@ impl Model for Texts {
 }
 
 impl Texts {
+    ghost use Rattle.fts_types.specs.Row.{IsRow};
+
     /// No texts, which will lie in the allocator's memory.
     pub fn new(alloc: Global) -> Self
         ensures { result ≡ [] }
@@ -66,6 +68,28 @@ impl Texts {
         ensures { result.now ≡ slice_index_or self.now place [] }
     {
         self.texts[place].as_slice()
+    }
+
+    /// Whether these can be the texts of a row: 1 to 8 columns, of at most 65,535 bytes together.
+    pub fn is_row(&self) -> bool
+        ensures { IsTrue result ↔ IsRow self.now }
+    {
+        1 <= self.len() && self.len() <= 8 && self.has_room(65_535)
+    }
+
+    /// Whether they have at most so many bytes together.
+    fn has_room(&self, limit: usize) -> bool
+        ensures { IsTrue result ↔ (sum_by length self.now ≤ limit) }
+    {
+        let mut room = limit;
+        for place in 0..self.len() {
+            let len = self.text(place).len();
+            if len > room {
+                return false;
+            }
+            room -= len;
+        }
+        true
     }
 
     /// Adds a text at the end. Where memory is wanting, it gives the text back, and the list is as before.

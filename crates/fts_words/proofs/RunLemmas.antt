@@ -149,7 +149,7 @@ kept_places p i (suc n) =
     ⊎_elim (λ (pass : p i ≡ true). rw pass (All-cons P i _ (omega arith, omega arith, pass) rest)) (λ (fail : p i ≡ false). rw fail rest) (cases_Bool (p i))
 
 -- a place of the range that passes is kept
-Contains-there : {X : Type 0} (x y : X) (xs : List X) → Contains xs x → Contains (y ∷ xs) x
+pub Contains-there : {X : Type 0} (x y : X) (xs : List X) → Contains xs x → Contains (y ∷ xs) x
 Contains-there x y xs h = (suc h.0, omega (arith, h.1), h.2)
 
 contains_place : (p : ℕ → Bool) (k i n : ℕ) → i ≤ k → k < i + n → p k ≡ true → Contains (filter p (range_with_len i n)) k
@@ -165,7 +165,7 @@ contains_place p k i (suc n) low high e =
     rw here (0, omega arith, sym same))
     (cases_lt i k)
 
-Contains-map : {X Y : Type 0} (f : X → Y) (xs : List X) (x : X) → Contains xs x → Contains (map f xs) (f x)
+pub Contains-map : {X Y : Type 0} (f : X → Y) (xs : List X) (x : X) → Contains xs x → Contains (map f xs) (f x)
 Contains-map f [] x h = absurd (omega (arith, h.1))
 Contains-map f (y ∷ ys) x (zero, less, e) = (0, omega arith, ap f e)
 Contains-map f (y ∷ ys) x (suc k, less, e) = Contains-there (f x) (f y) (map f ys) (Contains-map f ys x (k, omega arith, e))
@@ -302,3 +302,14 @@ same_ascending (x ∷ xs) (y ∷ ys) up up' full full' there back =
     (λ w inside. ⊎_elim (λ (same : y ≡ w). absurd (omega (arith, behind_x w inside, ap (λ (v : Span). v.from) same))) (λ later. later) (Contains-cons_cases w y ys (there w (Contains-there w x xs inside))))
     (λ w inside. ⊎_elim (λ (same : x ≡ w). absurd (omega (arith, behind_y w inside, ap (λ (v : Span). v.from) same))) (λ later. later) (Contains-cons_cases w x xs (back w (Contains-there w y ys inside)))) in
     ap₂ ◌∷◌ first rest
+
+-- an element that passes is kept
+pub contains_filtered : {X : Type 0} (p : X → Bool) (x : X) (xs : List X) → Contains xs x → p x ≡ true → Contains (filter p xs) x
+contains_filtered p x [] h pass = absurd (omega (arith, h.1))
+contains_filtered p x (y ∷ ys) h pass =
+    ⊎_elim
+    (λ (same : y ≡ x). let here : p y ≡ true = ap p same ∙ pass in rw here (0, omega arith, same))
+    (λ later.
+    let rest = contains_filtered p x ys later pass in
+    ⊎_elim (λ (keep : p y ≡ true). rw keep (Contains-there x y _ rest)) (λ (out : p y ≡ false). rw out rest) (cases_Bool (p y)))
+    (Contains-cons_cases x y ys h)

@@ -166,3 +166,9 @@ raw_words_only text spans up members =
     same_ascending spans (raw_words text) up (raw_words_ascend text)
     (full spans (λ w. (members w).0)) (full (raw_words text) listed)
     (λ w inside. raw_words_all text w ((members w).0 inside)) (λ w inside. (members w).1 (listed w inside))
+
+-- a raw word lies within its text
+pub raw_words_within : (text : List ℕ) (from to : ℕ) → IsRawWord text from to → to ≤ length text
+raw_words_within text from to word =
+    let ordered = word.nonempty in
+    ⊎_elim (λ over. clash (word_at text (to - 1)) word.last (word_at_past text (to - 1) (omega arith))) (λ within. within) (cases_lt (length text) to)
