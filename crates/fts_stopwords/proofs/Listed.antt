@@ -1,5 +1,5 @@
 -- A word is looked for among the stopwords with its first byte alone.
-use Rattle.std.proofs.Common.{◌≡◌, ℕ, zero, suc, ◌<◌, ◌⊎◌, ◌≤◌, ◌↔◌, Bool, true, false, ◌||◌, List, [], ◌∷◌, length, map, get_or, sym, refl, ap, ◌∙◌, ⊎_elim, eq-eqb, arith, Bor}
+use Rattle.std.proofs.Common.{◌≡◌, ℕ, zero, suc, ◌≤◌, ◌↔◌, Bool, true, false, ◌||◌, List, [], ◌∷◌, length, map, sym, refl, ap, ◌∙◌, ⊎_elim, eq-eqb, arith, Bor}
 use Rattle.std.specs.Prelude.{filter, Contains, ◌==◌, slice_index, IsTrue}
 use Rattle.std.specs.List.{list_any}
 use Rattle.std.specs.Str.{bytes_eq}

@@ -118,3 +118,20 @@ impl StopSet {
         }
     }
 }
+
+#[cfg(test)]
+mod tests {
+    use super::*;
+
+    #[test]
+    fn sets_have_their_words(rt: HostRuntime) {
+        assert_eq!(rt; default_words().len(), 36);
+        for word in default_words() {
+            assert!(rt; StopSet::Default.contains(word.as_bytes()), "{word}");
+            assert!(rt; !StopSet::Empty.contains(word.as_bytes()), "{word}");
+        }
+        assert!(rt; StopSet::Default.contains_lowered(b"ThE"));
+        assert!(rt; !StopSet::Default.contains(b"ThE"));
+        assert!(rt; !StopSet::Default.contains_lowered(b"apple"));
+    }
+}

@@ -25,15 +25,18 @@ fn row(alloc: Global, texts: &[&[u8]]) -> Result<RowTexts, Fail> {
     Ok(row)
 }
 
-fn indexed(
+/// Whether the row's indexed words are these.
+fn gives(
     rt: &impl Abort,
-    alloc: Global,
     settings: &Settings,
     texts: &[&[u8]],
-) -> Result<Vec<PlacedWord>, Fail> {
+    want: &[PlacedWord],
+    alloc: Global,
+) -> Result<bool, Fail> {
     let row = row(alloc, texts)?;
     assert!(rt; row.is_row());
-    Ok(indexed_words(settings, &row).collect(alloc)?)
+    let words: Vec<PlacedWord> = indexed_words(settings, &row).collect(alloc)?;
+    Ok(words.as_slice() == want)
 }
 
 fn word(column: usize, from: usize, to: usize, number: u32, position: u32) -> PlacedWord {
@@ -46,68 +49,114 @@ fn word(column: usize, from: usize, to: usize, number: u32, position: u32) -> Pl
 }
 
 #[test]
-fn words_stand_where_the_manual_says(rt: HostRuntime) -> Result<(), Fail> {
+fn apostrophes_join_or_part_words(rt: HostRuntime) -> Result<(), Fail> {
     let alloc = rt.alloc();
-    let longest = [b'x'; 84];
-    let too_long = [b'y'; 85];
-    let rows: [(&[&[u8]], &[PlacedWord]); 12] = [
-        (&[b"aaa'bbb"], &[word(0, 0, 7, 0, 0)]),
-        (&[b"aaa''bbb"], &[word(0, 0, 3, 0, 0), word(0, 5, 8, 1, 5)]),
-        (&[b"'aaa'bbb'"], &[word(0, 1, 8, 0, 1)]),
-        (
-            &[b"The apple, the juice"],
-            &[word(0, 4, 9, 1, 4), word(0, 15, 20, 3, 15)],
-        ),
-        (&[b"ab abc"], &[word(0, 3, 6, 1, 3)]),
-        (&[&longest], &[word(0, 0, 84, 0, 0)]),
-        (&[&too_long], &[]),
-        (
-            &[b"a test", b"phrase b"],
-            &[word(0, 2, 6, 1, 2), word(1, 0, 6, 0, 7)],
-        ),
-        (&[b"", b"pear"], &[word(1, 0, 4, 0, 1)]),
-        (&[b""], &[]),
-        (
-            &[b"one\ttwo", b"Two"],
-            &[
-                word(0, 0, 3, 0, 0),
-                word(0, 4, 7, 1, 4),
-                word(1, 0, 3, 0, 8),
-            ],
-        ),
-        (
-            &[b" !\"#$%&'()*+,-./0123456789:;<=>?@ABC_abc~"],
-            &[word(0, 16, 26, 0, 16), word(0, 33, 40, 1, 33)],
-        ),
+    let standard = settings(alloc);
+    assert!(rt; gives(&rt, &standard, &[b"aaa'bbb"], &[word(0, 0, 7, 0, 0)], alloc)?);
+    assert!(rt;
+        gives(
+            &rt,
+            &standard,
+            &[b"aaa''bbb"],
+            &[word(0, 0, 3, 0, 0), word(0, 5, 8, 1, 5)],
+            alloc
+        )?
+    );
+    assert!(rt;
+        gives(
+            &rt,
+            &standard,
+            &[b"'aaa'bbb'"],
+            &[word(0, 1, 8, 0, 1)],
+            alloc
+        )?
+    );
+    Ok(())
+}
+
+#[test]
+fn words_stand_at_their_positions(rt: HostRuntime) -> Result<(), Fail> {
+    let alloc = rt.alloc();
+    let standard = settings(alloc);
+    let juice = [word(0, 4, 9, 1, 4), word(0, 15, 20, 3, 15)];
+    assert!(rt; gives(&rt, &standard, &[b"The apple, the juice"], &juice, alloc)?);
+    let phrase = [word(0, 2, 6, 1, 2), word(1, 0, 6, 0, 7)];
+    assert!(rt; gives(&rt, &standard, &[b"a test", b"phrase b"], &phrase, alloc)?);
+    assert!(rt;
+        gives(
+            &rt,
+            &standard,
+            &[b"", b"pear"],
+            &[word(1, 0, 4, 0, 1)],
+            alloc
+        )?
+    );
+    let numbers = [
+        word(0, 0, 3, 0, 0),
+        word(0, 4, 7, 1, 4),
+        word(1, 0, 3, 0, 8),
     ];
-    for (texts, want) in rows {
-        let got = indexed(&rt, alloc, &settings(alloc), texts)?;
-        assert_eq!(rt; got.as_slice(), want, "{texts:?}");
+    assert!(rt; gives(&rt, &standard, &[b"one\ttwo", b"Two"], &numbers, alloc)?);
+    Ok(())
+}
+
+#[test]
+fn bytes_make_words(rt: HostRuntime) -> Result<(), Fail> {
+    let alloc = rt.alloc();
+    let mut bytes = [b'\t'; 96];
+    for byte in 32..127 {
+        bytes[byte as usize - 31] = byte;
     }
+    let words = [
+        word(0, 17, 27, 0, 17),
+        word(0, 34, 60, 1, 34),
+        word(0, 66, 92, 3, 66),
+    ];
+    assert!(rt; gives(&rt, &settings(alloc), &[&bytes], &words, alloc)?);
     Ok(())
 }
 
 #[test]
 fn settings_choose_the_words(rt: HostRuntime) -> Result<(), Fail> {
     let alloc = rt.alloc();
+    let standard = settings(alloc);
+    assert!(rt; gives(&rt, &standard, &[b"ab abc"], &[word(0, 3, 6, 1, 3)], alloc)?);
+    assert!(rt;
+        gives(
+            &rt,
+            &standard,
+            &[&[b'x'; 84]],
+            &[word(0, 0, 84, 0, 0)],
+            alloc
+        )?
+    );
+    assert!(rt; gives(&rt, &standard, &[&[b'y'; 85]], &[], alloc)?);
+
     let mut all = settings(alloc);
     all.stopword = false;
-    let got = indexed(&rt, alloc, &all, &[b"The pie"])?;
-    assert_eq!(rt;
-        got.as_slice(),
-        [word(0, 0, 3, 0, 0), word(0, 4, 7, 1, 4)].as_slice()
+    assert!(rt;
+        gives(
+            &rt,
+            &all,
+            &[b"The pie"],
+            &[word(0, 0, 3, 0, 0), word(0, 4, 7, 1, 4)],
+            alloc
+        )?
     );
 
     let mut none = settings(alloc);
     none.min = 12;
     none.max = 10;
-    let got = indexed(&rt, alloc, &none, &[b"apple abcdefghij abcdefghijkl"])?;
-    assert_eq!(rt; got.len(), 0);
-
-    assert!(rt; is_indexable(&settings(alloc), b"apple"));
-    assert!(rt; !is_indexable(&settings(alloc), b"with"));
-    assert!(rt; !is_indexable(&settings(alloc), b"ab"));
+    assert!(rt; gives(&rt, &none, &[b"apple abcdefghij abcdefghijkl"], &[], alloc)?);
     Ok(())
+}
+
+#[test]
+fn lowered_words_are_indexable(rt: HostRuntime) {
+    let standard = settings(rt.alloc());
+    assert!(rt; is_indexable(&standard, b"apple"));
+    assert!(rt; !is_indexable(&standard, b"with"));
+    assert!(rt; !is_indexable(&standard, b"ab"));
 }
 
 #[test]

@@ -1,9 +1,8 @@
 -- The words of a row, column by column.
-use Rattle.std.proofs.Common.{◌≡◌, ℕ, zero, suc, ◌+◌, ◌-◌, ◌<◌, ◌≤◌, ◌⊎◌, Bool, true, false, cond, List, [], ◌∷◌, ◌++◌, length, map, get_or, take, drop, sym, refl, ap, ap₂, ◌∙◌, subst, ⊎_elim, arith, lt-ltb, le-ltb}
-use Rattle.std.specs.Prelude.{All, Contains, filter, sum_by, count_by, nat_lt}
+use Rattle.std.proofs.Common.{◌≡◌, ℕ, zero, suc, ◌+◌, ◌<◌, ◌≤◌, Bool, true, false, cond, List, [], ◌∷◌, ◌++◌, length, get_or, drop, sym, refl, ap, ◌∙◌, subst, arith, lt-ltb, le-ltb}
+use Rattle.std.specs.Prelude.{All, Contains, count_by, nat_lt}
 use Rattle.std.specs.List.{enumerate_from, AllPairs}
-use Rattle.std.proofs.lemmas.Bool.{cases_lt}
-use Rattle.std.proofs.lemmas.List.{length-map, get_or-map, get_or_past, drop_more, drop_all}
+use Rattle.std.proofs.lemmas.List.{length-map, get_or-map, drop_more, drop_all}
 use Rattle.std.proofs.lemmas.List.Elements.{All-nil, All-head, All-tail, All-append, All-weaker, All-filter, filter_passes, Contains-append_left, Contains-append_right}
 use Rattle.std.proofs.lemmas.List.FromFn.{length-enumerate_from, get_or-enumerate_from}
 use Rattle.std.proofs.lemmas.List.Kept.{AllPairs-cons, AllPairs-filter}
@@ -14,7 +13,7 @@ use Rattle.fts_words.specs.Word.{IsRawWord}
 use Rattle.fts_words.specs.Run.{IsAscending}
 use Rattle.fts_words.specs.RawWords.{raw_words}
 use Rattle.fts_words.specs.Indexed.{Rules, is_indexable, column_text, column_offset, word_of, IsPlaced, IsIndexedWord, placed_spans, placed_words_from, placed_words, indexed_words, PositionsAscend}
-use Rattle.fts_words.proofs.RunLemmas.{AllPairs-head, AllPairs-tail, Contains-map, contains_filtered}
+use Rattle.fts_words.proofs.RunLemmas.{AllPairs-head, AllPairs-tail, contains_filtered}
 use Rattle.fts_words.proofs.WordLemmas.{raw_words_each, raw_words_all, raw_words_ascend, raw_words_within}
 
 -- nothing counts where nothing passes

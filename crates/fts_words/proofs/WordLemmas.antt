@@ -1,14 +1,14 @@
 -- Raw words are the runs of the places that belong to a word.
-use Rattle.std.proofs.Common.{◌≡◌, ℕ, zero, suc, ◌+◌, ◌-◌, ◌<◌, ◌≤◌, ◌⊎◌, ◌↔◌, Bool, true, false, ◌&&◌, ◌||◌, List, [], ◌∷◌, length, get_or, sym, refl, ap, ◌∙◌, subst, inl, inr, ⊎_elim, arith, eqb-true}
+use Rattle.std.proofs.Common.{◌≡◌, ℕ, ◌+◌, ◌-◌, ◌<◌, ◌≤◌, ◌⊎◌, ◌↔◌, Bool, true, false, ◌&&◌, ◌||◌, List, length, get_or, sym, refl, ap, subst, inl, inr, ⊎_elim, arith, eqb-true}
 use Rattle.std.specs.Prelude.{All, Contains}
 use Rattle.std.proofs.lemmas.Bool.{cases_Bool, cases_lt, or_cases, and_parts, and_from}
 use Rattle.std.proofs.lemmas.List.{get_or_past}
-use Rattle.std.proofs.lemmas.List.Elements.{All-weaker, All-contains, All-from_get_or, Contains-get_or}
+use Rattle.std.proofs.lemmas.List.Elements.{All-weaker, All-contains, Contains-get_or}
 use Rattle.fts_words.specs.declared.span.Span.{Span}
 use Rattle.fts_words.specs.Byte.{is_word_byte, word_at, apostrophe_at}
 use Rattle.fts_words.specs.Word.{IsRawWord}
 use Rattle.fts_words.specs.Run.{IsRun, IsAscending}
-use Rattle.fts_words.specs.RawWords.{in_word, raw_words, raw_words_from}
+use Rattle.fts_words.specs.RawWords.{in_word, raw_words}
 use Rattle.fts_words.proofs.RunLemmas.{clash, runs_apart, runs_each, runs_all, runs_ascend, run_around, same_ascending}
 
 -- a byte isn't a word byte and an apostrophe

@@ -1,4 +1,4 @@
-use Rattle.std.proofs.Common.{◌≡◌, ◌↔◌, ap, sym, subst, true, List, ℕ, Bool}
+use Rattle.std.proofs.Common.{◌↔◌, ap, sym, subst, List, ℕ, Bool}
 use Rattle.std.specs.Prelude.{IsTrue, Contains}
 use Rattle.fts_words.specs.Stopwords.{default_stopwords, is_listed}
 use Rattle.fts_stopwords.specs.StopSet.{words_of}

@@ -1,4 +1,4 @@
-use Rattle.std.proofs.Common.{◌≡◌, ◌<◌, ◌⊎◌, ⊎_elim, arith}
+use Rattle.std.proofs.Common.{⊎_elim, arith}
 use Rattle.fts_words.proofs.WordLemmas.{words_apart, word_around}
 use Rattle.fts_words.proofs.laws.word_byte_has_one_word.Goals as goal
 
