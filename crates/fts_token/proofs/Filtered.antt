@@ -1,5 +1,5 @@
 -- A filter of the words that are left, word by word.
-use Rattle.std.proofs.Common.{◌≡◌, ℕ, Bool, true, false, List, [], ◌∷◌, refl, sym, ap, ◌∙◌, subst}
+use Rattle.std.proofs.Common.{◌≡◌, Bool, true, false, List, ◌∷◌, refl, sym, ap, ◌∙◌}
 use Rattle.std.specs.Prelude.{filter}
 
 module _ {R X : Type 0} (p : R → X → Bool) (old new : R) (xs ys : List X) (x : X) (split : xs ≡ x ∷ ys) (same : new ≡ old) where

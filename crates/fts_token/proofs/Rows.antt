@@ -1,15 +1,12 @@
 -- The columns of a row, one after another.
-use Rattle.std.proofs.Common.{◌≡◌, ℕ, zero, suc, ◌+◌, ◌-◌, ◌<◌, ◌≤◌, List, [], ◌∷◌, ◌++◌, length, get_or, take, drop, sym, refl, ap, ◌∙◌, subst, ⊎_elim, arith}
-use Rattle.std.specs.Prelude.{sum_by, IfNone, IfSome, Option, None, Some}
+use Rattle.std.proofs.Common.{◌≡◌, ℕ, ◌+◌, ◌<◌, ◌≤◌, List, [], ◌∷◌, ◌++◌, length, drop, sym, refl, ap, subst, ⊎_elim, arith}
+use Rattle.std.specs.Prelude.{sum_by}
 use Rattle.std.proofs.lemmas.Bool.{cases_lt}
 use Rattle.std.proofs.lemmas.List.{get_or_past, drop_more, drop_all}
 use Rattle.std.proofs.lemmas.List.Sums.{sum_by-cons, sum_by_more, sum_by-take-le}
-use Rattle.fts_words.specs.declared.span.Span.{Span}
-use Rattle.fts_words.specs.declared.placed.PlacedWord.{PlacedWord}
 use Rattle.fts_words.specs.RawWords.{raw_words, raw_words_from}
-use Rattle.fts_words.specs.Indexed.{column_text, column_offset, placed_spans, placed_words_from, placed_words}
+use Rattle.fts_words.specs.Indexed.{column_text, column_offset, placed_spans, placed_words_from}
 use Rattle.fts_words.proofs.RunLemmas.{no_run}
-use Rattle.fts_words.proofs.WordLemmas.{in_word_past}
 
 -- the texts of a row, and a byte behind each
 pub sum_by_with_joints : (columns : List (List ℕ)) → sum_by (λ text. length text + 1) columns ≡ sum_by length columns + length columns

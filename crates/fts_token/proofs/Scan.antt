@@ -1,12 +1,11 @@
 -- What a scan over a text finds, byte by byte.
-use Rattle.std.proofs.Common.{◌≡◌, ℕ, ◌+◌, ◌-◌, ◌<◌, ◌≤◌, ◌⊎◌, Bool, true, false, eqb, ◌&&◌, List, [], ◌∷◌, length, get_or, sym, refl, ap, ◌∙◌, subst, ⊎_elim, arith, ne_eqb}
+use Rattle.std.proofs.Common.{◌≡◌, ℕ, ◌+◌, ◌-◌, ◌<◌, ◌≤◌, Bool, true, false, eqb, ◌&&◌, List, [], ◌∷◌, length, get_or, refl, ap, subst, ⊎_elim, arith, ne_eqb}
 use Rattle.std.proofs.lemmas.Bool.{cases_lt, cases_Bool, and_from, and_parts}
 use Rattle.std.proofs.lemmas.List.{get_or_past}
-use Rattle.fts_words.specs.Byte.{is_word_byte, word_at, apostrophe_at}
-use Rattle.fts_words.specs.Run.{IsRun}
+use Rattle.fts_words.specs.Byte.{word_at, apostrophe_at}
 use Rattle.fts_words.specs.RawWords.{in_word, raw_words_from}
 use Rattle.fts_words.proofs.RunLemmas.{clash, first_run, no_run}
-use Rattle.fts_words.proofs.WordLemmas.{IsInner, in_word_by_byte, in_word_by_mark, in_word_cases, not_in_word, in_word_past}
+use Rattle.fts_words.proofs.WordLemmas.{in_word_by_byte, in_word_by_mark, not_in_word}
 use Rattle.fts_token.specs.Between.{IsBetweenWords}
 
 -- behind a byte that is no word byte, the places without one go on

@@ -19,7 +19,7 @@ impl<'a> IndexedWords<'a> {
     ghost use Rattle.fts_token.specs.Left.{indexed_words_left};
 
     /// The indexed words of a row under the settings, each with its word number and its position.
-    pub fn new(settings: &'a Settings, columns: &'a RowTexts) -> Self
+    pub(crate) fn new(settings: &'a Settings, columns: &'a RowTexts) -> Self
         requires { IsRow columns.now }
         ensures { indexed_words_left result ≡ indexed_words (rules_of settings.now) columns.now }
     {

@@ -31,7 +31,7 @@ impl<'a> PlacedWords<'a> {
     ghost use Rattle.fts_token.specs.Left.{columns_of, placed_words_behind, placed_words_left};
 
     /// The raw words of a row, each with its word number and its position.
-    pub fn new(columns: &'a RowTexts) -> Self
+    pub(crate) fn new(columns: &'a RowTexts) -> Self
         requires { IsRow columns.now }
         ensures left { placed_words_left result ≡ placed_words columns.now }
         ensures row { columns_of result ≡ columns.now }

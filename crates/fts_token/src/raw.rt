@@ -106,7 +106,7 @@ impl<'a> RawWords<'a> {
     ghost use Rattle.fts_token.specs.Left.{raw_words_left};
 
     /// The raw words of a text, each as its span.
-    pub fn new(text: &'a [u8]) -> Self
+    pub(crate) fn new(text: &'a [u8]) -> Self
         ensures { raw_words_left result ≡ raw_words text.now }
     {
         RawWords { text, at: 0 }

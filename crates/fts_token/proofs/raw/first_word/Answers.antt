@@ -1,5 +1,5 @@
-use Rattle.std.proofs.Common.{◌≡◌, length, arith}
-use Rattle.fts_token.proofs.Scan.{no_word, next_word, between_behind}
+use Rattle.std.proofs.Common.{arith}
+use Rattle.fts_token.proofs.Scan.{no_word, next_word}
 use Rattle.fts_token.proofs.raw.first_word.Goals as goal
 
 pub returns-then-from-text-clause-none : goal.returns-then-from-text-clause-none

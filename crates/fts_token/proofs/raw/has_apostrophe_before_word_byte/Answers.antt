@@ -1,4 +1,4 @@
-use Rattle.std.proofs.Common.{◌≤◌, length, arith}
+use Rattle.std.proofs.Common.{arith}
 use Rattle.fts_token.proofs.Scan.{no_apostrophe_past, no_apostrophe, an_apostrophe}
 use Rattle.fts_token.proofs.raw.has_apostrophe_before_word_byte.Goals as goal
 

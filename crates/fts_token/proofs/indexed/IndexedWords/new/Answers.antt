@@ -1,4 +1,4 @@
-use Rattle.std.proofs.Common.{◌≡◌, ap₂, List, ℕ}
+use Rattle.std.proofs.Common.{ap₂, List, ℕ}
 use Rattle.std.specs.Prelude.{filter}
 use Rattle.fts_words.specs.declared.placed.PlacedWord.{PlacedWord}
 use Rattle.fts_words.specs.Indexed.{is_indexable, word_of}

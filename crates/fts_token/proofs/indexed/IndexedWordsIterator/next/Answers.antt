@@ -1,11 +1,11 @@
-use Rattle.std.proofs.Common.{◌≡◌, ◌∷◌, [], ℕ, Bool, true, false, List, length, ap, sym, ◌∙◌, rules}
+use Rattle.std.proofs.Common.{◌≡◌, ℕ, Bool, true, false, List, length, ap, sym, ◌∙◌, rules}
 use Rattle.std.specs.Prelude.{filter}
 use Rattle.fts_words.specs.declared.placed.PlacedWord.{PlacedWord}
 use Rattle.fts_words.specs.Byte.{lowered}
 use Rattle.fts_words.specs.Indexed.{is_indexable, word_of}
 use Rattle.fts_types.specs.declared.settings.Settings.{Settings}
 use Rattle.fts_types.specs.Rules.{rules_of}
-use Rattle.fts_token.specs.Left.{columns_of, placed_words_left, indexed_words_left}
+use Rattle.fts_token.specs.Left.{columns_of, indexed_words_left}
 use Rattle.fts_token.proofs.Filtered.{filter_first, filter_other}
 use Rattle.fts_token.proofs.indexed.IndexedWordsIterator.next.Goals as goal
 

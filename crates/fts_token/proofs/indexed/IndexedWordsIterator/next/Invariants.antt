@@ -1,5 +1,5 @@
 use Rattle.std.proofs.Common.{◌≡◌, length}
-use Rattle.fts_token.specs.Left.{columns_of, placed_words_left, indexed_words_left}
+use Rattle.fts_token.specs.Left.{placed_words_left, indexed_words_left}
 use Rattle.fts_token.proofs.indexed.IndexedWordsIterator.next.Given as goal
 
 abbrev pub invariant-loop-word : goal.invariant-loop-word

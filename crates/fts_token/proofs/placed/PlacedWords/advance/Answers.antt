@@ -1,5 +1,5 @@
-use Rattle.std.proofs.Common.{◌≡◌, ◌≤◌, length, sym, ◌∙◌, arith}
-use Rattle.fts_token.specs.Left.{columns_of, placed_words_left, placed_words_behind}
+use Rattle.std.proofs.Common.{◌≤◌, length, sym, ◌∙◌, arith}
+use Rattle.fts_token.specs.Left.{placed_words_left, placed_words_behind}
 use Rattle.fts_token.proofs.Rows.{nothing_left}
 use Rattle.fts_token.proofs.placed.PlacedWords.advance.Goals as goal
 

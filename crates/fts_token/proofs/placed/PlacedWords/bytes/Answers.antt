@@ -1,4 +1,4 @@
-use Rattle.std.proofs.Common.{◌≤◌, ℕ, List, length, ap, sym, subst, rules}
+use Rattle.std.proofs.Common.{◌≤◌, ℕ, List, length, sym, subst}
 use Rattle.fts_token.proofs.placed.PlacedWords.bytes.Goals as goal
 
 pub of-requires-clause-within : goal.of-requires-clause-within

@@ -1,4 +1,4 @@
-use Rattle.std.proofs.Common.{◌≡◌, ◌+◌, ◌∷◌, ◌++◌, ℕ, List, length, drop, ap, ◌∙◌, arith}
+use Rattle.std.proofs.Common.{◌≡◌, ◌+◌, ℕ, length, drop, ap, ◌∙◌, arith}
 use Rattle.fts_words.specs.Indexed.{column_text, placed_words_from}
 use Rattle.fts_token.specs.Left.{placed_words_left, placed_words_behind}
 use Rattle.fts_token.proofs.Rows.{words_from_column}

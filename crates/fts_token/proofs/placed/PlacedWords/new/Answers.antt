@@ -1,5 +1,4 @@
-use Rattle.std.proofs.Common.{◌≡◌, ◌+◌, ◌≤◌, List, ℕ, length, refl, arith}
-use Rattle.std.specs.Prelude.{sum_by}
+use Rattle.std.proofs.Common.{refl, arith}
 use Rattle.fts_words.specs.Indexed.{placed_words}
 use Rattle.fts_token.specs.Left.{placed_words_left, placed_words_behind}
 use Rattle.fts_token.proofs.Rows.{sum_by_with_joints, words_from_column}

@@ -1,4 +1,4 @@
-use Rattle.std.proofs.Common.{◌≡◌, ◌∷◌, ◌++◌, ℕ, List, [], ap, subst, sym, ◌∙◌}
+use Rattle.std.proofs.Common.{◌≡◌, ◌∷◌, ◌++◌, ℕ, List, [], ap, subst}
 use Rattle.fts_words.specs.declared.span.Span.{Span}
 use Rattle.fts_words.specs.RawWords.{raw_words_from}
 use Rattle.fts_words.specs.Indexed.{placed_spans}
