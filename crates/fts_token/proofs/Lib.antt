@@ -1,0 +1,3 @@
+mod Scan
+mod Rows
+mod Filtered

@@ -1,0 +1,23 @@
+//! Cutting the texts of a row into words.
+//!
+//! `raw_words` gives the raw words of a text, `placed_words` those of a row, and `indexed_words` those of a row
+//! that are indexed. They are iterators that borrow what they read and take no memory.
+#![tactic(auto)]
+
+mod indexable;
+mod indexed;
+mod laws;
+mod lower;
+mod placed;
+mod raw;
+#[cfg(test)]
+mod tests;
+mod words;
+
+pub use indexable::is_indexable;
+pub use indexed::IndexedWords;
+pub use laws::{indexed_words_are_exact, placed_words_are_exact};
+pub use lower::lowered_into;
+pub use placed::PlacedWords;
+pub use raw::{RawWords, is_word_byte};
+pub use words::{indexed_words, placed_words, raw_words};

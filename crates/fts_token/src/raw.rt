@@ -1,0 +1,132 @@
+ghost use Rattle.std.specs.Prelude.{◌≡◌, ℕ, ◌+◌, ◌<◌, ◌≤◌, ◌&&◌, [], ◌∷◌, length, IsTrue, IsFalse, IfNone, IfSome};
+ghost use Rattle.fts_words.specs.Byte.{is_word_byte, word_at, apostrophe_at};
+ghost use Rattle.fts_words.specs.RawWords.{in_word, raw_words, raw_words_from};
+ghost use Rattle.fts_token.specs.Between.{IsBetweenWords};
+
+use fts_words::Span;
+
+/// Whether the byte is an ASCII letter, a digit or `_`.
+#[inline(always)]
+pub fn is_word_byte(byte: u8) -> bool
+    ensures { result ≡ is_word_byte byte }
+{
+    byte.is_ascii_alphanumeric() || byte == b'_'
+}
+
+/// Whether the text has a word byte at a place. It has none behind its end.
+#[inline(always)]
+fn has_word_byte(text: &[u8], place: usize) -> bool
+    ensures byte { result ≡ word_at text.now place }
+    ensures within { IsTrue result → place < length text.now }
+{
+    place < text.len() && is_word_byte(text[place])
+}
+
+/// Whether the text has an apostrophe at a place and a word byte behind it.
+#[inline(always)]
+fn has_apostrophe_before_word_byte(text: &[u8], place: usize) -> bool
+    ensures bytes { result ≡ (apostrophe_at text.now place && word_at text.now (place + 1)) }
+    ensures within { IsTrue result → place + 1 < length text.now }
+{
+    if place >= text.len() {
+        return false;
+    }
+    if text[place] != b'\'' {
+        return false;
+    }
+    has_word_byte(text, place + 1)
+}
+
+/// The first place from another on that has a word byte, or the text's length.
+#[inline(always)]
+fn word_start(text: &[u8], from: usize) -> usize
+    requires { from ≤ length text.now }
+    ensures order { from ≤ result }
+    ensures within { result ≤ length text.now }
+    ensures none { (k : ℕ) → from ≤ k → k < result → IsFalse (word_at text.now k) }
+    ensures found { result < length text.now → IsTrue (word_at text.now result) }
+{
+    let mut at = from;
+    while at < text.len() && !has_word_byte(text, at) {
+        at += 1;
+    }
+    at
+}
+
+/// The end of the word that starts at a place.
+#[inline(always)]
+fn word_end(text: &[u8], from: usize) -> usize
+    requires within { from < length text.now }
+    requires byte { IsTrue (word_at text.now from) }
+    ensures order { from < result }
+    ensures within { result ≤ length text.now }
+    ensures each { (k : ℕ) → from ≤ k → k < result → IsTrue (in_word text.now k) }
+    ensures behind { IsFalse (in_word text.now result) }
+{
+    let mut to = from + 1;
+    loop {
+        if has_word_byte(text, to) {
+            to += 1;
+        } else if has_apostrophe_before_word_byte(text, to) {
+            to += 2;
+        } else {
+            return to;
+        }
+    }
+}
+
+/// The first raw word that starts at a place between words or behind it.
+#[inline(always)]
+pub(crate) fn first_word(text: &[u8], at: usize) -> Option<Span>
+    requires within { at ≤ length text.now }
+    requires between { IsBetweenWords text.now at }
+    ensures none { IfNone result (raw_words_from text.now at ≡ []) }
+    ensures some { IfSome result (λ word. raw_words_from text.now at ≡ word ∷ raw_words_from text.now word.to) }
+    ensures order { IfSome result (λ word. (at ≤ word.from) × (word.from < word.to) × (word.to ≤ length text.now)) }
+    ensures after { IfSome result (λ word. IsBetweenWords text.now word.to) }
+{
+    let from = word_start(text, at);
+    if from == text.len() {
+        return None;
+    }
+    let to = word_end(text, from);
+    Some(Span { from, to })
+}
+
+/// The raw words of a text, from front to back. It borrows the text.
+#[derive(Clone, Copy, Debug)]
+pub struct RawWords<'a> {
+    text: &'a [u8],
+    at: usize,
+    ghost within: { at ≤ length text.now },
+    ghost between: { IsBetweenWords text.now at },
+}
+
+impl<'a> RawWords<'a> {
+    ghost use Rattle.fts_token.specs.Left.{raw_words_left};
+
+    /// The raw words of a text, each as its span.
+    pub(crate) fn new(text: &'a [u8]) -> Self
+        ensures { raw_words_left result ≡ raw_words text.now }
+    {
+        RawWords { text, at: 0 }
+    }
+}
+
+impl Iterator for RawWords<'_> {
+    ghost use Rattle.std.specs.Iterator.{YieldsFirst, item_count};
+    ghost use Rattle.fts_token.specs.Left.{raw_words_left};
+
+    type Item = Span;
+
+    ghost next_gives = { YieldsFirst raw_words_left };
+
+    ghost remaining = { item_count raw_words_left };
+
+    #[inline(always)]
+    fn next(&mut self) -> Option<Span> {
+        let word = first_word(self.text, self.at)?;
+        self.at = word.to;
+        Some(word)
+    }
+}

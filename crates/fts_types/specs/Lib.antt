@@ -1,0 +1,3 @@
+pub mod Table
+pub mod Row
+pub mod Rules

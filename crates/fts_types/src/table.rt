@@ -1,0 +1,42 @@
+ghost use Rattle.std.specs.Prelude.{◌≡◌, ◌≤◌};
+ghost use Rattle.fts_types.specs.Table.{table_of};
+
+/// The number of the table, 1 to 6, that holds a word: the index is kept in six tables by the words' first bytes.
+///
+/// | Table | First byte |
+/// |---|---|
+/// | 1 | a digit or `_`, and each byte that no other table has |
+/// | 2 to 6 | `a` to `e`, `f` to `j`, `k` to `o`, `p` to `t`, `u` to `z` |
+pub fn partition_of(word: &[u8]) -> u8
+    ensures { result ≡ table_of word.now }
+{
+    match word.first() {
+        Some(b'a'..=b'e') => 2,
+        Some(b'f'..=b'j') => 3,
+        Some(b'k'..=b'o') => 4,
+        Some(b'p'..=b't') => 5,
+        Some(b'u'..=b'z') => 6,
+        _ => 1,
+    }
+}
+
+#[cfg(test)]
+mod tests {
+    use super::*;
+
+    #[test]
+    fn words_lie_in_their_tables(rt: HostRuntime) {
+        let words: [(&[u8], u8); 7] = [
+            (b"9ab", 1),
+            (b"_x1", 1),
+            (b"elk", 2),
+            (b"jay", 3),
+            (b"owl", 4),
+            (b"pony", 5),
+            (b"yak", 6),
+        ];
+        for (word, table) in words {
+            assert_eq!(rt; partition_of(word), table, "{word:?}");
+        }
+    }
+}

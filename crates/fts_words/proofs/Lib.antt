@@ -1,0 +1,4 @@
+pub mod RunLemmas
+pub mod WordLemmas
+pub mod PlacedLemmas
+mod WorkedRows

@@ -1,0 +1,6 @@
+pub mod Byte
+pub mod Word
+pub mod Run
+pub mod RawWords
+pub mod Stopwords
+pub mod Indexed

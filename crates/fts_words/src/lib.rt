@@ -1,0 +1,12 @@
+//! What the words of a text are: raw words, indexed words, and where they stand in a row.
+//!
+//! The definitions are in `specs/`. This crate has the types that they are about, and the laws that hold of them.
+#![tactic(auto)]
+
+mod laws;
+mod placed;
+mod span;
+
+pub use laws::{raw_words_are_exact, raw_words_stand_apart, word_byte_has_one_word};
+pub use placed::PlacedWord;
+pub use span::Span;
