@@ -1,10 +1,12 @@
-//! The plain data that the other crates share: texts and settings.
+//! The plain data that the other crates share: ids, texts and settings.
 #![tactic(auto)]
 
+mod ids;
 mod settings;
 mod table;
 mod texts;
 
+pub use ids::{DocId, Key};
 pub use settings::Settings;
 pub use table::partition_of;
 pub use texts::{Names, RowTexts, Texts};
