@@ -2,3 +2,4 @@ pub mod Replaying
 pub mod Committing
 pub mod Loading
 pub mod Gates
+pub mod Single

@@ -31,7 +31,7 @@ one_row key key' text text' is is' e =
     let texts = one_length (length text) (length text') text text' short short' (ap (drop 1) keys.1) in
     ap (λ (k : ℕ). one_insert k text) keys.0 ∙ ap (λ (t : List ℕ). one_insert key' t) texts.1
 
-one_written : (a b : Commit) → IsWritten a → IsWritten b → commit_payload a ≡ commit_payload b → a ≡ b
+pub one_written : (a b : Commit) → IsWritten a → IsWritten b → commit_payload a ≡ commit_payload b → a ≡ b
 one_written a b is is' e =
     is.is ∙ one_row is.key is'.key is.text is'.text is.fits is'.fits (ap commit_payload (sym is.is) ∙ e ∙ ap commit_payload is'.is) ∙ sym is'.is
 

@@ -20,10 +20,6 @@ engine_device engine = device_of engine.log
 abbrev pub engine_faults : {D : Type 0} {disk : Ghosts D} → Engine D disk → ℕ
 engine_faults {disk} engine = disk.faults (device_of engine.log)
 
--- the name of the text column
-abbrev pub engine_column : {D : Type 0} {disk : Ghosts D} → Engine D disk → List ℕ
-engine_column engine = engine.column
-
 -- the engine stands for the state: its log has the state's entries, and it keeps the words of the state's rows
 pub record Stands {D : Type 0} {disk : Ghosts D} (state : State) (engine : Engine D disk) : Type 0 where
   pub sound : IsSound state
@@ -37,11 +33,7 @@ pub record Stands {D : Type 0} {disk : Ghosts D} (state : State) (engine : Engin
 abbrev pub Reads : {D : Type 0} {disk : Ghosts D} → State → Engine D disk → Type 0
 Reads {disk} state engine = IsDatabase state (disk.seen (device_of engine.log) 0)
 
--- an engine that stands for a state has the state's column
-pub Stands-column : {D : Type 0} {disk : Ghosts D} (state : State) (engine : Engine D disk) → Stands state engine → state.settings.columns ≡ engine_column engine ∷ []
-Stands-column state engine stands = stands.column
-
--- and its device reads as the state's database
+-- the device of an engine that stands for a state reads as the state's database
 pub Stands-reads : {D : Type 0} {disk : Ghosts D} (state : State) (engine : Engine D disk) → Stands state engine → Reads state engine
 Stands-reads {disk} state engine stands = record {
   sound = stands.sound;

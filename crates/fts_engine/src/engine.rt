@@ -24,7 +24,7 @@ pub struct Engine<D: Disk> {
 }
 
 impl<D: Disk> Engine<D> {
-    ghost use Rattle.fts_engine.specs.Stands.{Stands, Reads, engine_limit, engine_faults, engine_column};
+    ghost use Rattle.fts_engine.specs.Stands.{Stands, Reads, engine_limit, engine_faults, engine_device};
 
     /// Makes a commit of one INSERT, and returns its number, from 1.
     pub fn commit(&mut self, key: u64, text: &[u8]) -> Result<u64, CommitError>
@@ -37,7 +37,6 @@ impl<D: Disk> Engine<D> {
         ensures doubt { IsTrue D.tells → (state : State) → Stands state self.old → IsErrOf result CommitError.DiskFault
             → Reads state self.new ⊎ Reads (with_commits state (one_insert key text.now ∷ [])) self.new }
         ensures limit { engine_limit self.new ≡ engine_limit self.old }
-        ensures column { engine_column self.new ≡ engine_column self.old }
         ensures failed { IsErrOf result CommitError.DiskFault → Rose (engine_faults self.old) (engine_faults self.new) }
         ensures never_falls { engine_faults self.old ≤ engine_faults self.new }
     {
@@ -78,13 +77,14 @@ impl<D: Disk> Engine<D> {
 
     /// The name of the text column.
     pub fn column(&self) -> &[u8]
-        ensures { result.now ≡ engine_column self.now }
+        ensures { (state : State) → Stands state self.now → state.settings.columns ≡ result.now ∷ [] }
     {
         self.column.as_slice()
     }
 
     /// The device, which reads as the database of what the engine stood for.
     pub fn close(self) -> D
+        ensures device { result ≡ engine_device self }
         ensures reads { IsTrue D.tells → (state : State) → Reads state self → IsDatabase state (D.seen result 0) }
         ensures faults { D.faults result ≡ engine_faults self }
     {

@@ -13,7 +13,7 @@ pub struct Direct<D: Disk> {
 }
 
 impl<D: Disk> EngineSteps for Direct<D> {
-    ghost use Rattle.fts_engine.specs.Stands.{Stands, Reads, engine_limit, engine_faults, engine_column, Stands-column, Stands-reads};
+    ghost use Rattle.fts_engine.specs.Stands.{Stands, Reads, engine_limit, engine_faults, Stands-reads};
 
     ghost tells = { D.tells };
 
@@ -23,11 +23,7 @@ impl<D: Disk> EngineSteps for Direct<D> {
 
     ghost limit = { λ steps. engine_limit steps.engine };
 
-    ghost name = { λ steps. engine_column steps.engine };
-
     ghost faults = { λ steps. engine_faults steps.engine };
-
-    ghost column_is = { λ steps state stands. Stands-column state steps.engine stands };
 
     ghost is_read = { λ steps state stands. Stands-reads state steps.engine stands };
 

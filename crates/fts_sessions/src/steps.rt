@@ -22,9 +22,6 @@ pub trait EngineSteps {
     /// The largest end of the rows log.
     ghost limit: { Self → ℕ };
 
-    /// The name of the text column.
-    ghost name: { Self → List ℕ };
-
     /// How many faults of the device there were.
     ghost faults: { Self → ℕ };
 
@@ -49,9 +46,7 @@ pub trait EngineSteps {
 
     /// The name of the text column.
     fn column(&self) -> &[u8]
-        ensures { result.now ≡ name self.now };
-
-    ghost column_is: { (steps : Self) (state : State) → stands state steps → state.settings.columns ≡ name steps ∷ [] };
+        ensures { IsTrue tells → (state : State) → stands state self.now → state.settings.columns ≡ result.now ∷ [] };
 
     ghost is_read: { (steps : Self) (state : State) → stands state steps → reads state steps };
 }

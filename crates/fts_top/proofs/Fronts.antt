@@ -1,5 +1,5 @@
-use Rattle.std.proofs.Common.{◌≡◌, ℕ, List, [], ◌∷◌, ◌++◌, refl, ap, subst, sym, ◌∙◌, append_assoc, inl, inr}
-use Rattle.std.proofs.lemmas.List.{append-nil}
+use Rattle.std.proofs.Common.{◌≡◌, ℕ, ◌+◌, List, [], ◌∷◌, ◌++◌, length, refl, ap, subst, sym, ◌∙◌, append_assoc, inl, inr}
+use Rattle.std.proofs.lemmas.List.{append-nil, length_push}
 use Rattle.std.specs.Prelude.{Ok}
 use Rattle.fts_io.specs.Text.{Line}
 use Rattle.fts_schema.specs.declared.reply.Reply.{Reply}
@@ -18,7 +18,7 @@ use Rattle.fts_top.proofs.Talking.{settings_stay, after_more, follows_more, talk
 
 module _ {S : Type 0} (steps : Ghosts S) (start : State) (script : List Line) where
   -- before the first line
-  pub nothing_yet : (held : List ℕ) (here : S) → steps.stands start here → Front steps start script script held held here here
+  abbrev pub nothing_yet : (held : List ℕ) (here : S) → steps.stands start here → Front steps start script script held held here here
   nothing_yet held here stands = record {
     lines = [];
     calls = [];
@@ -47,13 +47,13 @@ module _ {S : Type 0} (steps : Ghosts S) (start : State) (script : List Line) wh
   }
 
   -- a reply was given, so the line was a request, and no want of memory came before it
-  said : (line : Line) (calls : List Call) (reply : Reply) (state : State) → Says state.settings line calls (Ok reply)
+  pub said : (line : Line) (calls : List Call) (reply : Reply) (state : State) → Says state.settings line calls (Ok reply)
       → (request : Request) × IsRequest state.settings line request × Converses request [] calls (Ok reply)
   said line calls reply state (inl says) = says
   said line calls reply state (inr none) = absurd (let e = none.1 in cc)
 
   -- one line more was executed, and its reply written
-  pub one_more : (line : Line) (ahead : List Line) (before so_far now : List ℕ) (old middle new : S) (reply : Reply)
+  abbrev pub one_more : (line : Line) (ahead : List Line) (before so_far now : List ℕ) (old middle new : S) (reply : Reply)
       (front : Front steps start script (line ∷ ahead) before so_far old middle)
       → Executes steps (after_all start front.calls) line middle (Ok reply) new → now ≡ so_far ++ text_of reply → steps.limit new ≡ steps.limit middle
       → Front steps start script ahead before now old new
@@ -74,7 +74,7 @@ module _ {S : Type 0} (steps : Ghosts S) (start : State) (script : List Line) wh
       }
 
   -- a turn that goes on
-  pub goes_on : (ahead after : List Line) (left before so_far now : List ℕ) (old middle new : S)
+  abbrev pub goes_on : (ahead after : List Line) (left before so_far now : List ℕ) (old middle new : S)
       (front : Front steps start script ahead before so_far old middle)
       → Turns steps More (after_all start front.calls) ahead after left so_far now middle new → steps.limit new ≡ steps.limit middle
       → Front steps start script after before now old new
@@ -83,18 +83,30 @@ module _ {S : Type 0} (steps : Ghosts S) (start : State) (script : List Line) wh
       (again ahead (turn.0 ∷ after) before so_far so_far old middle middle front turn.1 refl refl)
       turn.2.1 turn.2.2 limit
 
+  -- a turn that goes on executes one line more
+  pub numbered : (ahead after : List Line) (left before so_far now : List ℕ) (old middle new : S)
+      (front : Front steps start script ahead before so_far old middle)
+      → Turns steps More (after_all start front.calls) ahead after left so_far now middle new → steps.limit new ≡ steps.limit middle
+      → (n m : ℕ) → length front.lines ≡ n → m ≡ n + 1
+      → (more : Front steps start script after before now old new) × (length more.lines ≡ m)
+  numbered ahead after left before so_far now old middle new front turn limit n m number next = (
+    goes_on ahead after left before so_far now old middle new front turn limit,
+    length_push front.lines turn.0 ∙ ap (λ (k : ℕ). k + 1) number ∙ sym next,
+  )
+
   -- a turn that ends the run
   pub ends : (result : Status) (ahead after : List Line) (left before so_far now : List ℕ) (old middle new : S)
       (front : Front steps start script ahead before so_far old middle)
       → Turns steps (Over result) (after_all start front.calls) ahead after left so_far now middle new
+      → ((number bytes : ℕ) → result ≡ status.ScriptTooLong number bytes → number ≡ length front.lines)
       → Outcome steps result start script left before now old new
-  ends status.Done ahead after left before so_far now old middle new front turn =
+  ends status.Done ahead after left before so_far now old middle new front turn number =
       (again ahead [] before so_far now old middle new front turn.0 turn.2 turn.3, turn.1)
-  ends status.ReadFault ahead after left before so_far now old middle new front turn =
+  ends status.ReadFault ahead after left before so_far now old middle new front turn number =
       record { ahead = ahead; front = again ahead ahead before so_far now old middle new front refl turn.1 turn.2; begun = turn.0 }
-  ends (status.ScriptTooLong lines bytes) ahead after left before so_far now old middle new front turn =
-      record { ahead = ahead; front = again ahead ahead before so_far now old middle new front refl turn.1 turn.2; begun = turn.0 }
-  ends status.WriteFault ahead after left before so_far now old middle new front turn = (
+  ends (status.ScriptTooLong lines bytes) ahead after left before so_far now old middle new front turn number =
+      (record { ahead = ahead; front = again ahead ahead before so_far now old middle new front refl turn.1 turn.2; begun = turn.0 }, number lines bytes refl)
+  ends status.WriteFault ahead after left before so_far now old middle new front turn number = (
     turn.2.0,
     record {
       line = turn.0;
@@ -105,7 +117,7 @@ module _ {S : Type 0} (steps : Ghosts S) (start : State) (script : List Line) wh
       answers = turn.2.1;
     },
   )
-  ends status.DiskFault ahead after left before so_far now old middle new front turn =
+  ends status.DiskFault ahead after left before so_far now old middle new front turn number =
       record {
         line = turn.0;
         ahead = after;
@@ -114,9 +126,9 @@ module _ {S : Type 0} (steps : Ghosts S) (start : State) (script : List Line) wh
         front = again ahead (turn.0 ∷ after) before so_far so_far old middle middle front turn.1 refl refl;
         breaks = turn.2;
       }
-  ends status.NoMemory ahead after left before so_far now old middle new front (inl turn) =
+  ends status.NoMemory ahead after left before so_far now old middle new front (inl turn) number =
       inl (ahead, again ahead ahead before so_far now old middle new front refl turn.0 turn.1)
-  ends status.NoMemory ahead after left before so_far now old middle new front (inr (line, one, inl answers)) =
+  ends status.NoMemory ahead after left before so_far now old middle new front (inr (line, one, inl answers)) number =
       inr (inl (record {
         line = line;
         ahead = after;
@@ -125,7 +137,7 @@ module _ {S : Type 0} (steps : Ghosts S) (start : State) (script : List Line) wh
         front = again ahead (line ∷ after) before so_far so_far old middle middle front one refl refl;
         answers = answers;
       }))
-  ends status.NoMemory ahead after left before so_far now old middle new front (inr (line, one, inr breaks)) =
+  ends status.NoMemory ahead after left before so_far now old middle new front (inr (line, one, inr breaks)) number =
       inr (inr (record {
         line = line;
         ahead = after;
@@ -134,7 +146,7 @@ module _ {S : Type 0} (steps : Ghosts S) (start : State) (script : List Line) wh
         front = again ahead (line ∷ after) before so_far so_far old middle middle front one refl refl;
         breaks = breaks;
       }))
-  ends status.Usage ahead after left before so_far now old middle new front turn = absurd turn
-  ends status.NotCreated ahead after left before so_far now old middle new front turn = absurd turn
-  ends status.AlreadyCreated ahead after left before so_far now old middle new front turn = absurd turn
-  ends (status.Damaged device file at) ahead after left before so_far now old middle new front turn = absurd turn
+  ends status.Usage ahead after left before so_far now old middle new front turn number = absurd turn
+  ends status.NotCreated ahead after left before so_far now old middle new front turn number = absurd turn
+  ends status.AlreadyCreated ahead after left before so_far now old middle new front turn number = absurd turn
+  ends (status.Damaged device file at) ahead after left before so_far now old middle new front turn number = absurd turn

@@ -2,3 +2,4 @@ pub mod Turning
 pub mod Talking
 pub mod Fronts
 pub mod Finishing
+pub mod Filing

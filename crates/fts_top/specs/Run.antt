@@ -1,4 +1,4 @@
-use Rattle.std.specs.Prelude.{◌≡◌, ◌⊎◌, ℕ, List, [], ◌∷◌, ◌++◌, length, take, Ok, Err, Result}
+use Rattle.std.specs.Prelude.{◌≡◌, ◌⊎◌, ◌<◌, ◌+◌, ◌^◌, ℕ, List, [], ◌∷◌, ◌++◌, length, take, Ok, Err, Result}
 use Rattle.fts_io.specs.Text.{Line}
 use Rattle.fts_io.specs.Reading.{OnlyBegun}
 use Rattle.fts_schema.specs.declared.reply.Reply.{Reply}
@@ -71,7 +71,8 @@ pub record Stops {S : Type 0} (steps : Ghosts S) (start : State) (script : List 
 abbrev pub Outcome : {S : Type 0} → Ghosts S → Status → State → List Line → List ℕ → List ℕ → List ℕ → S → S → Type 0
 Outcome steps status.Done start script left before now old new = Front steps start script [] before now old new × (left ≡ [])
 Outcome steps status.ReadFault start script left before now old new = Stops steps start script 0 left before now old new
-Outcome steps (status.ScriptTooLong lines bytes) start script left before now old new = Stops steps start script 1 left before now old new
+Outcome steps (status.ScriptTooLong lines bytes) start script left before now old new =
+    (stops : Stops steps start script 1 left before now old new) × (lines ≡ length stops.front.lines)
 Outcome steps status.WriteFault start script left before now old new = (n : ℕ) × Late steps start script n before now old new
 Outcome steps status.DiskFault start script left before now old new = Broken steps start script DiskFault before now old new
 Outcome steps status.NoMemory start script left before now old new =
@@ -108,6 +109,10 @@ Turns steps (Over (status.Damaged device file at)) state ahead after left before
 -- the script was too long
 abbrev pub IsTooLong : Status → Type 0
 IsTooLong result = (lines bytes : ℕ) × (result ≡ status.ScriptTooLong lines bytes)
+
+-- the script was too long: more than 2^40 bytes of it were taken, and the rest is left
+abbrev pub PassesLimit : ℕ → List ℕ → List ℕ → Type 0
+PassesLimit bytes script left = (2 ^ 40 < bytes) × (bytes + length left ≡ length script)
 
 -- a reply is written: all of it, a part of it, or nothing for want of memory
 abbrev pub Sends : Turn → Reply → List ℕ → List ℕ → Type 0

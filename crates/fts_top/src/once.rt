@@ -1,4 +1,4 @@
-ghost use Rattle.std.specs.Prelude.{◌≡◌, ◌++◌, ◌↔◌, ◌≤◌, ◌^◌, length, ℕ, List, [], true, map, take, slice_index_or, Some, None, IsTrue};
+ghost use Rattle.std.specs.Prelude.{◌≡◌, ◌++◌, ◌↔◌, ◌≤◌, ◌^◌, length, ℕ, List, [], true, map, slice_index_or, Some, None, IsTrue};
 ghost use Rattle.std.specs.String.{string_bytes};
 ghost use Rattle.fts_faults.specs.Count.{Rose};
 ghost use Rattle.fts_commits.specs.Settings.{is_column_name as is_name};
@@ -7,7 +7,8 @@ ghost use Rattle.fts_steps.specs.State.{State, IsCreated, IsDatabase, created_wi
 ghost use Rattle.fts_engine.specs.Opening.{IsNoDatabase};
 ghost use Rattle.fts_engine.specs.declared.create.TheConstants.{LARGEST_LOG};
 ghost use Rattle.fts_top.specs.Command.{command_of as the_command};
-ghost use Rattle.fts_top.specs.Once.{Completes, Creates, Finishes, created_text as the_created_text};
+ghost use Rattle.fts_top.specs.Run.{PassesLimit};
+ghost use Rattle.fts_top.specs.Once.{Completes, CreateEnds, Creates, Finishes, IsOfCreate, Refuses, Runs};
 
 use crate::command::{Command, command_of};
 use crate::script::run;
@@ -19,16 +20,22 @@ use fts_schema::created_text;
 use fts_sessions::Direct;
 use std::alloc::Global;
 
-// Opens the database and executes the script.
-fn run_script<I: Source, O: Sink, D: Disk, G: Gate>(
+// Opens the database and executes the script. `limit` is the largest end that the rows log may have.
+pub(crate) fn run_script<I: Source, O: Sink, D: Disk, G: Gate>(
     alloc: Global,
     input: &mut I,
     out: &mut O,
     rows: D,
+    limit: u64,
     gate: &G,
 ) -> (Status, D)
+    requires { limit ≤ 2 ^ 32 }
+    ensures runs { IsTrue I.tells → IsTrue O.tells → IsTrue D.tells → (start : State) → IsDatabase start (D.seen rows 0)
+        → Runs limit result.0 start (I.left input.old) (I.left input.new) (O.holds out.old) (O.holds out.new) (D.seen rows 0) (D.seen result.1 0) }
+    ensures no_database { IsTrue D.tells → IsNoDatabase (D.seen rows 0)
+        → Refuses result.0 (D.seen rows 0) × (input.new ≡ input.old) × (out.new ≡ out.old) × (D.seen result.1 ≡ D.seen rows) }
     ensures done { result.0 ≡ Status.Done → IsTrue I.tells → IsTrue O.tells → IsTrue D.tells
-        → (start : State) × IsDatabase start (D.seen rows 0) × Completes LARGEST_LOG start (I.left input.old) (O.holds out.old) (O.holds out.new) (D.seen result.1 0) }
+        → (start : State) × IsDatabase start (D.seen rows 0) × Completes limit start (I.left input.old) (O.holds out.old) (O.holds out.new) (D.seen result.1 0) }
     ensures complete { IsTrue I.tells → IsTrue D.tells → (state : State) → IsDatabase state (D.seen rows 0) → length (I.left input.old) ≤ 2 ^ 40
         → (Rose (I.faults input.old) (I.faults input.new) → ⊥) → (Rose (O.faults out.old) (O.faults out.new) → ⊥) → (Rose (D.faults rows) (D.faults result.1) → ⊥)
         → Finishes result.0 }
@@ -36,13 +43,15 @@ fn run_script<I: Source, O: Sink, D: Disk, G: Gate>(
     ensures already { result.0 ≡ Status.AlreadyCreated → ⊥ }
     ensures not_created { result.0 ≡ Status.NotCreated → (input.new ≡ input.old) × (out.new ≡ out.old)
         × (IsTrue D.tells → (IsCreated (D.seen rows 0) → ⊥) × (D.seen result.1 ≡ D.seen rows)) }
-    ensures damaged { (at : ℕ) → result.0 ≡ Status.Damaged Device.Rows 0 at → (input.new ≡ input.old) × (out.new ≡ out.old)
+    ensures damaged { (device : Device) (file at : ℕ) → result.0 ≡ Status.Damaged device file at
+        → (device ≡ Device.Rows) × (file ≡ 0) × (input.new ≡ input.old) × (out.new ≡ out.old)
         × (IsTrue D.tells → IsCreated (D.seen rows 0) × IsNoDatabase (D.seen rows 0) × (D.seen result.1 ≡ D.seen rows)) }
     ensures read { result.0 ≡ Status.ReadFault → Rose (I.faults input.old) (I.faults input.new) }
     ensures write { result.0 ≡ Status.WriteFault → Rose (O.faults out.old) (O.faults out.new) }
     ensures disk { result.0 ≡ Status.DiskFault → Rose (D.faults rows) (D.faults result.1) }
+    ensures too_long { (lines bytes : ℕ) → result.0 ≡ Status.ScriptTooLong lines bytes → IsTrue I.tells → PassesLimit bytes (I.left input.old) (I.left input.new) }
 {
-    match open_engine(alloc, rows, LIMIT) {
+    match open_engine(alloc, rows, limit) {
         Ok(engine) => {
             let mut steps = Direct { engine };
             let status = run(alloc, input, out, &mut steps, gate);
@@ -66,18 +75,16 @@ fn run_script<I: Source, O: Sink, D: Disk, G: Gate>(
 // Makes a database, and says so.
 fn create<O: Sink, D: Disk>(alloc: Global, column: &[u8], out: &mut O, rows: D) -> (Status, D)
     requires { is_name column.now ≡ true }
+    ensures ends { IsTrue O.tells → IsTrue D.tells → CreateEnds result.0 column.now (D.seen rows 0) (D.seen result.1 0) (O.holds out.old) (O.holds out.new) }
     ensures done { result.0 ≡ Status.Done → IsTrue O.tells → IsTrue D.tells
         → Creates column.now (D.seen rows 0) (D.seen result.1 0) (O.holds out.old) (O.holds out.new) }
     ensures write { result.0 ≡ Status.WriteFault → Rose (O.faults out.old) (O.faults out.new) }
-    ensures late { result.0 ≡ Status.WriteFault → IsTrue O.tells → IsTrue D.tells
-        → IsDatabase (created_with (one_column column.now)) (D.seen result.1 0) × ((n : ℕ) × (O.holds out.new ≡ O.holds out.old ++ take n the_created_text)) }
     ensures already { result.0 ≡ Status.AlreadyCreated → (out.new ≡ out.old) × (IsTrue D.tells → IsCreated (D.seen rows 0) × (D.seen result.1 ≡ D.seen rows)) }
-    ensures disk { result.0 ≡ Status.DiskFault → (out.new ≡ out.old) × Rose (D.faults rows) (D.faults result.1) }
-    ensures memory { result.0 ≡ Status.NoMemory → (out.new ≡ out.old) × (result.1 ≡ rows) }
-    ensures usage { result.0 ≡ Status.Usage → ⊥ }
+    ensures disk { result.0 ≡ Status.DiskFault → Rose (D.faults rows) (D.faults result.1) }
+    ensures untouched { result.0 ≡ Status.NoMemory → (out.new ≡ out.old) × (result.1 ≡ rows) }
+    ensures others { IsOfCreate result.0 }
     ensures complete { IsTrue D.tells → (IsCreated (D.seen rows 0) → ⊥)
         → (Rose (O.faults out.old) (O.faults out.new) → ⊥) → (Rose (D.faults rows) (D.faults result.1) → ⊥) → Finishes result.0 }
-    ensures others { (result.0 ≡ Status.ReadFault → ⊥) × (result.0 ≡ Status.NotCreated → ⊥) × ((device : _) (file at : ℕ) → result.0 ≡ Status.Damaged device file at → ⊥) × ((lines bytes : ℕ) → result.0 ≡ Status.ScriptTooLong lines bytes → ⊥) }
 {
     match create_engine(alloc, column, rows) {
         Ok(device) => match write_whole(out, created_text().as_bytes()) {
@@ -107,19 +114,32 @@ pub fn fts_once<I: Source, O: Sink, D: Disk, E: Disk, G: Gate>(
     ensures usage { (result.0 ≡ Status.Usage) ↔ (the_command (map string_bytes words.now) ≡ None) }
     ensures refused { result.0 ≡ Status.Usage → (input.new ≡ input.old) × (out.new ≡ out.old) × (result.1 ≡ rows) }
 
+    // What each command has done, by its status.
+    ensures creates { the_command (map string_bytes words.now) ≡ Some Command.Create → (input.new ≡ input.old) × (IsTrue O.tells → IsTrue D.tells
+        → CreateEnds result.0 (slice_index_or (map string_bytes words.now) 3 []) (D.seen rows 0) (D.seen result.1 0) (O.holds out.old) (O.holds out.new)) }
+    ensures runs { the_command (map string_bytes words.now) ≡ Some Command.Run → IsTrue I.tells → IsTrue O.tells → IsTrue D.tells
+        → (start : State) → IsDatabase start (D.seen rows 0)
+        → Runs LARGEST_LOG result.0 start (I.left input.old) (I.left input.new) (O.holds out.old) (O.holds out.new) (D.seen rows 0) (D.seen result.1 0) }
+    ensures no_database { the_command (map string_bytes words.now) ≡ Some Command.Run → IsTrue D.tells → IsNoDatabase (D.seen rows 0)
+        → Refuses result.0 (D.seen rows 0) × (input.new ≡ input.old) × (out.new ≡ out.old) × (D.seen result.1 ≡ D.seen rows) }
+
+    // Where it is Done.
     ensures create_done { the_command (map string_bytes words.now) ≡ Some Command.Create → result.0 ≡ Status.Done → IsTrue O.tells → IsTrue D.tells
         → Creates (slice_index_or (map string_bytes words.now) 3 []) (D.seen rows 0) (D.seen result.1 0) (O.holds out.old) (O.holds out.new) }
     ensures run_done { the_command (map string_bytes words.now) ≡ Some Command.Run → result.0 ≡ Status.Done → IsTrue I.tells → IsTrue O.tells → IsTrue D.tells
         → (start : State) × IsDatabase start (D.seen rows 0) × Completes LARGEST_LOG start (I.left input.old) (O.holds out.old) (O.holds out.new) (D.seen result.1 0) }
 
+    // When each other status comes.
     ensures already { result.0 ≡ Status.AlreadyCreated → (input.new ≡ input.old) × (out.new ≡ out.old) × (IsTrue D.tells → IsCreated (D.seen rows 0) × (D.seen result.1 ≡ D.seen rows)) }
     ensures not_created { result.0 ≡ Status.NotCreated → (input.new ≡ input.old) × (out.new ≡ out.old)
         × (IsTrue D.tells → (IsCreated (D.seen rows 0) → ⊥) × (D.seen result.1 ≡ D.seen rows)) }
-    ensures damaged { (at : ℕ) → result.0 ≡ Status.Damaged Device.Rows 0 at → (input.new ≡ input.old) × (out.new ≡ out.old)
+    ensures damaged { (device : Device) (file at : ℕ) → result.0 ≡ Status.Damaged device file at
+        → (device ≡ Device.Rows) × (file ≡ 0) × (input.new ≡ input.old) × (out.new ≡ out.old)
         × (IsTrue D.tells → IsCreated (D.seen rows 0) × IsNoDatabase (D.seen rows 0) × (D.seen result.1 ≡ D.seen rows)) }
     ensures read { result.0 ≡ Status.ReadFault → Rose (I.faults input.old) (I.faults input.new) }
     ensures write { result.0 ≡ Status.WriteFault → Rose (O.faults out.old) (O.faults out.new) }
     ensures disk { result.0 ≡ Status.DiskFault → Rose (D.faults rows) (D.faults result.1) }
+    ensures too_long { (lines bytes : ℕ) → result.0 ≡ Status.ScriptTooLong lines bytes → IsTrue I.tells → PassesLimit bytes (I.left input.old) (I.left input.new) }
 
     // Without a fault a command that fits the devices ends as Done, or for want of memory.
     ensures create_complete { the_command (map string_bytes words.now) ≡ Some Command.Create → IsTrue D.tells → (IsCreated (D.seen rows 0) → ⊥)
@@ -138,7 +158,7 @@ pub fn fts_once<I: Source, O: Sink, D: Disk, E: Disk, G: Gate>(
             (status, rows, index)
         }
         Some(Command::Run) => {
-            let (status, rows) = run_script(alloc, input, out, rows, gate);
+            let (status, rows) = run_script(alloc, input, out, rows, LIMIT, gate);
             (status, rows, index)
         }
     }

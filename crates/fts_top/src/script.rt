@@ -1,9 +1,9 @@
 ghost use Rattle.std.specs.Prelude.{◌≡◌, ◌⊎◌, ◌^◌, ◌<◌, ◌≤◌, ◌+◌, ℕ, [], IsTrue, IsOk, Err, length};
 ghost use Rattle.fts_faults.specs.Count.{Rose};
 ghost use Rattle.fts_io.specs.Text.{lines_of};
-ghost use Rattle.fts_io.specs.Reading.{ahead, taken_by, work_left};
+ghost use Rattle.fts_io.specs.Reading.{ahead, given_by, taken_by, work_left};
 ghost use Rattle.fts_steps.specs.State.{State};
-ghost use Rattle.fts_top.specs.Run.{Outcome, Turns, IsTooLong, Tells, Sends, EndsRun, GoesOnOrEnds};
+ghost use Rattle.fts_top.specs.Run.{Outcome, Turns, PassesLimit, Tells, Sends, EndsRun, GoesOnOrEnds};
 
 use crate::Status;
 use fts_io::{Gate, Lines, Next, Sink, Source, write_whole};
@@ -32,7 +32,7 @@ pub fn run<I: Source, O: Sink, S: EngineSteps, G: Gate>(
     ensures read { result ≡ Status.ReadFault → Rose (I.faults input.old) (I.faults input.new) }
     ensures write { result ≡ Status.WriteFault → Rose (O.faults out.old) (O.faults out.new) }
     ensures disk { result ≡ Status.DiskFault → Rose (S.faults steps.old) (S.faults steps.new) }
-    ensures too_long { IsTrue I.tells → IsTooLong result → 2 ^ 40 < length (I.left input.old) }
+    ensures too_long { (lines bytes : ℕ) → result ≡ Status.ScriptTooLong lines bytes → IsTrue I.tells → PassesLimit bytes (I.left input.old) (I.left input.new) }
     ensures whole { IsTrue I.tells → result ≡ Status.Done → length (I.left input.old) ≤ 2 ^ 40 }
 {
     let mut lines = match Lines::new(alloc) {
@@ -70,7 +70,9 @@ fn one_line<I: Source, O: Sink, S: EngineSteps, G: Gate>(
     ensures read { result ≡ Turn.Over Status.ReadFault → Rose (I.faults input.old) (I.faults input.new) }
     ensures write { result ≡ Turn.Over Status.WriteFault → Rose (O.faults out.old) (O.faults out.new) }
     ensures disk { result ≡ Turn.Over Status.DiskFault → Rose (S.faults steps.old) (S.faults steps.new) }
-    ensures too_long { (status : _) → result ≡ Turn.Over status → IsTooLong status → 2 ^ 40 < taken_by lines.new }
+    ensures given { result ≡ Turn.More → given_by lines.new ≡ given_by lines.old + 1 }
+    ensures too_long { (number bytes : ℕ) → result ≡ Turn.Over (Status.ScriptTooLong number bytes)
+        → (number ≡ given_by lines.old) × (bytes ≡ taken_by lines.new) × (2 ^ 40 < bytes) }
     ensures whole { IsTrue I.tells → result ≡ Turn.Over Status.Done → (I.left input.new ≡ []) × (taken_by lines.new ≤ 2 ^ 40) }
     ensures input_never_falls { I.faults input.old ≤ I.faults input.new }
     ensures out_never_falls { O.faults out.old ≤ O.faults out.new }
@@ -98,7 +100,7 @@ fn answer<O: Sink>(alloc: Global, out: &mut O, outcome: Result<Reply, Ended>) ->
     ensures never_falls { O.faults out.old ≤ O.faults out.new }
     ensures done { result ≡ Turn.Over Status.Done → ⊥ }
     ensures read { result ≡ Turn.Over Status.ReadFault → ⊥ }
-    ensures too_long { (status : _) → result ≡ Turn.Over status → IsTooLong status → ⊥ }
+    ensures too_long { (number bytes : ℕ) → result ≡ Turn.Over (Status.ScriptTooLong number bytes) → ⊥ }
     ensures disk { result ≡ Turn.Over Status.DiskFault → outcome ≡ Err Ended.DiskFault }
 {
     match outcome {
@@ -116,7 +118,7 @@ fn send<O: Sink>(alloc: Global, out: &mut O, reply: &Reply) -> Turn
     ensures never_falls { O.faults out.old ≤ O.faults out.new }
     ensures done { result ≡ Turn.Over Status.Done → ⊥ }
     ensures read { result ≡ Turn.Over Status.ReadFault → ⊥ }
-    ensures too_long { (status : _) → result ≡ Turn.Over status → IsTooLong status → ⊥ }
+    ensures too_long { (number bytes : ℕ) → result ≡ Turn.Over (Status.ScriptTooLong number bytes) → ⊥ }
     ensures disk { result ≡ Turn.Over Status.DiskFault → ⊥ }
 {
     let text = match reply_text(alloc, reply) {

@@ -1,6 +1,13 @@
-use Rattle.std.proofs.Common.{subst, arith}
+use Rattle.std.proofs.Common.{List, ℕ, refl, ap, subst, sym, arith, inl}
 use Rattle.fts_top.specs.declared.status.Status.{Status}
-use Rattle.fts_top.specs.Run.{EndsRun}
+use Rattle.fts_io.specs.Text.{lines_of}
+use Rattle.fts_steps.specs.State.{State, IsDatabase}
+use Rattle.fts_engine.specs.Stands.{Stands-reads, engine_device}
+use Rattle.fts_engine.proofs.Single.{one_database}
+use Rattle.fts_top.specs.Run.{EndsRun, Outcome}
+use Rattle.fts_top.specs.Once.{files}
+use Rattle.fts_top.proofs.Filing.{outcome_on_file}
+use Rattle.fts_top.proofs.Fronts.{nothing_yet, again}
 use Rattle.fts_top.proofs.Finishing.{finished, rose_wider}
 use Rattle.fts_top.proofs.once.run_script.Goals as goal
 
@@ -14,7 +21,7 @@ pub returns-in-Ok-clause-not_created : goal.returns-in-Ok-clause-not_created
 returns-in-Ok-clause-not_created g c e = absurd (subst (λ (s : Status). EndsRun s) e c.run-status.ensures.ends)
 
 pub returns-in-Ok-clause-damaged : goal.returns-in-Ok-clause-damaged
-returns-in-Ok-clause-damaged g c at e = absurd (subst (λ (s : Status). EndsRun s) e c.run-status.ensures.ends)
+returns-in-Ok-clause-damaged g c device file at e = absurd (subst (λ (s : Status). EndsRun s) e c.run-status.ensures.ends)
 
 pub returns-in-Ok-clause-complete : goal.returns-in-Ok-clause-complete
 returns-in-Ok-clause-complete g c tells told state database short read write disk =
@@ -22,4 +29,36 @@ returns-in-Ok-clause-complete g c tells told state database short read write dis
     (λ e. read (c.run-status.ensures.read e))
     (λ e. write (c.run-status.ensures.write e))
     (λ e. disk (rose_wider _ _ _ _ c.in-Ok.ensures.never_falls (omega (arith, c.close.ensures.faults)) (c.run-status.ensures.disk e)))
-    (λ lines bytes e. let long = c.run-status.ensures.too_long tells (lines, bytes, e) in absurd (omega (arith, long, short)))
+    (λ lines bytes e. let long = c.run-status.ensures.too_long lines bytes e tells in absurd (omega (arith, long.0, long.1, short)))
+
+pub returns-in-Ok-clause-runs : goal.returns-in-Ok-clause-runs
+returns-in-Ok-clause-runs g c tells_input tells_out tells start database =
+    let seen = g.D.Disk.seen in
+    let script = lines_of (g.I.Source.left c.args.input.now) in
+    let left = g.I.Source.left c.run-status.new.input in
+    let held = g.O.Sink.holds c.args.out.now in
+    let held' = g.O.Sink.holds c.run-status.new.out in
+    let state = (c.in-Ok.ensures.opened tells).0 in
+    let stands = (c.in-Ok.ensures.opened tells).1 in
+    let same = one_database start state (seen c.args.rows 0) database
+    (subst (λ (f : ℕ → List ℕ). IsDatabase state (f 0)) (c.in-Ok.ensures.looks tells).seen (Stands-reads state c.in-Ok.engine stands)) in
+    let outcome = outcome_on_file _ c.args.limit (λ s. seen (engine_device s.engine) 0) (λ s d is. Stands-reads s d.engine is) (λ s d is. is)
+    c.run-status.result state script left held held' (record { engine = c.in-Ok.engine }) c.run-status.new.steps c.in-Ok.ensures.limit
+    (c.run-status.ensures.runs tells_input tells_out tells state stands) in
+    let from_rows = subst (λ (f : ℕ → List ℕ). Outcome (files c.args.limit) c.run-status.result state script left held held' (f 0) (seen (engine_device c.run-status.new.steps.engine) 0))
+    (c.in-Ok.ensures.looks tells).seen outcome in
+    let to_close = subst (λ (d : _). Outcome (files c.args.limit) c.run-status.result state script left held held' (seen c.args.rows 0) (seen d 0))
+    (sym c.close.ensures.device) from_rows in
+    inl (subst (λ (s : State). Outcome (files c.args.limit) c.run-status.result s script left held held' (seen c.args.rows 0) (seen c.close.result 0)) (sym same) to_close)
+
+pub returns-in-Err-NoMemory-default-clause-runs : goal.returns-in-Err-NoMemory-default-clause-runs
+returns-in-Err-NoMemory-default-clause-runs g c tells_input tells_out tells start database =
+    let script = lines_of (g.I.Source.left c.args.input.now) in
+    let held = g.O.Sink.holds c.args.out.now in
+    let file = g.D.Disk.seen c.args.rows 0 in
+    inl (inl (
+      script,
+      again (files c.args.limit) start script script script held held held file file _
+          (nothing_yet (files c.args.limit) start script held file database) refl refl
+          (ap (λ (f : ℕ → List ℕ). f 0) (c.in-Err-NoMemory-default.ensures.looks_err tells).seen),
+    ))

@@ -1,6 +1,6 @@
 use Rattle.std.proofs.Common.{◌≡◌, ◌+◌, ◌≤◌, IsTrue, length}
 use Rattle.fts_io.specs.Text.{lines_of}
-use Rattle.fts_io.specs.Reading.{ahead, taken_by, work_left}
+use Rattle.fts_io.specs.Reading.{ahead, given_by, taken_by, work_left}
 use Rattle.fts_steps.specs.State.{State}
 use Rattle.fts_top.specs.Run.{Front}
 use Rattle.fts_top.proofs.script.run.Given as goal
@@ -9,8 +9,8 @@ abbrev pub invariant-lines : goal.invariant-lines
 invariant-lines g l = record {
   ready : IsTrue g.S.EngineSteps.tells → (state : State) × g.S.EngineSteps.stands state l.steps;
   front : IsTrue g.I.Source.tells → IsTrue g.O.Sink.tells → IsTrue g.S.EngineSteps.tells → (start : State) → g.S.EngineSteps.stands start l.initial.steps
-      → Front g.S.EngineSteps start (lines_of (g.I.Source.left l.initial.input)) (ahead l.lines (g.I.Source.left l.input))
-      (g.O.Sink.holds l.initial.out) (g.O.Sink.holds l.out) l.initial.steps l.steps;
+      → (front : Front g.S.EngineSteps start (lines_of (g.I.Source.left l.initial.input)) (ahead l.lines (g.I.Source.left l.input))
+      (g.O.Sink.holds l.initial.out) (g.O.Sink.holds l.out) l.initial.steps l.steps) × (length front.lines ≡ given_by l.lines);
   counts : IsTrue g.I.Source.tells → taken_by l.lines + length (g.I.Source.left l.input) ≡ length (g.I.Source.left l.initial.input);
   input_never_falls : g.I.Source.faults l.initial.input ≤ g.I.Source.faults l.input;
   out_never_falls : g.O.Sink.faults l.initial.out ≤ g.O.Sink.faults l.out;
