@@ -1,3 +1,6 @@
+ghost use Rattle.std.specs.Prelude.{◌≡◌};
+ghost use Rattle.fts_top.specs.Number.{number_of};
+
 use std::fmt;
 
 /// How a call of the program ends.
@@ -43,7 +46,9 @@ impl fmt::Display for Device {
 
 impl Status {
     /// The number with which the program ends.
-    pub fn number(&self) -> u8 {
+    pub fn number(&self) -> u8
+        ensures { result ≡ number_of self.now }
+    {
         match self {
             Status::Done => 0,
             Status::NoMemory => 1,

@@ -337,3 +337,34 @@ fn a_full_log_refuses_a_commit_and_tells_its_end(rt: HostRuntime) -> Result<(), 
     }
     Ok(())
 }
+
+#[test]
+fn each_status_has_its_number_and_its_text(rt: HostRuntime) -> Result<(), Fail> {
+    let alloc = rt.alloc();
+    let damaged = Status::Damaged {
+        device: Device::Index,
+        file: 1,
+        at: 34,
+    };
+    for (status, number, text) in [
+        (Status::Done, 0u8, "done"),
+        (Status::NoMemory, 1, "no memory"),
+        (Status::Usage, 2, "usage: fts DIR create|run|serve|gen .."),
+        (Status::ReadFault, 3, "read fault"),
+        (Status::WriteFault, 4, "write fault"),
+        (Status::DiskFault, 5, "disk fault"),
+        (Status::NotCreated, 6, "not created"),
+        (Status::AlreadyCreated, 7, "already created"),
+        (damaged, 8, "damaged index file 1 at 34"),
+        (
+            Status::ScriptTooLong { lines: 2, bytes: 3 },
+            9,
+            "script too long",
+        ),
+    ] {
+        assert_eq!(rt; status.number(), number, "{text}");
+        let printed = format!(in alloc; "{status}")?;
+        assert_eq!(rt; printed.as_str(), text);
+    }
+    Ok(())
+}
