@@ -5,8 +5,9 @@ use fts_host::{HostDisk, StdSink, StdSource};
 use fts_io::OpenGate;
 use fts_top::{Status, fts_once};
 use std::alloc::AllocError;
+use std::env;
+use std::io::{self, ErrorKind};
 use std::process::ExitCode;
-use std::{env, io};
 
 fn main(rt: HostRuntime) -> ExitCode {
     let status = match words(&rt) {
@@ -14,6 +15,8 @@ fn main(rt: HostRuntime) -> ExitCode {
             Ok(status) => status,
             Err(AllocError) => Status::NoMemory,
         },
+        Err(error) if error.kind() == ErrorKind::OutOfMemory => Status::NoMemory,
+        // A word that isn't UTF-8 belongs to no command.
         Err(_) => Status::Usage,
     };
     if status != Status::Done {
