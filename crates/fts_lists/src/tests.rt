@@ -1,0 +1,5 @@
+use super::*;
+use std::test::Fail;
+
+#[test]
+fn nothing_yet() {}
