@@ -1,5 +1,6 @@
 //! One set of ids.
-ghost use Rattle.std.specs.Prelude.{◌≡◌, ◌+◌, ◌<◌, ◌≤◌, ◌↔◌, [], ◌∷◌, IsTrue, IsOk, IfOk, OnOk};
+ghost use Rattle.std.specs.Prelude.{◌≡◌, ◌+◌, ◌<◌, ◌≤◌, ◌↔◌, [], ◌∷◌, IsTrue, IsOk, IfOk, OnOk, nat_eq};
+ghost use Rattle.std.specs.List.{IsDistinct};
 ghost use Rattle.fts_lists.specs.Ids.{has, with_id, without};
 
 use fts_types::DocId;
@@ -20,6 +21,14 @@ impl Model for IdSet {
     ghost Value = { Held };
 
     ghost view = { λ s. record { ids = ascending s.ids.keys; room = spare s.ids } };
+}
+
+/// The keys of a set, as they come.
+fn keys_of(alloc: Global, set: &HashSet<DocId>) -> Result<Vec<DocId>, AllocError>
+    ensures keys { IfOk result (λ ids. ids.items ≡ set.now.keys) }
+    ensures distinct { IsDistinct nat_eq set.now.keys }
+{
+    set.iter().copied().collect(alloc)
 }
 
 impl IdSet {
@@ -50,7 +59,7 @@ impl IdSet {
     pub fn to_vec(&self, alloc: Global) -> Result<Vec<DocId>, AllocError>
         ensures { IfOk result (λ ids. ids.items ≡ self.now.ids) }
     {
-        let mut ids: Vec<DocId> = self.ids.iter().copied().collect(alloc)?;
+        let mut ids = keys_of(alloc, &self.ids)?;
         ids.sort_unstable();
         Ok(ids)
     }
