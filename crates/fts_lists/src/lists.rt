@@ -1,11 +1,11 @@
 //! The lists and numbers of an index.
 ghost use Rattle.std.specs.Prelude.{◌≡◌, ◌+◌, ◌<◌, ◌≤◌, ◌↔◌, [], true, false, Some, None, IsTrue, IsOk, IfOk, OnOk};
-ghost use Rattle.std.specs.Option.{option_map};
+ghost use Rattle.std.specs.Option.{option_copied};
 ghost use Rattle.fts_lists.specs.Ids.{has, with_id, without};
 ghost use Rattle.fts_lists.specs.State.{held, ids_of, room_of, ChangesOnly};
 
 use crate::ids::IdSet;
-use fts_types::DocId;
+use fts_types::{DocId, Word};
 use std::alloc::{AllocError, Global};
 use std::marker::Model;
 
@@ -29,16 +29,15 @@ pub struct Lists {
     flushed: u64,
     synced: DocId,
     is_open: bool,
-    checkpoint: Option<Vec<u8>>,
+    checkpoint: Option<Word>,
 }
 
 impl Model for Lists {
-    ghost use Rattle.std.specs.Option.{option_map};
     ghost use Rattle.fts_lists.specs.State.{State};
 
     ghost Value = { State };
 
-    ghost view = { λ s. record { deleted = s.deleted; being_deleted = s.being_deleted; deleted_cache = s.deleted_cache; flushed = s.flushed; synced = s.synced; is_open = s.is_open; checkpoint = option_map (λ w. w.items) s.checkpoint } };
+    ghost view = { λ s. record { deleted = s.deleted; being_deleted = s.being_deleted; deleted_cache = s.deleted_cache; flushed = s.flushed; synced = s.synced; is_open = s.is_open; checkpoint = s.checkpoint } };
 }
 
 impl Lists {
@@ -164,13 +163,10 @@ impl Lists {
     }
 
     /// The last word that the open pass worked on, if it has worked on one.
-    pub fn checkpoint(&self) -> Option<&[u8]>
-        ensures { option_map (λ word. word.now) result ≡ self.now.checkpoint }
+    pub fn checkpoint(&self) -> Option<&Word>
+        ensures { option_copied result ≡ self.now.checkpoint }
     {
-        match &self.checkpoint {
-            Some(word) => Some(word),
-            None => None,
-        }
+        self.checkpoint.as_ref()
     }
 
     /// Opens a pass, which has worked on no word.
@@ -182,9 +178,9 @@ impl Lists {
     }
 
     /// Notes the word that the open pass has worked on.
-    pub fn set_checkpoint(&mut self, word: Vec<u8>)
+    pub fn set_checkpoint(&mut self, word: Word)
         requires { self.old.is_open ≡ true }
-        ensures { self.new ≡ record self.old { checkpoint = Some word.items } }
+        ensures { self.new ≡ record self.old { checkpoint = Some word } }
     {
         self.checkpoint = Some(word);
     }

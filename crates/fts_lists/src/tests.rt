@@ -1,4 +1,5 @@
 use super::*;
+use fts_types::Word;
 use std::collections::BTreeSet;
 use std::test::Fail;
 
@@ -46,8 +47,9 @@ fn numbers_and_the_pass_are_kept(rt: HostRuntime) -> Result<(), Fail> {
     assert_eq!(rt; (lists.flushed(), lists.synced()), (3, 42));
     lists.open_pass();
     assert!(rt; lists.is_open() && lists.checkpoint().is_none());
-    lists.set_checkpoint(b"apple".to_vec(alloc)?);
-    assert_eq!(rt; lists.checkpoint(), Some(b"apple".as_slice()));
+    lists.set_checkpoint(Word::copied(alloc, b"apple")?);
+    let word = Word::copied(alloc, b"apple")?;
+    assert!(rt; lists.checkpoint().is_some_and(|held| *held == word));
     lists.close_pass();
     assert!(rt; !lists.is_open() && lists.checkpoint().is_none());
     Ok(())

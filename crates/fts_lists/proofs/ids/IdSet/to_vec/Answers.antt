@@ -1,4 +1,4 @@
-use Rattle.std.proofs.Common.{ap, sym, subst, ◌∙◌}
+use Rattle.std.proofs.Common.{ap, subst, ◌∙◌}
 use Rattle.std.specs.List.Sorted.{IsPermutation}
 use Rattle.fts_lists.proofs.Ascending.{sorted_ids}
 use Rattle.fts_lists.proofs.ids.IdSet.to_vec.Goals as goal
