@@ -1,0 +1,32 @@
+-- One table of words.
+use Rattle.std.specs.Prelude.{◌≡◌, ◌≢◌, ℕ, ◌-◌, List, [], ◌∷◌, map, Option, Some, None}
+use Rattle.std.specs.BTreeMap.{get}
+use Rattle.std.specs.declared.vec.Vec.{Vec}
+use Rattle.std.specs.Vec.{vec_len, vec_capacity}
+use Rattle.fts_aux.specs.declared.table.Table.{Table}
+use Rattle.fts_aux.specs.Node.{Docs, byte_order}
+
+abbrev pub items_of : {Z : Type 0} → Option (Vec Docs Z) → List Docs
+items_of None = []
+items_of (Some nodes) = nodes.items
+
+abbrev pub spare_of : {Z : Type 0} → Option (Vec Docs Z) → ℕ
+spare_of None = 0
+spare_of (Some nodes) = vec_capacity nodes - vec_len nodes
+
+-- the nodes of a word in a table, none where the word isn't in it
+abbrev pub nodes_in : Table → List ℕ → List Docs
+nodes_in table word = items_of (get byte_order table.words word)
+
+-- how many more nodes of a word a table can take without memory
+abbrev pub room_in : Table → List ℕ → ℕ
+room_in table word = spare_of (get byte_order table.words word)
+
+-- the words with nodes among some entries, with their nodes
+abbrev pub filled_as : List ℕ → List Docs → List (List ℕ × List Docs) → List (List ℕ × List Docs)
+filled_as word [] rest = rest
+filled_as word (n ∷ ns) rest = (word, n ∷ ns) ∷ rest
+
+abbrev pub filled : {Z : Type 0} → List (List ℕ × Vec Docs Z) → List (List ℕ × List Docs)
+filled [] = []
+filled (e ∷ es) = filled_as e.0 e.1.items (filled es)

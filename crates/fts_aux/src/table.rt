@@ -1,0 +1,91 @@
+//! One of the six tables.
+ghost use Rattle.std.specs.Prelude.{◌≡◌, ◌≢◌, ℕ, ◌≤◌, ◌++◌, [], map, List, length, ◌+◌, OnOk, IfOk, nat_eq, slice_get};
+ghost use Rattle.std.specs.Option.{option_map};
+ghost use Rattle.std.specs.Vec.{vec_len, vec_capacity};
+ghost use Rattle.std.specs.List.{take_while, starts_with};
+ghost use Rattle.fts_aux.specs.Table.{nodes_in, room_in, filled};
+
+use crate::node::Node;
+use fts_types::Word;
+use std::alloc::{AllocError, Global};
+use std::collections::BTreeMap;
+use std::collections::btree_map::Range;
+use std::ops::Bound;
+
+/// Words with their nodes, in byte order. A word without nodes is there for its room alone, and counts as absent.
+#[derive(Drop)]
+pub struct Table {
+    alloc: Global,
+    words: BTreeMap<Word, Vec<Node>>,
+}
+
+/// The first word of the rest that has nodes.
+fn first_filled<'a>(rest: Range<'a, Word, Vec<Node>>) -> Option<(&'a Word, &'a [Node])>
+    ensures { option_map (λ p. (p.0.now, p.1.now)) result ≡ slice_get (filled rest.entry) 0 }
+{
+    let mut rest = rest;
+    while let Some((word, nodes)) = rest.next() {
+        if !nodes.is_empty() {
+            return Some((word, nodes));
+        }
+    }
+    None
+}
+
+/// The words at the front of the rest that begin with the prefix and have nodes.
+fn filled_with_prefix<'a>(
+    alloc: Global,
+    rest: Range<'a, Word, Vec<Node>>,
+    prefix: &[u8],
+) -> Result<Vec<(&'a Word, &'a [Node])>, AllocError>
+    ensures { IfOk result (λ found. map (λ p. (p.0.now, p.1.now)) found.items ≡ filled (take_while (λ e. starts_with nat_eq e.0 prefix.now) rest.entry)) }
+{
+    let mut rest = rest;
+    let mut found = Vec::new(alloc);
+    while let Some((word, nodes)) = rest.next() {
+        if !word.as_bytes().starts_with(prefix) {
+            return Ok(found);
+        }
+        if !nodes.is_empty() {
+            found.push((word, nodes.as_slice()))?;
+        }
+    }
+    Ok(found)
+}
+
+/// Puts nodes behind those of a list that has room for them.
+fn append(held: &mut Vec<Node>, nodes: Vec<Node>)
+    requires { vec_len held.old + vec_len nodes ≤ vec_capacity held.old }
+    ensures items { held.new.items ≡ held.old.items ++ nodes.items }
+    ensures len { vec_len held.new ≡ vec_len held.old + vec_len nodes }
+    ensures capacity { vec_capacity held.old ≤ vec_capacity held.new }
+{
+    let mut nodes = nodes;
+    match held.append(&mut nodes) {
+        Ok(()) => {}
+        Err(_) => unreachable!(),
+    }
+}
+
+impl Table {
+    /// A table without words.
+    pub fn new(alloc: Global) -> Self
+        ensures nodes { (word : List ℕ) → nodes_in result word ≡ [] }
+        ensures room { (word : List ℕ) → room_in result word ≡ 0 }
+    {
+        Table {
+            alloc,
+            words: BTreeMap::new(alloc),
+        }
+    }
+
+    /// The nodes of a word.
+    pub fn nodes_of(&self, word: &Word) -> &[Node]
+        ensures { result.now ≡ nodes_in self.now word.now }
+    {
+        match self.words.get(word) {
+            Some(nodes) => nodes,
+            None => &[],
+        }
+    }
+}

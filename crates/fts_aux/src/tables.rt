@@ -1,0 +1,7 @@
+//! The six tables.
+
+/// The tables.
+#[derive(Drop)]
+pub struct Tables {
+    count: usize,
+}
