@@ -1,5 +1,6 @@
 -- One table of words.
-use Rattle.std.specs.Prelude.{◌≡◌, ◌≢◌, ℕ, ◌-◌, List, [], ◌∷◌, map, Option, Some, None}
+use Rattle.std.specs.Prelude.{ℕ, ◌-◌, Bool, cond, nat_eq, List, [], ◌∷◌, Option, Some, None}
+use Rattle.std.specs.List.{starts_with}
 use Rattle.std.specs.BTreeMap.{get}
 use Rattle.std.specs.declared.vec.Vec.{Vec}
 use Rattle.std.specs.Vec.{vec_len, vec_capacity}
@@ -30,3 +31,12 @@ filled_as word (n ∷ ns) rest = (word, n ∷ ns) ∷ rest
 abbrev pub filled : {Z : Type 0} → List (List ℕ × Vec Docs Z) → List (List ℕ × List Docs)
 filled [] = []
 filled (e ∷ es) = filled_as e.0 e.1.items (filled es)
+
+-- whether a word begins with a prefix
+abbrev pub begins : List ℕ → List ℕ → Bool
+begins prefix word = starts_with nat_eq word prefix
+
+-- the entries at the front whose words begin with a prefix
+abbrev pub front : {X : Type 0} → List ℕ → List (List ℕ × X) → List (List ℕ × X)
+front prefix [] = []
+front prefix (e ∷ es) = cond (begins prefix e.0) (e ∷ front prefix es) []

@@ -2,8 +2,7 @@
 ghost use Rattle.std.specs.Prelude.{◌≡◌, ◌≢◌, ℕ, ◌≤◌, ◌++◌, [], map, List, length, ◌+◌, OnOk, IfOk, nat_eq, slice_get};
 ghost use Rattle.std.specs.Option.{option_map};
 ghost use Rattle.std.specs.Vec.{vec_len, vec_capacity};
-ghost use Rattle.std.specs.List.{take_while, starts_with};
-ghost use Rattle.fts_aux.specs.Table.{nodes_in, room_in, filled};
+ghost use Rattle.fts_aux.specs.Table.{nodes_in, room_in, filled, filled_as, front};
 
 use crate::node::Node;
 use fts_types::Word;
@@ -32,13 +31,28 @@ fn first_filled<'a>(rest: Range<'a, Word, Vec<Node>>) -> Option<(&'a Word, &'a [
     None
 }
 
+/// Puts a word with its nodes at the end, if it has any.
+fn push_filled<'a>(
+    found: &mut Vec<(&'a Word, &'a [Node])>,
+    word: &'a Word,
+    nodes: &'a [Node],
+) -> Result<(), AllocError>
+    ensures { OnOk result (map (λ p. (p.0.now, p.1.now)) found.new.items ≡ map (λ p. (p.0.now, p.1.now)) found.old.items ++ filled_as word.now nodes.now []) }
+{
+    if nodes.is_empty() {
+        return Ok(());
+    }
+    found.push((word, nodes))?;
+    Ok(())
+}
+
 /// The words at the front of the rest that begin with the prefix and have nodes.
 fn filled_with_prefix<'a>(
     alloc: Global,
     rest: Range<'a, Word, Vec<Node>>,
     prefix: &[u8],
 ) -> Result<Vec<(&'a Word, &'a [Node])>, AllocError>
-    ensures { IfOk result (λ found. map (λ p. (p.0.now, p.1.now)) found.items ≡ filled (take_while (λ e. starts_with nat_eq e.0 prefix.now) rest.entry)) }
+    ensures { IfOk result (λ found. map (λ p. (p.0.now, p.1.now)) found.items ≡ filled (front prefix.now rest.entry)) }
 {
     let mut rest = rest;
     let mut found = Vec::new(alloc);
@@ -46,9 +60,7 @@ fn filled_with_prefix<'a>(
         if !word.as_bytes().starts_with(prefix) {
             return Ok(found);
         }
-        if !nodes.is_empty() {
-            found.push((word, nodes.as_slice()))?;
-        }
+        push_filled(&mut found, word, nodes)?;
     }
     Ok(found)
 }
