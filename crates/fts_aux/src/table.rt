@@ -1,8 +1,8 @@
 //! One of the six tables.
-ghost use Rattle.std.specs.Prelude.{◌≡◌, ◌≢◌, ℕ, ◌≤◌, ◌++◌, [], map, List, length, ◌+◌, OnOk, IfOk, nat_eq, slice_get};
+ghost use Rattle.std.specs.Prelude.{◌≡◌, ◌≢◌, ℕ, ◌≤◌, ◌++◌, [], map, List, length, ◌+◌, OnOk, IfOk, IfSome, IfNone, slice_get};
 ghost use Rattle.std.specs.Option.{option_map};
 ghost use Rattle.std.specs.Vec.{vec_len, vec_capacity};
-ghost use Rattle.fts_aux.specs.Table.{nodes_in, room_in, filled, filled_as, front};
+ghost use Rattle.fts_aux.specs.Table.{nodes_in, room_in, filled, filled_as, front, IsListing, IsNext, IsLast};
 
 use crate::node::Node;
 use fts_types::Word;
@@ -99,5 +99,33 @@ impl Table {
             Some(nodes) => nodes,
             None => &[],
         }
+    }
+
+    /// The least word behind this one that has nodes.
+    pub fn next_after(&self, word: &Word) -> Option<&Word>
+        ensures found { IfSome result (λ next. IsNext (nodes_in self.now) word.now next.now) }
+        ensures none { IfNone result (IsLast (nodes_in self.now) word.now) }
+    {
+        let rest = self
+            .words
+            .range((Bound::Excluded(word), Bound::Unbounded));
+        match first_filled(rest) {
+            Some((next, _)) => Some(next),
+            None => None,
+        }
+    }
+
+    /// The words that begin with the prefix, in byte order, with their nodes.
+    pub fn with_prefix(
+        &self,
+        alloc: Global,
+        prefix: &Word,
+    ) -> Result<Vec<(&Word, &[Node])>, AllocError>
+        ensures { IfOk result (λ found. IsListing (nodes_in self.now) prefix.now (map (λ p. (p.0.now, p.1.now)) found.items)) }
+    {
+        let rest = self
+            .words
+            .range((Bound::Included(prefix), Bound::Unbounded));
+        filled_with_prefix(alloc, rest, prefix.as_bytes())
     }
 }
