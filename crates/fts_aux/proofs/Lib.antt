@@ -1,3 +1,5 @@
 mod Few
 mod Filled
 mod Ordered
+mod Prefixed
+mod Changes

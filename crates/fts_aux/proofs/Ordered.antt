@@ -214,3 +214,6 @@ module _ {Z : Type 0} (w : List ℕ) (es : List (List ℕ × Vec Docs Z)) (up : 
   pub last_of_all : (l : List (List ℕ × List Docs)) → l ≡ rest → None ≡ slice_get l 0 → IsLast nodes w
   last_of_all [] same e = λ q less. of_rest q less ∙ ap (nodes_at q) (sym same)
   last_of_all (e ∷ l) same is = absurd (none-some e is)
+
+pub equal_itself : (w : List ℕ) → is_eq (byte_order w w) ≡ true
+equal_itself w = ap is_eq (itself w)

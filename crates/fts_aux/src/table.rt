@@ -128,4 +128,49 @@ impl Table {
             .range((Bound::Included(prefix), Bound::Unbounded));
         filled_with_prefix(alloc, rest, prefix.as_bytes())
     }
+
+    /// Makes room for so many more nodes of a word. The nodes stay as they are, with or without memory for it.
+    pub fn reserve(&mut self, word: &Word, more: usize) -> Result<(), AllocError>
+        ensures nodes { (other : List ℕ) → nodes_in self.new other ≡ nodes_in self.old other }
+        ensures room { (other : List ℕ) → room_in self.old other ≤ room_in self.new other }
+        ensures ok { OnOk result (more ≤ room_in self.new word.now) }
+    {
+        if let Some(held) = self.words.get_mut(word) {
+            return held.reserve(more);
+        }
+        let key = Word::copied(self.alloc, word.as_bytes())?;
+        let room = Vec::with_capacity(self.alloc, more)?;
+        match self.words.insert(key, room) {
+            Ok(_) => Ok(()),
+            Err(_) => Err(AllocError),
+        }
+    }
+
+    /// Puts nodes behind those of a word that has room for them. It takes no memory.
+    pub fn append(&mut self, word: &Word, nodes: Vec<Node>)
+        requires { length nodes.items ≤ room_in self.old word.now }
+        ensures nodes { nodes_in self.new word.now ≡ nodes_in self.old word.now ++ nodes.items }
+        ensures others { (other : List ℕ) → other ≢ word.now → nodes_in self.new other ≡ nodes_in self.old other }
+        ensures room { (other : List ℕ) → other ≢ word.now → room_in self.new other ≡ room_in self.old other }
+    {
+        if let Some(held) = self.words.get_mut(word) {
+            append(held, nodes);
+        }
+    }
+
+    /// Replaces the nodes of a word that has some. Without nodes, the word is taken out. It takes no memory.
+    pub fn replace(&mut self, word: &Word, nodes: Vec<Node>)
+        requires { nodes_in self.old word.now ≢ [] }
+        ensures nodes { nodes_in self.new word.now ≡ nodes.items }
+        ensures others { (other : List ℕ) → other ≢ word.now → nodes_in self.new other ≡ nodes_in self.old other }
+        ensures room { (other : List ℕ) → other ≢ word.now → room_in self.new other ≡ room_in self.old other }
+    {
+        if nodes.is_empty() {
+            self.words.remove(word);
+            return;
+        }
+        if let Some(held) = self.words.get_mut(word) {
+            *held = nodes;
+        }
+    }
 }
