@@ -17,7 +17,7 @@ others_stay m n w x u q apart =
     (cases_Bool (is_eq (byte_order w q)))
 
 -- a fact on what stands at each word holds at w and at the others
-everywhere : (w q : List ℕ) (P : List ℕ → Type 0) → P w → (q ≢ w → P q) → P q
+pub everywhere : (w q : List ℕ) (P : List ℕ → Type 0) → P w → (q ≢ w → P q) → P q
 everywhere w q P here others =
     ⊎_elim
     (λ same. subst P (same_word w q same) here)

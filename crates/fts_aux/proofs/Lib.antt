@@ -3,3 +3,4 @@ mod Filled
 mod Ordered
 mod Prefixed
 mod Changes
+mod Places
