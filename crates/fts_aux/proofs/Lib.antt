@@ -4,3 +4,4 @@ mod Ordered
 mod Prefixed
 mod Changes
 mod Places
+mod Nexts

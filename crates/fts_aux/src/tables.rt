@@ -138,7 +138,7 @@ impl Tables {
         ensures ok { OnOk result (HasRoom self.new batch.now) }
     {
         for group in batch {
-            self.reserve_word(&group.word, group.nodes.len())?;
+            self.reserve_word(group.word(), group.nodes().len())?;
         }
         Ok(())
     }
