@@ -5,3 +5,4 @@ mod Prefixed
 mod Changes
 mod Places
 mod Nexts
+mod Batches

@@ -1,19 +1,19 @@
 -- The next word over several tables.
-use Rattle.std.proofs.Common.{◌≡◌, ◌≢◌, ℕ, ◌+◌, ◌<◌, ◌≤◌, ◌==◌, suc, Bool, true, false, cond, ◌&&◌, List, [], ◌∷◌, Option, Some, None, Bor, length, map, get_or, drop, nat_eq, refl, sym, ap, subst, ◌∙◌, ⊎_elim, inl, inr, arith}
+use Rattle.std.proofs.Common.{◌≡◌, ◌≢◌, ℕ, ◌<◌, ◌≤◌, ◌==◌, suc, true, false, cond, ◌&&◌, List, [], ◌∷◌, Option, Some, None, Bor, length, map, get_or, drop, nat_eq, refl, sym, ap, subst, ◌∙◌, ⊎_elim, arith}
 use Rattle.std.specs.List.{AllByRecursion}
 use Rattle.std.specs.Option.{IfSome, IfNone, option_copied}
 use Rattle.std.specs.declared.cmp.Ordering.{Ordering}
 use Rattle.std.specs.declared.cmp.Ordering.TheVariants.{Less, Equal, Greater}
-use Rattle.std.specs.Ordering.{is_eq, is_gt, ordering_reverse}
+use Rattle.std.specs.Ordering.{is_gt, ordering_reverse}
 use Rattle.std.specs.Cmp.Lexicographic.{nat_list_cmp_total}
-use Rattle.std.proofs.lemmas.Bool.{false≢true, true≢false, cases_Bool, cases_eq, eqb-true, ne_eqb, eq-eqb}
+use Rattle.std.proofs.lemmas.Bool.{false≢true, true≢false, cases_Bool, eqb-true, ne_eqb, eq-eqb}
 use Rattle.std.proofs.lemmas.Map.Lookups.{exact_bytes}
 use Rattle.fts_types.specs.Table.{table_of}
 use Rattle.fts_aux.specs.declared.table.Table.{Table}
 use Rattle.fts_aux.specs.Node.{Docs, byte_order}
-use Rattle.fts_aux.specs.Table.{nodes_in, nodes_at, begins, IsNext, IsLast, IsListing}
+use Rattle.fts_aux.specs.Table.{nodes_in, begins, IsNext, IsLast, IsListing}
 use Rattle.fts_aux.specs.Tables.{Held, shown, nodes, nodes_from, PlacedFrom, AreTables, AtMost, IsSomewhere}
-use Rattle.fts_aux.proofs.Places.{nodes_seen, own_nodes}
+use Rattle.fts_aux.proofs.Places.{nodes_seen}
 
 -- ---- the lesser of two words
 

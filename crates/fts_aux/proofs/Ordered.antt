@@ -1,23 +1,22 @@
 -- Entries by ascending words.
-use Rattle.std.proofs.Common.{◌≡◌, ◌≢◌, ℕ, suc, Bool, true, false, cond, not, ◌&&◌, List, [], ◌∷◌, ◌++◌, Option, Some, None, length, take, nat_eq, refl, sym, ap, subst, ◌∙◌, ⊎_elim}
-use Rattle.std.specs.List.{filter, AllByRecursion, All, starts_with, slice_get}
+use Rattle.std.proofs.Common.{◌≡◌, ◌≢◌, ℕ, Bool, true, false, cond, ◌&&◌, List, [], ◌∷◌, Option, Some, None, refl, sym, ap, subst, ◌∙◌, ⊎_elim}
+use Rattle.std.specs.List.{filter, AllByRecursion, slice_get}
 use Rattle.std.specs.List.Sorted.{IsStrictlySortedBy}
 use Rattle.std.specs.Option.{unwrap_or}
 use Rattle.std.specs.Map.{keys_of, lookup}
 use Rattle.std.specs.BTreeMap.{is_at}
 use Rattle.std.specs.declared.cmp.Ordering.{Ordering}
 use Rattle.std.specs.declared.cmp.Ordering.TheVariants.{Less, Equal, Greater}
-use Rattle.std.specs.Ordering.{is_eq, is_lt, is_le, is_gt, nat_cmp, ordering_then, ordering_reverse}
-use Rattle.std.specs.Cmp.Lexicographic.{slice_cmp, texts_ties, nat_list_eq_equiv}
+use Rattle.std.specs.Ordering.{is_eq, is_lt, is_gt}
+use Rattle.std.specs.Cmp.Lexicographic.{texts_ties, nat_list_eq_equiv}
 use Rattle.std.specs.declared.vec.Vec.{Vec}
-use Rattle.std.proofs.lemmas.Bool.{false≢true, true≢false, cases_Bool}
+use Rattle.std.proofs.lemmas.Bool.{false≢true, cases_Bool}
 use Rattle.std.proofs.lemmas.Option.{none-some}
 use Rattle.std.proofs.lemmas.Map.Keys.{sorted_head, sorted_tail}
 use Rattle.std.proofs.lemmas.Map.Entries.{lookup-filter-keys}
 use Rattle.std.proofs.lemmas.Map.Lookups.{exact_bytes}
-use Rattle.std.proofs.lemmas.List.Elements.{All-from_recursion}
 use Rattle.fts_aux.specs.Node.{Docs, byte_order}
-use Rattle.fts_aux.specs.Table.{items_of, filled, filled_as, begins, front, nodes_at, IsNext, IsLast, IsListing}
+use Rattle.fts_aux.specs.Table.{items_of, filled, filled_as, nodes_at, IsNext, IsLast}
 
 module _ {X : Type 0} where
   -- all words are behind w
@@ -52,7 +51,7 @@ module _ {X : Type 0} where
   behind-filter p w [] h = tt
   behind-filter p w (e ∷ es) h =
       elim (p e.0) as (λ b. AllBehind w (cond b (e ∷ filter (λ e. p e.0) es) (filter (λ e. p e.0) es))) [
-        true ↦ (h.0, behind-filter p w es h.1)
+        | true ↦ (h.0, behind-filter p w es h.1)
         | false ↦ behind-filter p w es h.1
       ]
 
@@ -60,7 +59,7 @@ module _ {X : Type 0} where
   ascends-filter p [] h = tt
   ascends-filter p (e ∷ es) h =
       elim (p e.0) as (λ b. Ascends (cond b (e ∷ filter (λ e. p e.0) es) (filter (λ e. p e.0) es))) [
-        true ↦ (behind-filter p e.0 es h.0, ascends-filter p es h.1)
+        | true ↦ (behind-filter p e.0 es h.0, ascends-filter p es h.1)
         | false ↦ ascends-filter p es h.1
       ]
 
@@ -86,7 +85,7 @@ behind-filled : {Z : Type 0} (w : List ℕ) (es : List (List ℕ × Vec Docs Z))
 behind-filled w [] h = tt
 behind-filled w (e ∷ es) h =
     elim (e.1.items) as (λ ns. AllBehind w (filled_as e.0 ns (filled es))) [
-      [] ↦ behind-filled w es h.1
+      | [] ↦ behind-filled w es h.1
       | n ∷ ns ↦ (h.0, behind-filled w es h.1)
     ]
 
@@ -94,7 +93,7 @@ pub ascends-filled : {Z : Type 0} (es : List (List ℕ × Vec Docs Z)) → Ascen
 ascends-filled [] h = tt
 ascends-filled (e ∷ es) h =
     elim (e.1.items) as (λ ns. Ascends (filled_as e.0 ns (filled es))) [
-      [] ↦ ascends-filled es h.1
+      | [] ↦ ascends-filled es h.1
       | n ∷ ns ↦ (behind-filled e.0 es h.0, ascends-filled es h.1)
     ]
 
@@ -102,7 +101,7 @@ pub all_filled : {Z : Type 0} (es : List (List ℕ × Vec Docs Z)) → AllByRecu
 all_filled [] = tt
 all_filled (e ∷ es) =
     elim (e.1.items) as (λ ns. AllByRecursion (λ e. e.1 ≢ []) (filled_as e.0 ns (filled es))) [
-      [] ↦ all_filled es
+      | [] ↦ all_filled es
       | n ∷ ns ↦ ((λ none. absurd (cc)), all_filled es)
     ]
 
@@ -133,7 +132,7 @@ nodes_at-filled {Z} q (e ∷ es) h =
     let rest : Option (Vec Docs Z) = lookup (is_at (byte_order q)) es in
     ⊎_elim
     (λ found. let none : nodes_at q (filled es) ≡ [] = nodes_at-filled q es h.1 ∙ ap items_of (not_behind e.0 q es h.0 (sym (same_word q e.0 found))) in
-        first_filled_as q e.0 e.1.items (filled es) found none ∙ sym (items_picked (is_eq (byte_order q e.0)) e.1 rest found))
+    first_filled_as q e.0 e.1.items (filled es) found none ∙ sym (items_picked (is_eq (byte_order q e.0)) e.1 rest found))
     (λ missed. later_filled_as q e.0 e.1.items (filled es) missed ∙ nodes_at-filled q es h.1 ∙ sym (items_missed (is_eq (byte_order q e.0)) e.1 rest missed))
     (cases_Bool (is_eq (byte_order q e.0)))
 

@@ -1,12 +1,12 @@
 -- The words that begin with a prefix stand one after another.
-use Rattle.std.proofs.Common.{◌≡◌, ◌≢◌, ℕ, ◌<◌, suc, Bool, true, false, cond, not, ◌&&◌, List, [], ◌∷◌, Option, Some, None, length, nat_eq, refl, sym, ap, subst, ◌∙◌, ⊎_elim, arith}
-use Rattle.std.specs.List.{filter, AllByRecursion, All}
+use Rattle.std.proofs.Common.{◌≡◌, ◌≢◌, ℕ, ◌<◌, Bool, true, false, cond, ◌&&◌, List, [], ◌∷◌, nat_eq, refl, sym, ap, subst, ◌∙◌, ⊎_elim, arith}
+use Rattle.std.specs.List.{filter, All}
 use Rattle.std.specs.List.Sorted.{IsStrictlySortedBy}
 use Rattle.std.specs.Map.{keys_of, lookup}
 use Rattle.std.specs.BTreeMap.{is_at}
 use Rattle.std.specs.declared.cmp.Ordering.{Ordering}
 use Rattle.std.specs.declared.cmp.Ordering.TheVariants.{Less, Equal, Greater}
-use Rattle.std.specs.Ordering.{is_eq, is_lt, is_le, is_gt, nat_cmp, ordering_then}
+use Rattle.std.specs.Ordering.{is_le, is_gt, ordering_then}
 use Rattle.std.specs.Cmp.{nat_cmp_is}
 use Rattle.std.specs.declared.vec.Vec.{Vec}
 use Rattle.std.proofs.lemmas.Bool.{false≢true, true≢false, cases_Bool, cases_lt, cases_eq, eqb-true, eq-eqb, ne_eqb}
@@ -55,21 +55,21 @@ past (a ∷ p) (b ∷ x) [] from none less = refl
 past (a ∷ p) (b ∷ x) (d ∷ y) from none less =
     ⊎_elim
     (λ e. by_first a b p x (λ o. is_gt o ≡ false → begins (a ∷ p) (d ∷ y) ≡ false)
-        (λ lt f. absurd (by_first b d x y (λ o. o ≡ Less → ⊥)
-            (λ l2. absurd (omega (arith, lt, l2, e)))
-            (λ e2. absurd (omega (arith, lt, e2, e)))
-            (λ g2 z. true≢false (ap is_gt z))
-            less))
-        (λ eq f.
-            let here : begins p x ≡ false = sym (ap (λ t. t && begins p x) (eq-eqb a b eq)) ∙ none in
-            let later : byte_order x y ≡ Less = by_first b d x y (λ o. o ≡ Less → byte_order x y ≡ Less)
-                (λ l2. absurd (omega (arith, l2, eq, e)))
-                (λ e2 z. z)
-                (λ g2. absurd (omega (arith, g2, eq, e)))
-                less in
-            ap (λ t. t && begins p y) (eq-eqb a d e) ∙ past p x y f here later)
-        (λ gt f. absurd (true≢false f))
-        from)
+    (λ lt f. absurd (by_first b d x y (λ o. o ≡ Less → ⊥)
+    (λ l2. absurd (omega (arith, lt, l2, e)))
+    (λ e2. absurd (omega (arith, lt, e2, e)))
+    (λ g2 z. true≢false (ap is_gt z))
+    less))
+    (λ eq f.
+    let here : begins p x ≡ false = sym (ap (λ t. t && begins p x) (eq-eqb a b eq)) ∙ none in
+    let later : byte_order x y ≡ Less = by_first b d x y (λ o. o ≡ Less → byte_order x y ≡ Less)
+    (λ l2. absurd (omega (arith, l2, eq, e)))
+    (λ e2 z. z)
+    (λ g2. absurd (omega (arith, g2, eq, e)))
+    less in
+    ap (λ t. t && begins p y) (eq-eqb a d e) ∙ past p x y f here later)
+    (λ gt f. absurd (true≢false f))
+    from)
     (λ n. ap (λ t. t && begins p y) (ne_eqb a d n))
     (cases_eq a d)
 

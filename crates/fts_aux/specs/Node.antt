@@ -1,5 +1,5 @@
 -- Nodes of a word.
-use Rattle.std.specs.Prelude.{ℕ, ◌<◌, List, [], ◌∷◌, Bool, cond}
+use Rattle.std.specs.Prelude.{ℕ, ◌<◌, List, [], ◌∷◌, cond}
 use Rattle.std.specs.List.{AllPairs, flat_map}
 use Rattle.std.specs.Str.{bytes_eq}
 use Rattle.std.specs.Ordering.{nat_cmp}

@@ -106,9 +106,7 @@ impl Table {
         ensures found { IfSome result (λ next. IsNext (nodes_in self.now) word.now next.now) }
         ensures none { IfNone result (IsLast (nodes_in self.now) word.now) }
     {
-        let rest = self
-            .words
-            .range((Bound::Excluded(word), Bound::Unbounded));
+        let rest = self.words.range((Bound::Excluded(word), Bound::Unbounded));
         match first_filled(rest) {
             Some((next, _)) => Some(next),
             None => None,

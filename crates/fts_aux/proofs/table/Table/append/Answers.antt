@@ -1,4 +1,4 @@
-use Rattle.std.proofs.Common.{Some, None, ap, rules}
+use Rattle.std.proofs.Common.{Some, ap, rules}
 use Rattle.fts_aux.specs.Table.{items_of, spare_of}
 use Rattle.fts_aux.proofs.Changes.{others_stay}
 use Rattle.fts_aux.proofs.table.Table.append.Goals as goal

@@ -1,5 +1,4 @@
-use Rattle.std.proofs.Common.{sym, ◌∙◌, ap}
-use Rattle.fts_aux.specs.Node.{byte_order}
+use Rattle.std.proofs.Common.{ap}
 use Rattle.fts_aux.specs.Table.{filled}
 use Rattle.fts_aux.proofs.Ordered.{ascends_from, next_of, last_of_all}
 use Rattle.fts_aux.proofs.table.Table.next_after.Goals as goal

@@ -1,4 +1,4 @@
-use Rattle.std.proofs.Common.{◌∙◌, arith, get_or}
+use Rattle.std.proofs.Common.{arith, get_or}
 use Rattle.std.proofs.lemmas.Result.{IfOk-weaker}
 use Rattle.fts_aux.specs.Table.{nodes_in}
 use Rattle.fts_aux.proofs.Places.{own_after, here_room, other_nodes, room_grows, changed}
