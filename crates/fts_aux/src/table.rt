@@ -157,18 +157,18 @@ impl Table {
     }
 
     /// Replaces the nodes of a word that has some. Without nodes, the word is taken out. It takes no memory.
-    pub fn replace(&mut self, word: &Word, nodes: Vec<Node>)
+    pub fn replace(&mut self, word: &Word, reworked: Vec<Node>)
         requires { nodes_in self.old word.now ≢ [] }
-        ensures nodes { nodes_in self.new word.now ≡ nodes.items }
+        ensures nodes { nodes_in self.new word.now ≡ reworked.items }
         ensures others { (other : List ℕ) → other ≢ word.now → nodes_in self.new other ≡ nodes_in self.old other }
         ensures room { (other : List ℕ) → other ≢ word.now → room_in self.new other ≡ room_in self.old other }
     {
-        if nodes.is_empty() {
+        if reworked.is_empty() {
             self.words.remove(word);
             return;
         }
         if let Some(held) = self.words.get_mut(word) {
-            *held = nodes;
+            *held = reworked;
         }
     }
 }

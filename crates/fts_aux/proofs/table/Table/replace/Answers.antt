@@ -10,7 +10,7 @@ pub returns-then-is_empty-clause-room : goal.returns-then-is_empty-clause-room
 returns-then-is_empty-clause-room c = λ q apart. ap spare_of (others_stay c.args.self.now.words c.remove.new.self c.args.word.now None c.remove.ensures.updates q apart)
 
 pub returns-in-Some-clause-others : goal.returns-in-Some-clause-others
-returns-in-Some-clause-others c = λ q apart. ap items_of (others_stay c.args.self.now.words (c.get_mut.follows.lender c.args.nodes) c.args.word.now (Some c.args.nodes) ((c.get_mut.follows.holds c.args.nodes).3 (search rules)) q apart)
+returns-in-Some-clause-others c = λ q apart. ap items_of (others_stay c.args.self.now.words (c.get_mut.follows.lender c.args.reworked) c.args.word.now (Some c.args.reworked) ((c.get_mut.follows.holds c.args.reworked).3 (search rules)) q apart)
 
 pub returns-in-Some-clause-room : goal.returns-in-Some-clause-room
-returns-in-Some-clause-room c = λ q apart. ap spare_of (others_stay c.args.self.now.words (c.get_mut.follows.lender c.args.nodes) c.args.word.now (Some c.args.nodes) ((c.get_mut.follows.holds c.args.nodes).3 (search rules)) q apart)
+returns-in-Some-clause-room c = λ q apart. ap spare_of (others_stay c.args.self.now.words (c.get_mut.follows.lender c.args.reworked) c.args.word.now (Some c.args.reworked) ((c.get_mut.follows.holds c.args.reworked).3 (search rules)) q apart)
