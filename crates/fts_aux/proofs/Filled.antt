@@ -1,0 +1,22 @@
+-- Words with nodes among entries.
+use Rattle.std.proofs.Common.{◌≡◌, ℕ, true, cond, List, [], ◌∷◌, ◌++◌, refl, sym, ap, ◌∙◌, append_assoc}
+use Rattle.std.specs.declared.vec.Vec.{Vec}
+use Rattle.fts_aux.specs.Node.{Docs}
+use Rattle.fts_aux.specs.Table.{filled, filled_as, begins, front}
+
+filled_as_more : (w : List ℕ) (ns : List Docs) (rest : List (List ℕ × List Docs)) → filled_as w ns [] ++ rest ≡ filled_as w ns rest
+filled_as_more w [] rest = refl
+filled_as_more w (n ∷ ns) rest = refl
+
+-- a step of the loop that takes words with a prefix
+pub taken : {Z : Type 0} (p : List ℕ) (before after : List (List ℕ × Vec Docs Z)) (w : List ℕ) (v : Vec Docs Z) (done all : List (List ℕ × List Docs))
+    → before ≡ (w, v) ∷ after → begins p w ≡ true
+    → done ++ filled (front p before) ≡ all
+    → (done ++ filled_as w v.items []) ++ filled (front p after) ≡ all
+taken p before after w v done all parts passes so =
+    let rest = filled (front p after) in
+    append_assoc done (filled_as w v.items []) rest
+    ∙ ap (λ r. done ++ r) (filled_as_more w v.items rest)
+    ∙ ap (λ b. done ++ filled (cond b ((w, v) ∷ front p after) [])) (sym passes)
+    ∙ ap (λ es. done ++ filled (front p es)) (sym parts)
+    ∙ so

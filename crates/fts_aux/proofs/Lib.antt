@@ -1,0 +1,8 @@
+mod Few
+mod Filled
+mod Ordered
+mod Prefixed
+mod Changes
+mod Places
+mod Nexts
+mod Batches

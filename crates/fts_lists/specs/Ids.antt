@@ -1,0 +1,27 @@
+-- Sets of ids, as ascending lists.
+use Rattle.std.specs.Prelude.{ℕ, Bool, not, List, [], ◌∷◌, nat_eq}
+use Rattle.std.specs.Ordering.{nat_cmp}
+use Rattle.std.specs.BTreeSet.{insert_key}
+use Rattle.std.specs.List.{list_any, filter}
+
+-- the ids of a set in ascending order, each once, and how many more it can take without memory
+pub record Held : Type 0 where
+  pub ids : List ℕ
+  pub room : ℕ
+
+-- whether an id is among these
+abbrev pub has : List ℕ → ℕ → Bool
+has ids id = list_any (nat_eq id) ids
+
+-- ascending ids with one more, in its place
+abbrev pub with_id : List ℕ → ℕ → List ℕ
+with_id ids id = insert_key nat_cmp ids id
+
+-- the ids that are not among those taken
+abbrev pub without : List ℕ → List ℕ → List ℕ
+without taken ids = filter (λ id. not (has taken id)) ids
+
+-- numbers in ascending order, each once
+abbrev pub ascending : List ℕ → List ℕ
+ascending [] = []
+ascending (x ∷ xs) = with_id (ascending xs) x

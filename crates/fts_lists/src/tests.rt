@@ -1,0 +1,73 @@
+use super::*;
+use fts_types::Word;
+use std::collections::BTreeSet;
+use std::test::Fail;
+
+const LISTS: [DeleteList; 3] = [
+    DeleteList::Deleted,
+    DeleteList::BeingDeleted,
+    DeleteList::DeletedCache,
+];
+
+// Adds 300 ids to each list, out of order and some twice, and takes some out again, beside a plain set.
+#[test]
+fn lists_are_sorted_sets(rt: HostRuntime) -> Result<(), Fail> {
+    let alloc = rt.alloc();
+    let mut lists = Lists::new(alloc);
+    for (step, list) in [7, 11, 13].into_iter().zip(LISTS) {
+        let mut plain = BTreeSet::new(alloc);
+        assert!(rt; lists.is_empty(list));
+        lists.reserve(list, 300)?;
+        for n in 0..300 {
+            let id = n * step % 257 + 1;
+            lists.add(list, id);
+            plain.insert(id)?;
+        }
+        let taken = [257, 3, 500, 4, 3];
+        lists.purge(list, &taken);
+        for id in taken {
+            plain.remove(&id);
+        }
+        for id in 0..300 {
+            assert_eq!(rt; lists.contains(list, id), plain.contains(&id));
+        }
+        let kept: Vec<u64> = plain.iter().copied().collect(alloc)?;
+        assert_eq!(rt; lists.ids(alloc, list)?, kept);
+        assert!(rt; !lists.is_empty(list));
+    }
+    Ok(())
+}
+
+#[test]
+fn numbers_and_the_pass_are_kept(rt: HostRuntime) -> Result<(), Fail> {
+    let alloc = rt.alloc();
+    let mut lists = Lists::new(alloc);
+    assert!(rt; lists.flushed() == 0 && lists.synced() == 0 && !lists.is_open());
+    lists.set_flushed(3, 42);
+    assert_eq!(rt; (lists.flushed(), lists.synced()), (3, 42));
+    lists.open_pass();
+    assert!(rt; lists.is_open() && lists.checkpoint().is_none());
+    lists.set_checkpoint(Word::copied(alloc, b"apple")?);
+    let word = Word::copied(alloc, b"apple")?;
+    assert!(rt; lists.checkpoint().is_some_and(|held| *held == word));
+    lists.close_pass();
+    assert!(rt; !lists.is_open() && lists.checkpoint().is_none());
+    Ok(())
+}
+
+// What a list and the others held stays where memory is wanting.
+#[test]
+fn refused_room_changes_nothing(rt: HostRuntime) -> Result<(), Fail> {
+    let alloc = rt.alloc();
+    let mut lists = Lists::new(alloc);
+    lists.reserve(DeleteList::Deleted, 2)?;
+    lists.add(DeleteList::Deleted, 9);
+    lists.add(DeleteList::Deleted, 5);
+    assert!(rt; lists.reserve(DeleteList::Deleted, usize::MAX).is_err());
+    assert_eq!(rt;
+        lists.ids(alloc, DeleteList::Deleted)?.as_slice(),
+        [5, 9].as_slice()
+    );
+    assert!(rt; lists.is_empty(DeleteList::DeletedCache));
+    Ok(())
+}
