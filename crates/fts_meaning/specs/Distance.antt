@@ -1,4 +1,5 @@
-use Rattle.std.specs.Prelude.{ℕ, ◌+◌, ◌*◌, ◌-◌, Bool, not, ◌==◌, ◌&&◌, ◌||◌, nat_le, List, length, drop, fold, take_while, slice_index, if◌then◌else◌, Option, None, Some}
+use Rattle.std.specs.Prelude.{ℕ, ◌+◌, ◌*◌, ◌-◌, Bool, not, ◌==◌, ◌&&◌, ◌||◌, nat_le, List, take, drop, fold, slice_index, if◌then◌else◌, Option, None, Some}
+use Rattle.std.specs.List.{prefix_len}
 use Rattle.std.specs.Char.{is_ascii_digit}
 use Rattle.fts_words.specs.Byte.{word_at}
 
@@ -17,21 +18,24 @@ pub record Tail : Type 0 where
 
 -- how many blanks stand at the front
 abbrev pub blanks : List ℕ → ℕ
-blanks behind = length (take_while is_blank behind)
+blanks behind = prefix_len is_blank behind
 
--- the digits behind the byte that stands behind the blanks
+-- how many digits stand behind the byte behind the blanks, and these digits
+abbrev pub digit_count : List ℕ → ℕ
+digit_count behind = prefix_len is_ascii_digit (drop (blanks behind + 1) behind)
+
 abbrev pub digits : List ℕ → List ℕ
-digits behind = take_while is_ascii_digit (drop (blanks behind + 1) behind)
+digits behind = take (digit_count behind) (drop (blanks behind + 1) behind)
 
 -- how many bytes there are from the front to the last of these digits
 abbrev pub tail_len : List ℕ → ℕ
-tail_len behind = blanks behind + 1 + length (digits behind)
+tail_len behind = blanks behind + 1 + digit_count behind
 
 -- whether what stands behind a closing quote begins with the tail of a distance: blanks, an `@` (64), digits of a
 -- value of at most 65,535, and then no word byte
 abbrev pub has_tail : List ℕ → Bool
 has_tail behind =
-    (slice_index behind (blanks behind) == 64) && (nat_le 1 (length (digits behind))
+    (slice_index behind (blanks behind) == 64) && (nat_le 1 (digit_count behind)
     && (nat_le (decimal_value (digits behind)) 65535 && not (word_at behind (tail_len behind))))
 
 -- that tail

@@ -3,7 +3,11 @@
 //! [`parse`] reads the text; the rules stand in `docs/LANGUAGE.md`, "The Boolean language".
 #![tactic(auto)]
 
+mod distance;
+mod faults;
+mod plain;
 mod query;
 mod quotes;
+mod words;
 
 pub use query::{Operand, Query, Term};

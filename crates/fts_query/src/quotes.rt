@@ -1,10 +1,12 @@
-ghost use Rattle.std.specs.Prelude.{◌≡◌, ◌+◌, ◌<◌, ◌≤◌, [], ◌∷◌, length, IfNone, IfSome};
+ghost use Rattle.std.specs.Prelude.{◌≡◌, ◌+◌, ◌<◌, ◌≤◌, [], ◌∷◌, length, slice_get, IfNone, IfSome};
 ghost use Rattle.fts_meaning.specs.Quote.{quotes_from, pairs};
 
 use fts_words::Span;
 
 /// The first double quote of a text from a place on.
+#[tactic(auto, using(crate::proofs::QuoteLemmas::quote_here, crate::proofs::QuoteLemmas::quote_not, crate::proofs::QuoteLemmas::quote_end))]
 pub(crate) fn next_quote(text: &[u8], from: usize) -> Option<usize>
+    ensures first { result ≡ slice_get (quotes_from text.now from) 0 }
     ensures none { IfNone result (quotes_from text.now from ≡ []) }
     ensures some { IfSome result (λ place. quotes_from text.now from ≡ place ∷ quotes_from text.now (place + 1)) }
     ensures within { IfSome result (λ place. (from ≤ place) × (place < length text.now)) }
