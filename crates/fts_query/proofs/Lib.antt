@@ -4,3 +4,6 @@ pub mod WordEnds
 pub mod Gathering
 pub mod TailLemmas
 pub mod PlainLemmas
+pub mod FaultLemmas
+pub mod Building
+pub mod Taking

@@ -3,6 +3,7 @@
 //! [`parse`] reads the text; the rules stand in `docs/LANGUAGE.md`, "The Boolean language".
 #![tactic(auto)]
 
+mod build;
 mod distance;
 mod faults;
 mod plain;
