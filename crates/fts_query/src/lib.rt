@@ -6,9 +6,11 @@
 mod build;
 mod distance;
 mod faults;
+mod parser;
 mod plain;
 mod query;
 mod quotes;
 mod words;
 
+pub use parser::{ParseError, parse};
 pub use query::{Operand, Query, Term};
