@@ -7,3 +7,4 @@ pub mod PlainLemmas
 pub mod FaultLemmas
 pub mod Building
 pub mod Taking
+pub mod Exact

@@ -10,6 +10,8 @@ mod parser;
 mod plain;
 mod query;
 mod quotes;
+#[cfg(test)]
+mod tests;
 mod words;
 
 pub use parser::{ParseError, parse};

@@ -1,7 +1,7 @@
-ghost use Rattle.std.specs.Prelude.{◌≡◌, ◌<◌, ◌≤◌, length, IfOk, IfErr, Err};
+ghost use Rattle.std.specs.Prelude.{◌≡◌, ℕ, ◌+◌, ◌<◌, ◌≤◌, ◌⊎◌, length, IfOk, IfErr, IsOk};
 ghost use Rattle.fts_meaning.specs.Plain.{plain};
 ghost use Rattle.fts_meaning.specs.Token.{IsTreeOf};
-ghost use Rattle.fts_meaning.specs.Fault.{IsShallow};
+ghost use Rattle.fts_meaning.specs.Fault.{FaultsAt, IsTooDeepAt, IsFaultless, IsShallow};
 ghost use Rattle.fts_query.specs.View.{tree_of};
 ghost use Rattle.fts_query.specs.Refused.{RefusedAs};
 ghost use Rattle.fts_query.specs.declared.parser.ParseError.TheVariants as errors;
@@ -62,12 +62,28 @@ pub fn parse(alloc: Global, text: &[u8]) -> Result<Query, ParseError>
     ensures fits { IfOk result (λ _. (length text.now ≤ 4096) × IsShallow text.now) }
     ensures refused { IfErr result (RefusedAs text.now) }
     ensures too_long { 4096 < length text.now → result ≡ Err (errors.TooLong (length text.now)) }
+    ensures syntax { length text.now ≤ 4096 → (place : ℕ) → FaultsAt text.now place →
+        (result ≡ Err (errors.Syntax (place + 1))) ⊎ (result ≡ Err errors.NoMemory) }
+    ensures too_deep { length text.now ≤ 4096 → (place : ℕ) → IsTooDeepAt text.now place →
+        (result ≡ Err (errors.TooDeep (place + 1))) ⊎ (result ≡ Err errors.NoMemory) }
+    ensures taken { length text.now ≤ 4096 → IsFaultless text.now → IsShallow text.now →
+        IsOk result ⊎ (result ≡ Err errors.NoMemory) }
 {
     if text.len() > MOST_BYTES {
         return Err(ParseError::TooLong { length: text.len() });
     }
-    let plain = plain_text(alloc, text)?;
-    parse_plain(alloc, text, &plain)
+    parse_fitting(alloc, text)
+}
+
+/// The query of a text that is not too long.
+fn parse_fitting(alloc: Global, query: &[u8]) -> Result<Query, ParseError>
+    requires { length query.now ≤ 4096 }
+    ensures tree { IfOk result (λ q. IsTreeOf query.now (tree_of q)) }
+    ensures shallow { IfOk result (λ _. IsShallow query.now) }
+    ensures refused { IfErr result (RefusedAs query.now) }
+{
+    let text = plain_text(alloc, query)?;
+    parse_plain(alloc, query, &text)
 }
 
 /// The query of a text of which this is left once its quotes are paired.
