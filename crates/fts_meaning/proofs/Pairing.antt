@@ -1,14 +1,14 @@
 -- The brackets of a text are paired exactly where none lacks its partner.
-use Rattle.std.proofs.Common.{◌≡◌, ℕ, zero, suc, ◌+◌, ◌-◌, ◌<◌, ◌≤◌, ◌⊎◌, Bool, true, false, List, [], ◌∷◌, ◌++◌, length, take, get_or, refl, sym, ap, ◌∙◌, subst, inl, inr, ⊎_elim, arith, append-nil}
-use Rattle.std.proofs.lemmas.Bool.{cases_Bool, cases_lt}
+use Rattle.std.proofs.Common.{◌≡◌, ℕ, zero, suc, ◌+◌, ◌-◌, ◌<◌, ◌≤◌, false, List, [], ◌++◌, length, refl, sym, ap, ◌∙◌, subst, inl, inr, ⊎_elim, arith, append-nil}
+use Rattle.std.proofs.lemmas.Bool.{cases_lt}
 use Rattle.fts_words.proofs.RunLemmas.{clash}
 use Rattle.fts_meaning.specs.Plain.{plain}
-use Rattle.fts_meaning.specs.Tree.{Terms, Token, opening, closing, stray, written}
+use Rattle.fts_meaning.specs.Tree.{Terms, Token, written}
 use Rattle.fts_meaning.specs.Token.{stray_at, tokens_at, tokens_from, IsTreeOf}
 use Rattle.fts_meaning.specs.Fault.{opened, closed, IsLoneOpen, IsLoneClose, IsFaulty, IsFaultless}
 use Rattle.fts_meaning.specs.Nesting.{Nests}
 use Rattle.fts_meaning.proofs.Reading.{tree_of_nested, written_one, written_nests}
-use Rattle.fts_meaning.proofs.Places.{tokens_step, tokens_end, CountsAs, counts_open, counts_close, Place, strays, opens, closes, operands, nothing, place_of}
+use Rattle.fts_meaning.proofs.Places.{tokens_step, tokens_end, counts_open, counts_close, Place, strays, opens, closes, operands, nothing, place_of}
 
 module _ (query text : List ℕ) where
   -- the brackets are paired from this place on, behind those that are open there

@@ -1,18 +1,16 @@
 -- What begins at each place of a text, and how the brackets count there.
-use Rattle.std.proofs.Common.{◌≡◌, ℕ, zero, suc, ◌+◌, ◌-◌, ◌<◌, ◌≤◌, ◌⊎◌, Bool, true, false, eqb, List, [], ◌∷◌, ◌++◌, length, take, get_or, refl, sym, ap, ◌∙◌, subst, inl, inr, ⊎_elim, arith, eqb-true, eq-eqb}
-use Rattle.std.specs.Prelude.{flat_map, count_by}
+use Rattle.std.proofs.Common.{◌≡◌, ℕ, suc, ◌+◌, ◌-◌, ◌<◌, ◌≤◌, true, false, eqb, List, [], ◌∷◌, ◌++◌, length, get_or, refl, ap, ◌∙◌, ⊎_elim, arith, eqb-true, eq-eqb}
+use Rattle.std.specs.Prelude.{flat_map}
 use Rattle.std.specs.List.{range_with_len}
-use Rattle.std.proofs.lemmas.Bool.{cases_Bool, cases_lt}
+use Rattle.std.proofs.lemmas.Bool.{cases_Bool}
 use Rattle.std.proofs.lemmas.List.Sums.{count_by_more_yes, count_by_more_no}
 use Rattle.fts_words.specs.Run.{starts, run_at}
 use Rattle.fts_words.specs.RawWords.{in_word}
-use Rattle.fts_words.proofs.RunLemmas.{clash}
 use Rattle.fts_meaning.specs.declared.sign.Sign.{Sign}
 use Rattle.fts_meaning.specs.Quote.{closing_quote}
-use Rattle.fts_meaning.specs.Tree.{Operand, Token, single, opening, closing, stray}
+use Rattle.fts_meaning.specs.Tree.{Operand, single, opening, closing, stray}
 use Rattle.fts_meaning.specs.Token.{sign_of, stray_at, quoted, word_operand, tokens_at, tokens_from}
 use Rattle.fts_meaning.specs.Fault.{opened, closed}
-use Rattle.fts_meaning.specs.Nesting.{Nests}
 
 -- the tokens from a place on are those that begin there, and then those behind it
 pub tokens_step : (query text : List ℕ) (i : ℕ) → i < length text → tokens_from query text i ≡ tokens_at query text i ++ tokens_from query text (i + 1)

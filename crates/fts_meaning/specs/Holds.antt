@@ -1,7 +1,6 @@
-use Rattle.std.specs.Prelude.{ℕ, ◌+◌, Bool, true, false, not, ◌&&◌, ◌||◌, List, [], ◌∷◌, length, map, take, drop, filter, if◌then◌else◌}
+use Rattle.std.specs.Prelude.{ℕ, ◌+◌, Bool, true, false, not, ◌&&◌, ◌||◌, List, [], ◌∷◌, length, take, drop, filter}
 use Rattle.std.specs.List.{list_any, list_all, range_with_len}
 use Rattle.std.specs.Str.{bytes_eq}
-use Rattle.fts_words.specs.declared.placed.PlacedWord.{PlacedWord}
 use Rattle.fts_words.specs.Indexed.{Rules, is_indexable, indexed_words, word_of}
 use Rattle.fts_meaning.specs.declared.sign.Sign.{Sign}
 use Rattle.fts_meaning.specs.declared.sign.Sign.TheVariants.{Optional, Required, Excluded}
@@ -40,7 +39,7 @@ abbrev pub distance_holds : Rules → List (List ℕ) → List (List ℕ) → �
 distance_holds rules columns words n =
     list_any (is_indexable rules) words
     && list_any (λ text. from_some_place (words_in text)
-        (λ rest. list_all (is_among (take (n + 1) rest)) (filter (is_indexable rules) words))) columns
+    (λ rest. list_all (is_among (take (n + 1) rest)) (filter (is_indexable rules) words))) columns
 
 -- the operand holds in the row
 abbrev pub operand_holds : Rules → List (List ℕ) → Operand → Bool

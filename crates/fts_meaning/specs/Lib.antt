@@ -6,3 +6,4 @@ pub mod Token
 pub mod Fault
 pub mod Holds
 pub mod Nesting
+pub mod Scan

@@ -136,10 +136,15 @@ module _ (text : List ℕ) where
         (λ (more : i < j). none j (omega arith) high lone)
         (λ (least : j ≤ i). let same : j ≡ i = omega arith in here (subst (IsLoneOpen text) same lone))
         (cases_lt i j)
-    found_on (Some place) some here = (omega (arith, some.0), some.1, some.2, λ j low less lone. ⊎_elim
-        (λ (more : i < j). some.3 j (omega arith) less lone)
-        (λ (least : j ≤ i). let same : j ≡ i = omega arith in here (subst (IsLoneOpen text) same lone))
-        (cases_lt i j))
+    found_on (Some place) some here = (
+      omega (arith, some.0),
+      some.1,
+      some.2,
+      λ j low less lone. ⊎_elim
+          (λ (more : i < j). some.3 j (omega arith) less lone)
+          (λ (least : j ≤ i). let same : j ≡ i = omega arith in here (subst (IsLoneOpen text) same lone))
+          (cases_lt i j),
+    )
 
     pub seen_close : get_or text i 0 ≡ 41 → IsSeenFrom text i (pending + 1) found
     unfolding Most

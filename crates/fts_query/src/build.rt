@@ -114,7 +114,13 @@ impl Builder {
     }
 
     /// Goes on by what begins at a place. `text` is what is left of the query.
-    fn take(&mut self, alloc: Global, query: &[u8], text: &[u8], place: usize) -> Result<(), AllocError>
+    fn take(
+        &mut self,
+        alloc: Global,
+        query: &[u8],
+        text: &[u8],
+        place: usize,
+    ) -> Result<(), AllocError>
         requires within { place < length text.now }
         requires nests { Nests (height_of self.old) (tokens_from query.now text.now place) }
         ensures written { OnOk result (written_so_far self.new ≡ written_so_far self.old ++ tokens_at query.now text.now place) }
@@ -138,7 +144,13 @@ impl Builder {
     }
 
     /// Adds the phrase or distance that opens at a place.
-    fn take_phrase(&mut self, alloc: Global, sign: Sign, query: &[u8], from: usize) -> Result<(), AllocError>
+    fn take_phrase(
+        &mut self,
+        alloc: Global,
+        sign: Sign,
+        query: &[u8],
+        from: usize,
+    ) -> Result<(), AllocError>
         requires within { from < 2 ^ 63 }
         requires closed { IsSome (closing_quote query.now from) }
         ensures written { OnOk result (written_so_far self.new ≡ written_so_far self.old ++ single sign (quoted query.now from (closing_quote query.now from)) ∷ []) }

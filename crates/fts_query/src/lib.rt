@@ -16,3 +16,4 @@ mod words;
 
 pub use parser::{ParseError, parse};
 pub use query::{Operand, Query, Term};
+pub use words::{lowered, words_in};

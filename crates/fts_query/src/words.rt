@@ -70,14 +70,14 @@ pub(crate) fn word_end(text: &[u8], from: usize) -> usize
 }
 
 /// A word with its letters lowered.
-pub(crate) fn lowered(alloc: Global, word: &[u8]) -> Result<Vec<u8>, AllocError>
+pub fn lowered(alloc: Global, word: &[u8]) -> Result<Vec<u8>, AllocError>
     ensures { IfOk result (λ v. v.items ≡ lowered word.now) }
 {
     word.iter().map(u8::to_ascii_lowercase).collect(alloc)
 }
 
 /// The raw words of a text with their letters lowered.
-pub(crate) fn words_in(alloc: Global, text: &[u8]) -> Result<Texts, AllocError>
+pub fn words_in(alloc: Global, text: &[u8]) -> Result<Texts, AllocError>
     ensures { IfOk result (λ words. words ≡ words_in text.now) }
 {
     let mut words = Texts::new(alloc);
