@@ -1,9 +1,9 @@
 -- A tree as it is built, token by token.
-use Rattle.std.proofs.Common.{◌≡◌, ℕ, List, [], ◌∷◌, ◌++◌, Vec, Global, refl, sym, ap, ap₂, ◌∙◌, append_assoc, append-nil}
+use Rattle.std.proofs.Common.{◌≡◌, List, [], ◌∷◌, ◌++◌, Vec, Global, refl, sym, ap, ap₂, ◌∙◌, append_assoc, append-nil}
 use Rattle.fts_query.specs.declared.build.Bracket.{Bracket}
 use Rattle.fts_query.specs.declared.query.Operand.{Operand}
 use Rattle.fts_query.specs.declared.query.Term.{Term, Leaf, Group}
-use Rattle.fts_query.specs.View.{operand_view, term_view, terms_view}
+use Rattle.fts_query.specs.View.{operand_view, terms_view}
 use Rattle.fts_query.specs.Built.{written_open}
 use Rattle.fts_query.proofs.Views.{term_view-Group, written_push}
 use Rattle.fts_meaning.specs.declared.sign.Sign.{Sign}

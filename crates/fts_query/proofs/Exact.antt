@@ -1,5 +1,5 @@
 -- The answer to a text is settled by its faults and its depth, but for want of memory.
-use Rattle.std.proofs.Common.{◌≡◌, ℕ, ◌+◌, ◌<◌, ◌≤◌, ◌⊎◌, List, length, Result, Ok, Err, refl, sym, ap, ◌∙◌, subst, inl, inr, ⊎_elim, arith}
+use Rattle.std.proofs.Common.{◌≡◌, ℕ, ◌+◌, ◌≤◌, ◌⊎◌, List, length, Result, Ok, Err, refl, ap, ◌∙◌, inl, inr, ⊎_elim, arith}
 use Rattle.std.specs.Prelude.{IfOk, IfErr, IsOk}
 use Rattle.std.proofs.lemmas.Bool.{cases_order}
 use Rattle.fts_meaning.specs.Plain.{plain}

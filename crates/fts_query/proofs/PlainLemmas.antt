@@ -1,8 +1,7 @@
 -- A query in which phrases become spaces, one after another.
-use Rattle.std.proofs.Common.{◌≡◌, ℕ, suc, ◌+◌, ◌-◌, ◌<◌, ◌≤◌, List, [], ◌∷◌, length, set, refl, ap, ◌∙◌, sym, arith}
+use Rattle.std.proofs.Common.{◌≡◌, ℕ, suc, ◌+◌, ◌-◌, ◌<◌, ◌≤◌, List, [], ◌∷◌, set, ap, arith}
 use Rattle.fts_words.specs.declared.span.Span.{Span}
-use Rattle.fts_meaning.specs.Quote.{quotes_from, pairs, phrases}
-use Rattle.fts_meaning.specs.Plain.{with_spaces, phrase_end, without, plain}
+use Rattle.fts_meaning.specs.Plain.{with_spaces, phrase_end, without}
 
 pub spaces_more : (text : List ℕ) (i to : ℕ) → i < to → with_spaces text i (to - i) ≡ with_spaces (set text i 32) (i + 1) (to - (i + 1))
 unfolding with_spaces

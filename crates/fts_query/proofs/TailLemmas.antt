@@ -2,11 +2,11 @@
 use Rattle.std.proofs.Common.{◌≡◌, ℕ, ◌+◌, ◌-◌, ◌<◌, ◌≤◌, Bool, true, false, eqb, leb, not, ◌&&◌, List, length, take, drop, get_or, Option, None, Some, refl, sym, ap, ap₂, ◌∙◌, subst, arith, eq-eqb, ne_eqb, ⊎_elim}
 use Rattle.std.specs.List.{prefix_len}
 use Rattle.std.specs.Char.{is_ascii_digit}
-use Rattle.std.proofs.lemmas.Bool.{cases_Bool, and_from, and_parts}
+use Rattle.std.proofs.lemmas.Bool.{cases_Bool, and_parts}
 use Rattle.std.proofs.lemmas.Bool.Decides.{nat_tests}
 use Rattle.fts_words.specs.Byte.{word_at}
 use Rattle.fts_words.proofs.RunLemmas.{clash}
-use Rattle.fts_meaning.specs.Distance.{Tail, decimal_value, blanks, digit_count, digits, tail_len, has_tail, distance_tail}
+use Rattle.fts_meaning.specs.Distance.{decimal_value, blanks, digit_count, digits, tail_len, has_tail, distance_tail}
 
 module _ (behind : List ℕ) where
   pub no_tail : (has_tail behind ≡ true → ⊥) → distance_tail behind ≡ None

@@ -1,15 +1,15 @@
 -- What begins at a place of a text whose brackets are paired from there on.
-use Rattle.std.proofs.Common.{◌≡◌, ℕ, ◌+◌, ◌-◌, ◌<◌, ◌≤◌, ◌⊎◌, Bool, true, false, eqb, ◌||◌, ◌&&◌, List, [], ◌∷◌, ◌++◌, length, get_or, Option, None, Some, refl, sym, ap, ◌∙◌, subst, ⊎_elim, arith, eqb-true, eq-eqb, ne_eqb, append_assoc, append-nil}
+use Rattle.std.proofs.Common.{◌≡◌, ℕ, ◌+◌, ◌-◌, ◌<◌, true, false, eqb, List, [], ◌∷◌, ◌++◌, length, get_or, Option, None, Some, refl, sym, ap, ◌∙◌, subst, ⊎_elim, eq-eqb, ne_eqb, append_assoc}
 use Rattle.std.specs.Prelude.{Result, Ok, Err, OnOk, IsSome}
 use Rattle.std.proofs.lemmas.Bool.{cases_Bool}
 use Rattle.fts_words.specs.Run.{starts, run_at}
 use Rattle.fts_words.specs.RawWords.{in_word}
 use Rattle.fts_words.proofs.RunLemmas.{clash}
 use Rattle.fts_meaning.specs.Quote.{closing_quote}
-use Rattle.fts_meaning.specs.Tree.{Operand, Token, single, opening, closing, stray}
+use Rattle.fts_meaning.specs.Tree.{Token, single, opening, closing, stray}
 use Rattle.fts_meaning.specs.Token.{sign_of, stray_at, quoted, word_operand, tokens_at, tokens_from}
 use Rattle.fts_meaning.specs.Nesting.{Nests}
-use Rattle.fts_meaning.proofs.Places.{tokens_step, tokens_end}
+use Rattle.fts_meaning.proofs.Places.{tokens_step}
 
 -- what begins here, and that the brackets are paired behind it
 pub record Takes (query text : List ℕ) (i height : ℕ) (token : List Token) : Type 0 where

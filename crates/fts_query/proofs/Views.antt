@@ -1,11 +1,10 @@
 -- The view of a list of terms, as terms are added.
-use Rattle.std.proofs.Common.{◌≡◌, ℕ, List, [], ◌∷◌, ◌++◌, Vec, Global, refl, sym, ap, ◌∙◌, append_assoc, append-nil}
+use Rattle.std.proofs.Common.{◌≡◌, List, [], ◌∷◌, ◌++◌, Vec, Global, refl, sym, ap, ◌∙◌, append_assoc, append-nil}
 use mathlib.Core.Former.{Count}
-use Rattle.fts_query.specs.declared.query.Term.{Term, Leaf, Group, Group', Row_of-Term, end_of-Term, more_of-Term, items-the_row-Term, items_hidden-the_row-Term-0}
-use Rattle.fts_query.specs.declared.query.Operand.{Operand}
-use Rattle.fts_query.specs.View.{operand_view, term_view, row_view, terms_view}
+use Rattle.fts_query.specs.declared.query.Term.{Term, Group, Group', Row_of-Term, end_of-Term, more_of-Term, items-the_row-Term, items_hidden-the_row-Term-0}
+use Rattle.fts_query.specs.View.{term_view, row_view, terms_view}
 use Rattle.fts_meaning.specs.declared.sign.Sign.{Sign}
-use Rattle.fts_meaning.specs.Tree.{Terms, Token, leaf, group, none, more, single, opening, closing, written, written_term}
+use Rattle.fts_meaning.specs.Tree.{Token, group, more, written, written_term}
 
 -- a row of terms is seen as the list of its items
 row_is_list : (n : _) (k : Row_of-Term n) → row_view k ≡ terms_view (items-the_row-Term n k)

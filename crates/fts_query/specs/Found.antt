@@ -1,6 +1,6 @@
 use Rattle.std.specs.Prelude.{◌≡◌, ℕ, ◌+◌, ◌-◌, ◌<◌, ◌≤◌, ◌⊎◌, ◌==◌, min, List, length, Option, None, Some, IsTrue, if◌then◌else◌}
 use Rattle.fts_meaning.specs.Token.{stray_at}
-use Rattle.fts_meaning.specs.Fault.{opened, closed, IsLoneOpen, IsLoneClose, IsFaulty, IsFirst}
+use Rattle.fts_meaning.specs.Fault.{opened, closed, IsLoneOpen, IsLoneClose}
 
 -- a byte whose fault is known from what stands before it: it is a stray one, or a `)` without its `(`
 abbrev pub IsEarly : List ℕ → List ℕ → ℕ → Type 0

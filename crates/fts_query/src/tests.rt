@@ -82,110 +82,155 @@ fn shown(alloc: Global, text: &[u8]) -> Result<Vec<u8>, AllocError> {
     }
 }
 
+/// Words, signs, prefixes.
+const WORDS: [(&str, &str); 11] = [
+    ("", ""),
+    ("apple", "apple"),
+    ("Apple PIE", "apple pie"),
+    ("+apple -pie", "+apple -pie"),
+    (">apple <pie ~x", "apple pie x"),
+    ("-apple", "-apple"),
+    ("pear -apple", "pear -apple"),
+    ("+apple +the", "+apple +the"),
+    ("+apple +the*", "+apple +the*"),
+    ("a-b", "a -b"),
+    ("a~b", "a b"),
+];
+
+/// Words, signs, prefixes.
+const MORE_WORDS: [(&str, &str); 10] = [
+    ("a>b<c", "a b c"),
+    ("a,b;c", "a b c"),
+    ("x_1", "x_1"),
+    ("aéb", "a b"),
+    ("don't", "don't"),
+    ("rock'n'roll", "rock'n'roll"),
+    ("'tis", "tis"),
+    ("a''b", "a b"),
+    ("pie*pie", "pie* pie"),
+    ("pie*+pie", "pie* +pie"),
+];
+
+/// Brackets.
+const BRACKETS: [(&str, &str); 7] = [
+    ("()", "()"),
+    ("-(apple)", "-(apple)"),
+    ("+(pie theory) -apple", "+(pie theory) -apple"),
+    ("a(b)c", "a (b) c"),
+    ("+(+(a) -b)", "+(+(a) -b)"),
+    ("~(a)", "(a)"),
+    ("( a ( ) b )", "(a () b)"),
+];
+
+/// Phrases and distances.
+const PHRASES: [(&str, &str); 11] = [
+    ("\"\"", "\"\""),
+    ("\"test phrase\"", "\"test phrase\""),
+    ("\"the of\"", "\"the of\""),
+    ("\"a+b (c) @d*\"", "\"a b c d\""),
+    ("foo\"bar baz\"", "foo \"bar baz\""),
+    ("+\"bar\"", "+\"bar\""),
+    ("a\"\"b", "a \"\" b"),
+    ("\"a\"b\"c\"", "\"a\" b \"c\""),
+    ("\"a)\" (b)", "\"a\" (b)"),
+    ("\"a'b' c\"", "\"a'b c\""),
+    ("\"apple pie\" @2", "\"apple pie\"@2"),
+];
+
+/// Phrases and distances.
+const MORE_PHRASES: [(&str, &str); 11] = [
+    ("\"apple apple\" @0", "\"apple apple\"@0"),
+    ("\"a\"\t@2\tb", "\"a\"@2 b"),
+    ("\"a\" @65535", "\"a\"@65535"),
+    ("\"a\"@007", "\"a\"@7"),
+    ("\"a\" @2'b", "\"a\"@2 b"),
+    ("\"a\"@2\"b\"", "\"a\"@2 \"b\""),
+    ("\"a\" \t @9 \"b\"", "\"a\"@9 \"b\""),
+    ("\"The of\" @1", "\"the of\"@1"),
+    ("+\"a b\"@1", "+\"a b\"@1"),
+    ("+(\"a\" @1 -c*)", "+(\"a\"@1 -c*)"),
+    ("\"a\"@3+b", "\"a\"@3 +b"),
+];
+
+/// A sign without what it is a sign of.
+const SIGNS: [(&str, &str); 9] = [
+    ("++apple", "!query syntax at 1"),
+    ("+-apple", "!query syntax at 1"),
+    ("+*", "!query syntax at 1"),
+    ("apple+", "!query syntax at 6"),
+    ("+ apple", "!query syntax at 1"),
+    ("+'apple", "!query syntax at 1"),
+    ("-", "!query syntax at 1"),
+    ("a -", "!query syntax at 3"),
+    ("+)", "!query syntax at 1"),
+];
+
+/// A star without its word.
+const STARS: [(&str, &str); 7] = [
+    ("apple**", "!query syntax at 7"),
+    ("apple'*", "!query syntax at 7"),
+    ("\"pie\"*", "!query syntax at 6"),
+    ("(pie)*", "!query syntax at 6"),
+    ("pie *", "!query syntax at 5"),
+    ("*a", "!query syntax at 1"),
+    ("\"a\"@1*", "!query syntax at 6"),
+];
+
+/// An `@` that is no distance's.
+const ATS: [(&str, &str); 9] = [
+    ("apple @3", "!query syntax at 7"),
+    ("a@3", "!query syntax at 2"),
+    ("\"a\" @65536", "!query syntax at 5"),
+    ("\"apple\"@3x", "!query syntax at 8"),
+    ("\"a b\"@", "!query syntax at 6"),
+    ("\"a b\"@ 3", "!query syntax at 6"),
+    ("\"a b\" @3 @4", "!query syntax at 10"),
+    ("\"a\" b @3", "!query syntax at 7"),
+    ("(\"a\") @3", "!query syntax at 7"),
+];
+
+/// A quote or a bracket without its partner.
+const PARTNERS: [(&str, &str); 10] = [
+    ("\"apple pie", "!query syntax at 1"),
+    ("-\"a", "!query syntax at 2"),
+    ("\"a\" \"b", "!query syntax at 5"),
+    ("(\"x)", "!query syntax at 2"),
+    ("( \"abc )", "!query syntax at 3"),
+    ("(((apple", "!query syntax at 1"),
+    ("apple)", "!query syntax at 6"),
+    ("(a))", "!query syntax at 4"),
+    (")(", "!query syntax at 1"),
+    ("(a)(", "!query syntax at 4"),
+];
+
+/// The leftmost fault, also where a later one is met first.
+const LEFTMOST: [(&str, &str); 2] = [
+    ("(+ x", "!query syntax at 1"),
+    ("(+ x)", "!query syntax at 2"),
+];
+
+/// Compares each text's tree or refusal.
+fn try_rows(rt: &impl Abort, alloc: Global, rows: &[(&str, &str)]) -> Result<(), Fail> {
+    for (text, want) in rows {
+        let got = shown(alloc, text.as_bytes())?;
+        assert_eq!(rt; got.as_slice(), want.as_bytes(), "{text:?}");
+    }
+    Ok(())
+}
+
 #[test]
 fn texts_have_their_trees_or_their_first_faults(rt: HostRuntime) -> Result<(), Fail> {
-    let rows: [(&[u8], &[u8]); 87] = [
-        // Words, signs, prefixes.
-        (b"", b""),
-        (b"apple", b"apple"),
-        (b"Apple PIE", b"apple pie"),
-        (b"+apple -pie", b"+apple -pie"),
-        (b">apple <pie ~x", b"apple pie x"),
-        (b"-apple", b"-apple"),
-        (b"pear -apple", b"pear -apple"),
-        (b"+apple +the", b"+apple +the"),
-        (b"+apple +the*", b"+apple +the*"),
-        (b"a-b", b"a -b"),
-        (b"a~b", b"a b"),
-        (b"a>b<c", b"a b c"),
-        (b"a,b;c", b"a b c"),
-        (b"x_1", b"x_1"),
-        (b"a\xc3\xa9b", b"a b"),
-        (b"don't", b"don't"),
-        (b"rock'n'roll", b"rock'n'roll"),
-        (b"'tis", b"tis"),
-        (b"a''b", b"a b"),
-        (b"pie*pie", b"pie* pie"),
-        (b"pie*+pie", b"pie* +pie"),
-        // Brackets.
-        (b"()", b"()"),
-        (b"-(apple)", b"-(apple)"),
-        (b"+(pie theory) -apple", b"+(pie theory) -apple"),
-        (b"a(b)c", b"a (b) c"),
-        (b"+(+(a) -b)", b"+(+(a) -b)"),
-        (b"~(a)", b"(a)"),
-        (b"( a ( ) b )", b"(a () b)"),
-        // Phrases and distances.
-        (b"\"\"", b"\"\""),
-        (b"\"test phrase\"", b"\"test phrase\""),
-        (b"\"the of\"", b"\"the of\""),
-        (b"\"a+b (c) @d*\"", b"\"a b c d\""),
-        (b"foo\"bar baz\"", b"foo \"bar baz\""),
-        (b"+\"bar\"", b"+\"bar\""),
-        (b"a\"\"b", b"a \"\" b"),
-        (b"\"a\"b\"c\"", b"\"a\" b \"c\""),
-        (b"\"a)\" (b)", b"\"a\" (b)"),
-        (b"\"a'b' c\"", b"\"a'b c\""),
-        (b"\"apple pie\" @2", b"\"apple pie\"@2"),
-        (b"\"apple apple\" @0", b"\"apple apple\"@0"),
-        (b"\"a\"\t@2\tb", b"\"a\"@2 b"),
-        (b"\"a\" @65535", b"\"a\"@65535"),
-        (b"\"a\"@007", b"\"a\"@7"),
-        (b"\"a\" @2'b", b"\"a\"@2 b"),
-        (b"\"a\"@2\"b\"", b"\"a\"@2 \"b\""),
-        (b"\"a\" \t @9 \"b\"", b"\"a\"@9 \"b\""),
-        (b"\"The of\" @1", b"\"the of\"@1"),
-        (b"+\"a b\"@1", b"+\"a b\"@1"),
-        (b"+(\"a\" @1 -c*)", b"+(\"a\"@1 -c*)"),
-        (b"\"a\"@3+b", b"\"a\"@3 +b"),
-        // A sign without what it is a sign of.
-        (b"++apple", b"!query syntax at 1"),
-        (b"+-apple", b"!query syntax at 1"),
-        (b"+*", b"!query syntax at 1"),
-        (b"apple+", b"!query syntax at 6"),
-        (b"+ apple", b"!query syntax at 1"),
-        (b"+'apple", b"!query syntax at 1"),
-        (b"-", b"!query syntax at 1"),
-        (b"a -", b"!query syntax at 3"),
-        (b"+)", b"!query syntax at 1"),
-        // A star without its word.
-        (b"apple**", b"!query syntax at 7"),
-        (b"apple'*", b"!query syntax at 7"),
-        (b"\"pie\"*", b"!query syntax at 6"),
-        (b"(pie)*", b"!query syntax at 6"),
-        (b"pie *", b"!query syntax at 5"),
-        (b"*a", b"!query syntax at 1"),
-        (b"\"a\"@1*", b"!query syntax at 6"),
-        // An `@` that is no distance's.
-        (b"apple @3", b"!query syntax at 7"),
-        (b"a@3", b"!query syntax at 2"),
-        (b"\"a\" @65536", b"!query syntax at 5"),
-        (b"\"apple\"@3x", b"!query syntax at 8"),
-        (b"\"a b\"@", b"!query syntax at 6"),
-        (b"\"a b\"@ 3", b"!query syntax at 6"),
-        (b"\"a b\" @3 @4", b"!query syntax at 10"),
-        (b"\"a\" b @3", b"!query syntax at 7"),
-        (b"(\"a\") @3", b"!query syntax at 7"),
-        // A quote or a bracket without its partner.
-        (b"\"apple pie", b"!query syntax at 1"),
-        (b"-\"a", b"!query syntax at 2"),
-        (b"\"a\" \"b", b"!query syntax at 5"),
-        (b"(\"x)", b"!query syntax at 2"),
-        (b"( \"abc )", b"!query syntax at 3"),
-        (b"(((apple", b"!query syntax at 1"),
-        (b"apple)", b"!query syntax at 6"),
-        (b"(a))", b"!query syntax at 4"),
-        (b")(", b"!query syntax at 1"),
-        (b"(a)(b", b"!query syntax at 4"),
-        // The leftmost fault, also where a later one is met first.
-        (b"(+ x", b"!query syntax at 1"),
-        (b"(+ x)", b"!query syntax at 2"),
-    ];
     let alloc = rt.alloc();
-    for (text, want) in rows {
-        let got = shown(alloc, text)?;
-        assert_eq!(rt; got.as_slice(), want, "{text:?}");
-    }
+    try_rows(&rt, alloc, &WORDS)?;
+    try_rows(&rt, alloc, &MORE_WORDS)?;
+    try_rows(&rt, alloc, &BRACKETS)?;
+    try_rows(&rt, alloc, &PHRASES)?;
+    try_rows(&rt, alloc, &MORE_PHRASES)?;
+    try_rows(&rt, alloc, &SIGNS)?;
+    try_rows(&rt, alloc, &STARS)?;
+    try_rows(&rt, alloc, &ATS)?;
+    try_rows(&rt, alloc, &PARTNERS)?;
+    try_rows(&rt, alloc, &LEFTMOST)?;
     Ok(())
 }
 

@@ -1,10 +1,9 @@
-use Rattle.std.proofs.Common.{◌≡◌, ℕ, ◌<◌, ◌≤◌, List, [], ◌∷◌, ◌++◌, length, ap, sym, ◌∙◌, subst, append-nil, refl, arith}
+use Rattle.std.proofs.Common.{◌≡◌, ◌<◌, ◌≤◌, List, [], ◌∷◌, ◌++◌, length, ap, sym, ◌∙◌, subst, append-nil, refl, arith}
 use Rattle.fts_query.specs.declared.build.Bracket.{Bracket}
 use Rattle.fts_query.specs.View.{terms_view}
 use Rattle.fts_query.specs.Built.{written_open, written_so_far, height_of}
 use Rattle.fts_query.proofs.Taking.{goes_on}
 use Rattle.fts_meaning.specs.Tree.{Token, written}
-use Rattle.fts_meaning.specs.Token.{tokens_from}
 use Rattle.fts_meaning.specs.Nesting.{Nests}
 use Rattle.fts_meaning.proofs.Places.{tokens_step, tokens_end}
 use Rattle.fts_query.proofs.build.build.Goals as goal

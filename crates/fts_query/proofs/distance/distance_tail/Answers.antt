@@ -1,7 +1,7 @@
-use Rattle.std.proofs.Common.{◌≡◌, ◌+◌, ◌<◌, ℕ, List, length, get_or, sym, ap, ◌∙◌, subst, arith, rules}
+use Rattle.std.proofs.Common.{◌≡◌, ◌+◌, ◌<◌, ℕ, List, sym, ap, ◌∙◌, subst, arith}
 use Rattle.std.proofs.lemmas.List.{get_or_past}
 use Rattle.fts_words.specs.Byte.{word_at}
-use Rattle.fts_meaning.specs.Distance.{blanks, digit_count, tail_len, decimal_value}
+use Rattle.fts_meaning.specs.Distance.{tail_len, decimal_value}
 use Rattle.fts_query.proofs.TailLemmas.{no_mark, no_digit, word_behind, too_large, a_tail, count_is, digits_are}
 use Rattle.fts_query.proofs.distance.distance_tail.Goals as goal
 

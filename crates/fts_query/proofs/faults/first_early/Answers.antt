@@ -1,4 +1,4 @@
-use Rattle.std.proofs.Common.{◌<◌, length, arith, sym, rules}
+use Rattle.std.proofs.Common.{◌<◌, length, arith, sym}
 use Rattle.fts_query.proofs.FaultLemmas.{passed_more}
 use Rattle.fts_query.proofs.faults.first_early.Goals as goal
 

@@ -1,4 +1,4 @@
-use Rattle.std.proofs.Common.{◌≡◌, ℕ, ◌≤◌, length, arith}
+use Rattle.std.proofs.Common.{ℕ, arith}
 use Rattle.fts_meaning.specs.Fault.{IsFaulty}
 use Rattle.fts_meaning.proofs.Pairing.{ordered, faultless_nests}
 use Rattle.fts_query.proofs.parser.parse_plain.Goals as goal

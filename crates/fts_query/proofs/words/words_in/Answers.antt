@@ -1,7 +1,6 @@
-use Rattle.std.proofs.Common.{◌≡◌, ℕ, List, [], ◌∷◌, ◌++◌, ap, ◌∙◌, sym}
+use Rattle.std.proofs.Common.{ℕ, List, [], ◌∷◌, ◌++◌, ap, ◌∙◌}
 use Rattle.fts_words.specs.Byte.{lowered}
-use Rattle.fts_token.specs.Left.{raw_words_left}
-use Rattle.fts_query.proofs.Gathering.{gathered_first, gathered_more, gathered_span, gathered_all}
+use Rattle.fts_query.proofs.Gathering.{gathered_first, gathered_more, gathered_span}
 use Rattle.fts_query.proofs.words.words_in.Goals as goal
 
 pub loop-word-init : goal.loop-word-init

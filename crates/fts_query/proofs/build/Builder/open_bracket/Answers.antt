@@ -1,4 +1,4 @@
-use Rattle.std.proofs.Common.{◌≡◌, List, [], ◌∷◌, ◌++◌, Vec, Global, ap, ◌∙◌}
+use Rattle.std.proofs.Common.{[], ◌∷◌, ◌++◌, Vec, Global, ap, ◌∙◌}
 use Rattle.fts_query.specs.declared.query.Term.{Term}
 use Rattle.fts_query.specs.View.{terms_view}
 use Rattle.fts_query.specs.Built.{written_open}

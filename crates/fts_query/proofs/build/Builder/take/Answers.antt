@@ -1,7 +1,7 @@
-use Rattle.std.proofs.Common.{◌≡◌, ℕ, ◌+◌, ◌-◌, List, [], ◌∷◌, ◌++◌, length, get_or, ap, ap₂, sym, ◌∙◌, subst, append-nil, arith}
+use Rattle.std.proofs.Common.{◌≡◌, ℕ, ◌+◌, ◌-◌, List, [], ◌∷◌, ◌++◌, get_or, ap, ap₂, sym, ◌∙◌, subst, append-nil}
 use Rattle.fts_meaning.specs.declared.sign.Sign.{Sign}
 use Rattle.fts_meaning.specs.Quote.{closing_quote}
-use Rattle.fts_meaning.specs.Tree.{Operand, Token, single, opening, closing}
+use Rattle.fts_meaning.specs.Tree.{Operand, Token, single, opening}
 use Rattle.fts_meaning.specs.Token.{sign_of, quoted, tokens_from}
 use Rattle.fts_meaning.specs.Nesting.{Nests}
 use Rattle.fts_query.specs.Built.{written_so_far}

@@ -1,4 +1,4 @@
-use Rattle.std.proofs.Common.{◌<◌, arith, ne_eqb}
+use Rattle.std.proofs.Common.{arith, ne_eqb}
 use Rattle.fts_query.proofs.FaultLemmas.{seen_lone, seen_close, seen_open, seen_other}
 use Rattle.fts_query.proofs.faults.Backward.step.Goals as goal
 
