@@ -1,4 +1,4 @@
-use Rattle.std.specs.Prelude.{ℕ, ◌+◌, Bool, true, List, length, take, filter, if◌then◌else◌}
+use Rattle.std.specs.Prelude.{ℕ, ◌+◌, Bool, true, List, length, take, drop, filter, if◌then◌else◌}
 use Rattle.std.specs.List.{list_all}
 use Rattle.std.specs.Str.{bytes_eq}
 use Rattle.fts_words.specs.Indexed.{Rules, is_indexable}
@@ -10,9 +10,17 @@ use Rattle.fts_meaning.specs.Holds.{from_some_place, starts_with_words, is_among
 abbrev pub fits : Bool → List ℕ → List ℕ → Bool
 fits is_prefix w found = if is_prefix then bytes_eq (take (length w) found) w else bytes_eq found w
 
+-- what is behind a place passes the test
+abbrev pub from_place : List (List ℕ) → (List (List ℕ) → Bool) → ℕ → Bool
+from_place words test place = test (drop place words)
+
+-- the others begin with the words
+abbrev pub begins_with : List (List ℕ) → List (List ℕ) → Bool
+begins_with words rest = starts_with_words rest words
+
 -- the words stand one behind another in the text
 abbrev pub stands_in : List (List ℕ) → List ℕ → Bool
-stands_in words text = from_some_place (words_in text) (λ rest. starts_with_words rest words)
+stands_in words text = from_some_place (words_in text) (begins_with words)
 
 -- each indexable word is among the first of the others, so many
 abbrev pub is_close : Rules → ℕ → List (List ℕ) → List (List ℕ) → Bool

@@ -9,7 +9,4 @@ mod terms;
 mod verdict;
 mod words;
 
-#[cfg(test)]
-mod tests;
-
 pub use rows::{Row, scan};

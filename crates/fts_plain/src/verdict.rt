@@ -40,10 +40,10 @@ impl Verdict {
         ensures some { result.some_optional ≡ (self.some_optional || (stays && (is_optional sign && holds))) }
     {
         Verdict {
-            none_excluded: self.none_excluded && !(stays && is_excluded(sign) && holds),
+            none_excluded: self.none_excluded && !(stays && (is_excluded(sign) && holds)),
             each_required: self.each_required && (!(stays && is_required(sign)) || holds),
             has_required: self.has_required || (stays && is_required(sign)),
-            some_optional: self.some_optional || (stays && is_optional(sign) && holds),
+            some_optional: self.some_optional || (stays && (is_optional(sign) && holds)),
         }
     }
 
@@ -51,7 +51,7 @@ impl Verdict {
     pub(crate) fn holds(self) -> bool
         ensures { result ≡ (self.none_excluded && (self.each_required && (self.has_required || self.some_optional))) }
     {
-        self.none_excluded && self.each_required && (self.has_required || self.some_optional)
+        self.none_excluded && (self.each_required && (self.has_required || self.some_optional))
     }
 }
 

@@ -1,9 +1,9 @@
-ghost use Rattle.std.specs.Prelude.{◌≡◌, ◌+◌, ◌<◌, ◌≤◌, ◌^◌, length, drop, take, filter};
-ghost use Rattle.std.specs.List.{list_any, list_all};
+ghost use Rattle.std.specs.Prelude.{◌≡◌, ◌+◌, ◌<◌, ◌≤◌, ◌^◌, ◌||◌, not, length, drop, take};
+ghost use Rattle.std.specs.List.{list_any};
 ghost use Rattle.fts_words.specs.Indexed.{is_indexable};
 ghost use Rattle.fts_types.specs.Rules.{rules_of};
 ghost use Rattle.fts_meaning.specs.Holds.{starts_with_words, from_some_place, is_among};
-ghost use Rattle.fts_plain.specs.Words.{fits, is_close};
+ghost use Rattle.fts_plain.specs.Words.{fits, begins_with, is_close};
 
 use fts_token::is_indexable;
 use fts_types::{Settings, Texts};
@@ -15,7 +15,11 @@ pub(crate) fn fits(is_prefix: bool, word: &[u8], found: &[u8]) -> bool
     if !is_prefix {
         return found == word;
     }
-    found.len() >= word.len() && &found[..word.len()] == word
+    if found.len() < word.len() {
+        return false;
+    }
+    let front = &found[..word.len()];
+    front == word
 }
 
 /// Whether one of the words can be an indexed word.
@@ -48,7 +52,7 @@ fn stands_at(all: &Texts, place: usize, words: &Texts) -> bool
 
 /// Whether words stand one behind another somewhere.
 pub(crate) fn has_run(all: &Texts, words: &Texts) -> bool
-    ensures { result ≡ from_some_place all.now (λ rest. starts_with_words rest words.now) }
+    ensures { result ≡ from_some_place all.now (begins_with words.now) }
 {
     for place in 0..all.len() {
         if stands_at(all, place, words) {
@@ -72,6 +76,14 @@ fn stands_among(all: &Texts, from: usize, count: usize, word: &[u8]) -> bool
     false
 }
 
+/// Whether a word can't be an indexed word, or is among so many words from a place on.
+fn word_is_close(settings: &Settings, all: &Texts, from: usize, count: usize, word: &[u8]) -> bool
+    requires { from ≤ length all.now }
+    ensures { result ≡ (not (is_indexable (rules_of settings.now) word.now) || is_among (take count (drop from all.now)) word.now) }
+{
+    !is_indexable(settings, word) || stands_among(all, from, count, word)
+}
+
 /// Whether each indexable word is among so many words from a place on.
 fn each_stands_among(settings: &Settings, all: &Texts, from: usize, count: usize, words: &Texts) -> bool
     requires { from ≤ length all.now }
@@ -79,7 +91,7 @@ fn each_stands_among(settings: &Settings, all: &Texts, from: usize, count: usize
 {
     for place in 0..words.len() {
         let word = words.text(place);
-        if is_indexable(settings, word) && !stands_among(all, from, count, word) {
+        if !word_is_close(settings, all, from, count, word) {
             return false;
         }
     }
