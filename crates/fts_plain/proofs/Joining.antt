@@ -46,9 +46,9 @@ module _ (T p : List ℕ → Bool) (words : List (List ℕ)) where
       let w = get_or words i [] in
       let split = ap (λ (ws : List (List ℕ)). list_all T (filter p ws)) (drop_first words i [] within) in
       let step : list_all T (filter p (w ∷ drop (i + 1) words)) ≡ list_all T (filter p (drop (i + 1) words)) = ⊎_elim
-          (λ (yes : p w ≡ true). (let holds : T w ≡ true = rw yes at passes in rw (yes, holds) refl))
-          (λ (no : p w ≡ false). rw no refl)
-          (cases_Bool (p w)) in
+      (λ (yes : p w ≡ true). (let holds : T w ≡ true = rw yes at passes in rw (yes, holds) refl))
+      (λ (no : p w ≡ false). rw no refl)
+      (cases_Bool (p w)) in
       sym (split ∙ step) ∙ same
 
   pub each_not : (i : ℕ) → i < length words → (not (p (get_or words i [])) || T (get_or words i [])) ≡ false → list_all T (filter p (drop i words)) ≡ list_all T (filter p words) → false ≡ list_all T (filter p words)
@@ -56,9 +56,9 @@ module _ (T p : List ℕ → Bool) (words : List (List ℕ)) where
       let w = get_or words i [] in
       let split = ap (λ (ws : List (List ℕ)). list_all T (filter p ws)) (drop_first words i [] within) in
       let step : list_all T (filter p (w ∷ drop (i + 1) words)) ≡ false = ⊎_elim
-          (λ (yes : p w ≡ true). (let no_T : T w ≡ false = rw yes at fails in rw (yes, no_T) refl))
-          (λ (no : p w ≡ false). absurd (false≢true (sym fails ∙ rw no refl)))
-          (cases_Bool (p w)) in
+      (λ (yes : p w ≡ true). (let no_T : T w ≡ false = rw yes at fails in rw (yes, no_T) refl))
+      (λ (no : p w ≡ false). absurd (false≢true (sym fails ∙ rw no refl)))
+      (cases_Bool (p w)) in
       sym (split ∙ step) ∙ same
 
   pub each_all : (i : ℕ) → length words ≤ i → list_all T (filter p (drop i words)) ≡ list_all T (filter p words) → true ≡ list_all T (filter p words)

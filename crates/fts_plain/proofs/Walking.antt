@@ -25,4 +25,3 @@ module _ (p : ℕ → Bool) (n : ℕ) where
   places_none i past same =
       let counted : n - i ≡ 0 = omega arith in
       sym (ap (λ (m : ℕ). list_any p (range_with_len i m)) counted) ∙ same
-

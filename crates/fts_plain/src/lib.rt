@@ -6,6 +6,8 @@
 mod operand;
 mod rows;
 mod terms;
+#[cfg(test)]
+mod tests;
 mod verdict;
 mod words;
 

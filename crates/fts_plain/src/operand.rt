@@ -25,7 +25,13 @@ fn word_of(alloc: Global, columns: &RowTexts, found: &PlacedWord) -> Result<Vec<
 
 /// Whether some indexed word of the row is a word, or begins with it.
 #[tactic(auto, using(crate::proofs::Indexing::sought_found, crate::proofs::Indexing::sought_none))]
-fn has_indexed(alloc: Global, settings: &Settings, columns: &RowTexts, word: &[u8], is_prefix: bool) -> Result<bool, AllocError>
+fn has_indexed(
+    alloc: Global,
+    settings: &Settings,
+    columns: &RowTexts,
+    word: &[u8],
+    is_prefix: bool,
+) -> Result<bool, AllocError>
     requires { IsRow columns.now }
     ensures { IfOk result (λ found. found ≡ some_indexed (rules_of settings.now) columns.now (fits is_prefix word.now)) }
 {
@@ -48,7 +54,13 @@ fn text_has_phrase(alloc: Global, text: &[u8], words: &Texts) -> Result<bool, Al
 }
 
 /// Whether the indexable words stand close together in a text.
-fn text_has_distance(alloc: Global, settings: &Settings, text: &[u8], words: &Texts, number: u16) -> Result<bool, AllocError>
+fn text_has_distance(
+    alloc: Global,
+    settings: &Settings,
+    text: &[u8],
+    words: &Texts,
+    number: u16,
+) -> Result<bool, AllocError>
     ensures { IfOk result (λ found. found ≡ lies_near (rules_of settings.now) words.now number text.now) }
 {
     let all = words_in(alloc, text)?;
@@ -68,7 +80,13 @@ fn has_phrase(alloc: Global, columns: &RowTexts, words: &Texts) -> Result<bool, 
 }
 
 /// Whether the indexable words stand close together in some column.
-fn has_distance(alloc: Global, settings: &Settings, columns: &RowTexts, words: &Texts, number: u16) -> Result<bool, AllocError>
+fn has_distance(
+    alloc: Global,
+    settings: &Settings,
+    columns: &RowTexts,
+    words: &Texts,
+    number: u16,
+) -> Result<bool, AllocError>
     ensures { IfOk result (λ found. found ≡ list_any (lies_near (rules_of settings.now) words.now number) columns.now) }
 {
     for column in 0..columns.len() {
@@ -80,7 +98,12 @@ fn has_distance(alloc: Global, settings: &Settings, columns: &RowTexts, words: &
 }
 
 /// Whether an operand holds in a row.
-pub(crate) fn operand_holds(alloc: Global, settings: &Settings, columns: &RowTexts, operand: &Operand) -> Result<bool, AllocError>
+pub(crate) fn operand_holds(
+    alloc: Global,
+    settings: &Settings,
+    columns: &RowTexts,
+    operand: &Operand,
+) -> Result<bool, AllocError>
     requires { IsRow columns.now }
     ensures { IfOk result (λ holds. holds ≡ operand_holds (rules_of settings.now) columns.now (operand_view operand.now)) }
 {

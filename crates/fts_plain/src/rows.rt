@@ -19,7 +19,13 @@ pub struct Row {
 
 /// Adds a row's id to those that were found, if the query holds in it.
 #[tactic(auto, using(crate::proofs::Scanning::found_one, crate::proofs::Scanning::found_none))]
-fn look_at(alloc: Global, settings: &Settings, row: &Row, query: &Query, ids: &mut Vec<DocId>) -> Result<(), AllocError>
+fn look_at(
+    alloc: Global,
+    settings: &Settings,
+    row: &Row,
+    query: &Query,
+    ids: &mut Vec<DocId>,
+) -> Result<(), AllocError>
     requires { IsRow row.now.texts }
     ensures { OnOk result (ids.new.items ≡ ids.old.items ++ scan (rules_of settings.now) (row_view row.now ∷ []) (tree_of query.now)) }
 {
@@ -35,7 +41,12 @@ fn look_at(alloc: Global, settings: &Settings, row: &Row, query: &Query, ids: &m
 /// The texts of each row are 1 to 8, of at most 65,535 bytes together. The only refusal is for want of memory.
 ///
 /// Source: MySQL 8.0 Reference Manual, "Boolean Full-Text Searches".
-pub fn scan(alloc: Global, settings: &Settings, rows: &[Row], query: &Query) -> Result<Vec<DocId>, AllocError>
+pub fn scan(
+    alloc: Global,
+    settings: &Settings,
+    rows: &[Row],
+    query: &Query,
+) -> Result<Vec<DocId>, AllocError>
     requires { All (λ row. IsRow row.texts) rows.now }
     ensures { IfOk result (λ ids. ids.items ≡ scan (rules_of settings.now) (map row_view rows.now) (tree_of query.now)) }
 {

@@ -61,7 +61,12 @@ fn operand_stays(settings: &Settings, operand: &Operand) -> bool
 
 /// Whether a term holds in a row.
 #[cycle(holding)]
-fn term_holds(alloc: Global, settings: &Settings, columns: &RowTexts, term: &Term) -> Result<bool, AllocError>
+fn term_holds(
+    alloc: Global,
+    settings: &Settings,
+    columns: &RowTexts,
+    term: &Term,
+) -> Result<bool, AllocError>
     requires { IsRow columns.now }
     ensures { IfOk result (λ holds. holds ≡ term_holds (rules_of settings.now) columns.now (term_view term.now)) }
 {
@@ -73,7 +78,12 @@ fn term_holds(alloc: Global, settings: &Settings, columns: &RowTexts, term: &Ter
 
 /// Whether a list of terms holds in a row.
 #[cycle(holding)]
-pub(crate) fn list_holds(alloc: Global, settings: &Settings, columns: &RowTexts, terms: &[Term]) -> Result<bool, AllocError>
+pub(crate) fn list_holds(
+    alloc: Global,
+    settings: &Settings,
+    columns: &RowTexts,
+    terms: &[Term],
+) -> Result<bool, AllocError>
     requires { IsRow columns.now }
     ensures { IfOk result (λ holds. holds ≡ list_holds (rules_of settings.now) columns.now (terms_view terms.now)) }
 {

@@ -85,7 +85,13 @@ fn word_is_close(settings: &Settings, all: &Texts, from: usize, count: usize, wo
 }
 
 /// Whether each indexable word is among so many words from a place on.
-fn each_stands_among(settings: &Settings, all: &Texts, from: usize, count: usize, words: &Texts) -> bool
+fn each_stands_among(
+    settings: &Settings,
+    all: &Texts,
+    from: usize,
+    count: usize,
+    words: &Texts,
+) -> bool
     requires { from ≤ length all.now }
     ensures { result ≡ is_close (rules_of settings.now) count words.now (drop from all.now) }
 {

@@ -13,5 +13,5 @@ term_holds-returns-in-Group t c =
     let columns = c.args.columns.now in
     let P : Bool → Type 0 = λ b. IfOk c.list_holds.result (λ h. h ≡ b) in
     let same = ap (λ (ts : List Term). list_holds rules columns (terms_view ts)) c.as_slice.ensures.value
-        ∙ sym (ap (term_holds rules columns) (ap term_view c.in-Group.is ∙ term_view-Group c.in-Group.field-0 c.in-Group.terms)) in
+    ∙ sym (ap (term_holds rules columns) (ap term_view c.in-Group.is ∙ term_view-Group c.in-Group.field-0 c.in-Group.terms)) in
     subst P same c.list_holds.ensures
