@@ -1,0 +1,5 @@
+pub mod Walking
+pub mod Listing
+pub mod Joining
+pub mod Scanning
+pub mod Indexing

@@ -1,0 +1,7 @@
+use Rattle.std.proofs.Common.{◌≡◌, false, take}
+use Rattle.std.specs.List.{list_any}
+use Rattle.fts_plain.specs.Words.{stands_in}
+use Rattle.fts_plain.proofs.operand.has_phrase.Given as goal
+
+abbrev pub invariant-loop-column : goal.invariant-loop-column
+invariant-loop-column l = list_any (stands_in l.words) (take l.column l.columns) ≡ false

@@ -1,0 +1,14 @@
+//! The slow meaning of a search: each row is read, and the query is tried on it.
+//!
+//! It is written from the definitions alone. Faster searches are compared with it.
+#![tactic(auto)]
+
+mod operand;
+mod rows;
+mod terms;
+#[cfg(test)]
+mod tests;
+mod verdict;
+mod words;
+
+pub use rows::{Row, scan};

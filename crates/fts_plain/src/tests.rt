@@ -1,0 +1,122 @@
+use super::*;
+use fts_query::parse;
+use fts_types::{Names, RowTexts, Settings};
+use std::alloc::{AllocError, Global};
+use std::process::Abort;
+use std::test::Fail;
+
+fn settings(alloc: Global) -> Settings {
+    Settings {
+        columns: Names::new(alloc),
+        min: 3,
+        max: 84,
+        stopword: true,
+        optimize_words: 2_000,
+        cache_bytes: 8_000_000,
+        batch_docs: 1_000,
+    }
+}
+
+/// A row of two columns; the second is left out where it is empty.
+fn row(alloc: Global, id: u64, texts: (&str, &str)) -> Result<Row, Fail> {
+    let mut columns = RowTexts::new(alloc);
+    columns.push(texts.0.as_bytes().to_vec(alloc)?)?;
+    if !texts.1.is_empty() {
+        columns.push(texts.1.as_bytes().to_vec(alloc)?)?;
+    }
+    Ok(Row { id, texts: columns })
+}
+
+/// The ids of the rows that a query finds, each row scanned alone.
+fn found(
+    rt: &impl Abort,
+    alloc: Global,
+    rows: &[(&str, &str)],
+    text: &str,
+) -> Result<Vec<u64>, Fail> {
+    let settings = settings(alloc);
+    let query = parse(alloc, text.as_bytes())?;
+    let mut all = Vec::new(alloc);
+    let mut id = 0;
+    for texts in rows {
+        id += 1;
+        let row = row(alloc, id, *texts)?;
+        assert!(rt; row.texts.is_row());
+        let rows = [row];
+        let ids = scan(alloc, &settings, &rows, &query)?;
+        all.extend_from_slice(ids.as_slice())?;
+    }
+    Ok(all)
+}
+
+/// Three rows of one column.
+const FRUIT: [(&str, &str); 3] = [("apple pie", ""), ("apple theory", ""), ("the theory", "")];
+
+const FRUIT_SEARCHES: [(&str, &[u64]); 14] = [
+    ("pie", &[1]),
+    ("the*", &[2, 3]),
+    ("+apple +the", &[1, 2]),
+    ("+apple +the*", &[2]),
+    ("the", &[]),
+    ("+(pie theory) -apple", &[3]),
+    ("+(the) apple", &[1, 2]),
+    ("+apple pie", &[1, 2]),
+    (">pie", &[1]),
+    ("+\"the of\" apple", &[]),
+    ("-\"the\" apple", &[1, 2]),
+    ("\"\"", &[]),
+    ("()", &[]),
+    ("-(apple)", &[]),
+];
+
+const PEAR: [(&str, &str); 1] = [("pear", "")];
+
+const PEAR_SEARCHES: [(&str, &[u64]); 2] = [("-apple", &[]), ("pear -apple", &[1])];
+
+/// Three rows of two columns.
+const PHRASES: [(&str, &str); 3] = [
+    ("x", "test, phrase"),
+    ("x", "test the phrase"),
+    ("a test", "phrase b"),
+];
+
+const PHRASE_SEARCHES: [(&str, &[u64]); 3] = [
+    ("\"test phrase\"", &[1]),
+    ("\"test the phrase\"", &[2]),
+    ("\"the of\"", &[]),
+];
+
+const DISTANCES: [(&str, &str); 3] = [
+    ("apple the pie", ""),
+    ("apple of the pie", ""),
+    ("apple apple", ""),
+];
+
+const DISTANCE_SEARCHES: [(&str, &[u64]); 4] = [
+    ("\"apple pie\" @2", &[1]),
+    ("\"apple pie\" @3", &[1, 2]),
+    ("\"apple apple\" @0", &[1, 2, 3]),
+    ("\"apple pie\" @0", &[]),
+];
+
+fn try_searches(
+    rt: &impl Abort,
+    alloc: Global,
+    rows: &[(&str, &str)],
+    searches: &[(&str, &[u64])],
+) -> Result<(), Fail> {
+    for (text, want) in searches {
+        let ids = found(rt, alloc, rows, text)?;
+        assert_eq!(rt; ids.as_slice(), *want, "{text}");
+    }
+    Ok(())
+}
+
+#[test]
+fn searches_find_their_rows(rt: HostRuntime) -> Result<(), Fail> {
+    let alloc = rt.alloc();
+    try_searches(&rt, alloc, &FRUIT, &FRUIT_SEARCHES)?;
+    try_searches(&rt, alloc, &PEAR, &PEAR_SEARCHES)?;
+    try_searches(&rt, alloc, &PHRASES, &PHRASE_SEARCHES)?;
+    try_searches(&rt, alloc, &DISTANCES, &DISTANCE_SEARCHES)
+}

@@ -1,0 +1,10 @@
+pub mod Views
+pub mod QuoteLemmas
+pub mod WordEnds
+pub mod Gathering
+pub mod TailLemmas
+pub mod PlainLemmas
+pub mod FaultLemmas
+pub mod Building
+pub mod Taking
+pub mod Exact

@@ -1,0 +1,4 @@
+pub mod View
+pub mod Found
+pub mod Built
+pub mod Refused
