@@ -1,2 +1,4 @@
 pub mod Contents
+pub mod Recording
 pub mod Torn
+pub mod Changing
