@@ -1,10 +1,9 @@
 -- A write or a cut put into a record.
-use Rattle.std.proofs.Common.{◌≡◌, ◌⊎◌, inl, inr, ⊎_elim, ℕ, ◌+◌, ◌<◌, ◌≤◌, List, [], ◌∷◌, ◌++◌, length, take, Bool, true, false, Result, Ok, Err, OnOk, OnErr, Vec, All, refl, sym, ◌∙◌, ap, subst, arith}
+use Rattle.std.proofs.Common.{◌≡◌, ◌⊎◌, inl, inr, ⊎_elim, ℕ, ◌≤◌, List, [], ◌∷◌, ◌++◌, length, take, Bool, true, false, Result, Ok, Err, OnOk, OnErr, Vec, All, sym, ◌∙◌, ap, subst, arith}
 use Rattle.std.specs.declared.alloc.Global.{Global}
 use Rattle.fts_disk.specs.Device.{Files, OnFile, Holds, Torn, Shortened}
 use Rattle.fts_disk.specs.Crash.{Images, Follows, Elapses}
 use Rattle.fts_disk.specs.Replay.{Same, put_in, overwritten, step_seen, step_images, seen_after, images_now, left_after, IsOfFile, IsWriteOf, IsCutOf}
-use Rattle.fts_disk.specs.ReplayLaws.{stays}
 use Rattle.fts_disk.specs.declared.memory.Call.{Call}
 use Rattle.fts_disk.specs.declared.memory.Call.TheVariants.{Write, Cut}
 use Rattle.fts_disk.proofs.Recording.{seen_push, images_push, elapses_same, grew_elapses, grew_proper}

@@ -2,3 +2,4 @@ pub mod Contents
 pub mod Recording
 pub mod Torn
 pub mod Changing
+pub mod Picking

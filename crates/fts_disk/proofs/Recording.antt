@@ -1,11 +1,11 @@
 -- One call more in a record.
-use Rattle.std.proofs.Common.{◌≡◌, ◌⊎◌, inl, inr, ⊎_elim, ℕ, ◌+◌, ◌<◌, ◌≤◌, List, [], ◌∷◌, ◌++◌, length, take, Bool, true, false, if◌then◌else◌, Result, Ok, Err, OnOk, OnErr, All, refl, sym, ◌∙◌, ap, subst, arith, length-append}
+use Rattle.std.proofs.Common.{◌≡◌, ◌⊎◌, inl, inr, ⊎_elim, ℕ, ◌+◌, ◌≤◌, List, [], ◌∷◌, ◌++◌, length, take, Bool, true, false, if◌then◌else◌, Result, Ok, Err, OnOk, OnErr, All, refl, sym, ◌∙◌, ap, subst, arith, length-append}
 use Rattle.std.proofs.lemmas.Bool.{cases_lt}
-use Rattle.std.proofs.lemmas.List.{take_all, take-append-le}
+use Rattle.std.proofs.lemmas.List.{take-append-le}
 use Rattle.std.proofs.lemmas.List.Elements.{All-push}
 use Rattle.fts_disk.specs.Device.{Files}
-use Rattle.fts_disk.specs.Crash.{Images, Within, Follows, Elapses}
-use Rattle.fts_disk.specs.Replay.{Same, step_seen, step_images, seen_after, images_after, images_now, images_at, left_after, IsLook, IsOfFile}
+use Rattle.fts_disk.specs.Crash.{Images, Within, Only, Elapses}
+use Rattle.fts_disk.specs.Replay.{Same, step_seen, step_images, seen_after, images_after, images_now, left_after, IsLook, IsOfFile}
 use Rattle.fts_disk.specs.ReplayLaws.{stays, whole}
 use Rattle.fts_disk.specs.declared.memory.Call.{Call}
 use Rattle.fts_disk.specs.declared.memory.Call.TheVariants.{Len, Read, Write, Cut, Sync}
@@ -96,3 +96,10 @@ grew_tied call old new first files grew is tied = of_both (λ new. files ≡ see
 
 pub grew_proper : (call : Call) (old new : List Call) → Grew call old new → IsOfFile call → All IsOfFile old → All IsOfFile new
 grew_proper call old new grew file proper = of_both (All IsOfFile) call old new grew (All-push IsOfFile old call proper file) proper
+
+-- after a sync that was done, a crash leaves the files as they read
+pub synced : (old new : List Call) (first files : Files) (done : Bool) → new ≡ old ++ Sync done ∷ [] → done ≡ true → files ≡ seen_after old first → Only files (images_now new first)
+synced old new first files done grew is_done tied c here file =
+    let Step : Bool → Type 0 = λ done. step_images (Sync done) (seen_after old first) (images_now old first) c in
+    let same : Same (seen_after old first) c = subst Step is_done (images_push old (Sync done) first (Same first) c (subst (λ (calls : List Call). images_now calls first c) grew here)) in
+    same file ∙ ap (λ (files : Files). files file) (sym tied)

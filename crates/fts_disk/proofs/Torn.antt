@@ -1,9 +1,9 @@
 -- What a write or a cut does to the bytes of a file, whole or stopped.
-use Rattle.std.proofs.Common.{◌≡◌, ◌≢◌, ◌⊎◌, ⊎_elim, ℕ, ◌+◌, ◌≤◌, ◌==◌, List, ◌++◌, length, take, drop, min, Bool, true, false, if◌then◌else◌, refl, sym, ◌∙◌, ap, subst, arith, length-append, append_assoc}
+use Rattle.std.proofs.Common.{◌≡◌, ◌≢◌, ⊎_elim, ℕ, ◌+◌, ◌≤◌, List, ◌++◌, length, take, drop, Bool, if◌then◌else◌, refl, sym, ◌∙◌, ap, subst, arith, length-append, append_assoc}
 use Rattle.std.proofs.lemmas.Bool.{cases_eq, eq-eqb, ne_eqb}
 use Rattle.std.proofs.lemmas.List.{take_all, take_at, take_min, length-take, length-drop}
 use Rattle.std.proofs.lemmas.Slice.{drop-append-drop}
-use Rattle.fts_disk.specs.Device.{Files, OnFile, Holds, Torn, Shortened}
+use Rattle.fts_disk.specs.Device.{Files, OnFile, Torn, Shortened}
 use Rattle.fts_disk.specs.Replay.{put_in, overwritten}
 
 -- one that changed nothing

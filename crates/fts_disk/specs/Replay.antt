@@ -32,11 +32,11 @@ step_seen call files = files
 abbrev pub Same : Files → Images
 Same files c = (file : ℕ) → c file ≡ files file
 
--- what a write or a cut makes of what a crash could leave
+-- what a stop in a call makes of what a crash could leave before; one that only looks, or a sync, makes nothing of it
 abbrev pub StepsOnDisk : Call → Files → Files → Type 0
 StepsOnDisk (Write file at bytes done) old new = OnFile file (Torn at (length bytes.items)) old new
 StepsOnDisk (Cut file len done) old new = OnFile file (Shortened len) old new
-StepsOnDisk call old new = ⊥
+StepsOnDisk call old new = new ≡ old
 
 -- what a crash leaves after a call, by what the files read before it: after a write or a cut the files as they read,
 -- or a part of it made of something that a crash could leave before; after a sync that succeeds the files as they read
@@ -46,6 +46,11 @@ step_images (Read file at count done) files images c = images c
 step_images (Sync false) files images c = images c
 step_images (Sync true) files images c = Same files c
 step_images call files images c = Same (step_seen call files) c ⊎ ((d : Files) × images d × StepsOnDisk call d c)
+
+-- the call is a sync that was done
+abbrev pub settles : Call → Bool
+settles (Sync done) = done
+settles call = false
 
 -- the call only looks, or is a sync
 abbrev pub IsLook : Call → Type 0
@@ -82,6 +87,10 @@ images_now calls first = images_after calls first (Same first)
 -- what a crash leaves after so many of the calls on a device that began with these files
 abbrev pub images_at : ℕ → List Call → Files → Images
 images_at k calls first = images_now (take k calls) first
+
+-- a stop in the call of this place leaves what a crash before it leaves, or one after it
+abbrev pub IsLeftIn : ℕ → List Call → Files → Images
+IsLeftIn k calls first c = images_at k calls first c ⊎ images_at (k + 1) calls first c
 
 -- what a crash left after some number of the calls, this or more
 abbrev pub left_after : ℕ → List Call → Files → Images

@@ -1,10 +1,10 @@
 -- What a device in memory is by its record.
 use Rattle.std.specs.Prelude.{◌≡◌, ℕ, ◌≤◌, List, [], ◌∷◌, length, take, true, false}
-use Rattle.std.proofs.Common.{refl, sym, subst, inl, arith, ap, ◌∙◌}
+use Rattle.std.proofs.Common.{refl, sym, subst, inl, arith}
 use Rattle.std.proofs.lemmas.List.{take_all}
 use Rattle.fts_disk.specs.Device.{Files}
 use Rattle.fts_disk.specs.Crash.{Images}
-use Rattle.fts_disk.specs.Replay.{Same, step_seen, step_images, seen_after, images_after, images_now, images_at, left_after}
+use Rattle.fts_disk.specs.Replay.{Same, step_seen, step_images, seen_after, images_after, images_now}
 use Rattle.fts_disk.specs.declared.memory.Call.{Call}
 use Rattle.fts_disk.specs.declared.memory.Call.TheVariants.{Len, Read, Write, Cut, Sync}
 use Rattle.fts_disk.specs.declared.memory.MemDisk.{MemDisk}
@@ -32,7 +32,9 @@ whole calls k le = take_all k calls le
 
 pub left_now : (disk : MemDisk) (t : ℕ) (c : Files) → t ≤ mem_moment disk → mem_images disk c → mem_left_since disk t c
 left_now disk t c le here = (
-  length (mem_calls disk), le, omega arith,
+  length (mem_calls disk),
+  le,
+  omega arith,
   subst (λ (calls : List Call). images_now calls (mem_first disk) c) (sym (whole (mem_calls disk) (length (mem_calls disk)) (omega arith))) here,
 )
 

@@ -4,9 +4,11 @@ ghost use Rattle.fts_disk.specs.Crash.{Within, Follows, Only, Elapses};
 ghost use Rattle.fts_disk.specs.Contents.{contents};
 ghost use Rattle.fts_faults.specs.Count.{HasCause, Rose};
 
+mod pick;
 mod recorded;
 
 use crate::{Disk, Failed};
+use pick::image_in;
 use recorded::Recorded;
 use std::alloc::{AllocError, Global};
 
@@ -107,6 +109,7 @@ impl Counters {
 
 impl MemDisk {
     ghost use Rattle.fts_disk.specs.Memory.{mem_files, mem_first, mem_calls, mem_fails, mem_made, mem_faults, mem_refused, IsNamed, one_more};
+    ghost use Rattle.fts_disk.specs.Replay.{IsLeftIn};
 
     /// A device with these files, from file 0 on, and with the calls that fail. It has no calls and no faults.
     pub fn from_files(
@@ -145,6 +148,26 @@ impl MemDisk {
         ensures { result.now ≡ mem_calls self.now }
     {
         &self.recorded.calls
+    }
+
+    /// The disk as a stop in the call of this place in the record may leave it, from 0, with no calls that fail.
+    ///
+    /// A number chooses. Each write and cut since the last sync that was done takes a digit of it to the base 16,
+    /// the lowest first. The digit's remainder by 4 says how much of the call was done: nothing, half of its bytes,
+    /// all but one, or all. Its quotient by 4 says what stands in the rest of a write's range: what stood there, zeros,
+    /// ones or `ff`. A stop in a sync leaves what was pending before it.
+    pub fn pick_image(&self, call: usize, choice: u64) -> Result<MemDisk, AllocError>
+        requires { call < length (mem_calls self.now) }
+        ensures image { IfOk result (λ disk. IsLeftIn call (mem_calls self.now) (mem_first self.now) (mem_files disk)) }
+        ensures durable { IfOk result (λ disk. mem_first disk ≡ mem_files disk) }
+        ensures calls { IfOk result (λ disk. mem_calls disk ≡ []) }
+        ensures fails { IfOk result (λ disk. mem_fails disk ≡ []) }
+        ensures faults { IfOk result (λ disk. mem_faults disk ≡ 0) }
+    {
+        let recorded = &self.recorded;
+        let alloc = recorded.alloc;
+        let image = image_in(alloc, &recorded.first, &recorded.calls, call, choice)?;
+        MemDisk::from_files(alloc, image, Vec::new(alloc))
     }
 
     /// How often it found no memory for a call.
@@ -256,7 +279,7 @@ impl Disk for MemDisk {
         ensures listed { AnswersAsListed Kind.Sync self.old self.new result }
     {
         let named = self.counters.is_named(Kind::Sync);
-        let noted = self.recorded.note(Call::Sync { done: !named });
+        let noted = self.recorded.sync(!named);
         self.counters.settle(named, noted)
     }
 

@@ -1,7 +1,7 @@
 //! The files of a device in memory, with a record of the calls on them.
 ghost use Rattle.std.specs.Prelude.{◌≡◌, ◌+◌, ◌<◌, ◌≤◌, ◌++◌, ◌∷◌, [], false, length, take, drop, All, IsTrue, IfOk, OnOk, OnErr};
 ghost use Rattle.fts_disk.specs.Device.{OnFile, Holds, Torn, Shortened};
-ghost use Rattle.fts_disk.specs.Crash.{Within, Follows, Elapses};
+ghost use Rattle.fts_disk.specs.Crash.{Within, Follows, Only, Elapses};
 ghost use Rattle.fts_disk.specs.Contents.{contents};
 ghost use Rattle.fts_disk.specs.Replay.{seen_after, step_seen, IsLook, IsOfFile, IsWriteOf, IsCutOf};
 
@@ -63,6 +63,18 @@ impl Recorded {
         Ok(self.calls.push(call)?)
     }
 
+    /// Puts a sync into the record, as one that was done or that failed.
+    pub(crate) fn sync(&mut self, done: bool) -> Result<(), AllocError>
+        ensures durable { OnOk result (IsTrue done → Only (files_of self.new) (images_of self.new)) }
+        ensures files { self.new.files ≡ self.old.files }
+        ensures first { self.new.first ≡ self.old.first }
+        ensures crash { Within (images_of self.old) (images_of self.new) }
+        ensures time { Elapses (moment_of self.old) (moment_of self.new) (left_of self.old) (left_of self.new) (images_of self.new) }
+        ensures ticks { OnOk result (moment_of self.old < moment_of self.new) }
+    {
+        self.note(Call::Sync { done })
+    }
+
     /// Puts a write into the record, and does it, if it is to be done.
     pub(crate) fn write(
         &mut self,
@@ -81,7 +93,15 @@ impl Recorded {
         ensures time { Elapses (moment_of self.old) (moment_of self.new) (left_of self.old) (left_of self.new) (images_of self.new) }
         ensures ticks { OnOk result (moment_of self.old < moment_of self.new) }
     {
-        write_noted(self.alloc, &mut self.files, &mut self.calls, file, at, bytes, done)
+        write_noted(
+            self.alloc,
+            &mut self.files,
+            &mut self.calls,
+            file,
+            at,
+            bytes,
+            done,
+        )
     }
 
     /// Puts a cut into the record, and does it, if it is to be done.

@@ -1,6 +1,5 @@
 use Rattle.std.proofs.Common.{refl}
 use Rattle.std.proofs.lemmas.Result.{on_ok_weaker}
-use Rattle.fts_disk.specs.Contents.{contents}
 use Rattle.fts_disk.proofs.Changing.{wrote, not_written}
 use Rattle.fts_disk.proofs.memory.recorded.write_noted.Goals as goal
 

@@ -1,11 +1,11 @@
-use Rattle.std.proofs.Common.{◌≡◌, ◌≤◌, List, ℕ, length, subst, sym, ap, refl, arith}
+use Rattle.std.proofs.Common.{◌≤◌, length, subst, sym, refl, arith}
 use Rattle.fts_disk.specs.Device.{Files, OnFile, Torn}
 use Rattle.fts_disk.specs.Memory.{first_of, files_of, images_of}
 use Rattle.fts_disk.specs.Contents.{contents}
 use Rattle.fts_disk.specs.Replay.{IsWriteOf, IsOfFile, Same, seen_after}
 use Rattle.fts_disk.specs.ReplayLaws.{stays}
 use Rattle.fts_disk.proofs.Torn.{torn_none, none_here}
-use Rattle.fts_disk.proofs.Changing.{Changed, changed_on, changed_tied, changed_proper, changed_elapses, changed_follows, write_leaves}
+use Rattle.fts_disk.proofs.Changing.{changed_on, changed_tied, changed_proper, changed_elapses, changed_follows, write_leaves}
 use Rattle.fts_disk.proofs.memory.recorded.Recorded.write.Goals as goal
 
 pub invariant_of-self : goal.invariant_of-self
