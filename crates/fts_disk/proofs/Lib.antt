@@ -3,3 +3,4 @@ pub mod Recording
 pub mod Torn
 pub mod Changing
 pub mod Picking
+pub mod Runs
