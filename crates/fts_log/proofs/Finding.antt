@@ -2,7 +2,7 @@
 use Rattle.std.proofs.Common.{◌≡◌, ℕ, ◌+◌, ◌<◌, ◌≤◌, List, [], ◌∷◌, ◌++◌, length, take, drop, min, get_or, Some, Bool, true, false, IsTrue, sym, ◌∙◌, ap, subst, append_assoc, length-append, arith}
 use Rattle.std.proofs.lemmas.List.{take_at, take-take, take_all, length-take}
 use Rattle.fts_disk.specs.Device.{Files}
-use Rattle.fts_disk.specs.Crash.{Images, Only, Within}
+use Rattle.fts_disk.specs.Crash.{Only}
 use Rattle.fts_disk.specs.declared.disk.Disk.{Ghosts}
 use Rattle.fts_log.specs.declared.log.Log.{Log}
 use Rattle.fts_log.specs.declared.found.Found.{Found}
@@ -57,7 +57,3 @@ module _ {D : Type 0} {disk : Ghosts D} (log : Log D disk) (entries : List (List
       subst (λ (file : List ℕ). IsAt file payload (start_of ends k) (get_or ends k 0)) (sym file)
       (subst (λ (from : ℕ). IsAt (magic_of log ++ (records entries ++ stands.is_log.gate ∷ stands.is_log.rest)) payload from (get_or ends k 0)) (sym (start_of-take ends all k head small))
       (subst (λ (to : ℕ). IsAt (magic_of log ++ (records entries ++ stands.is_log.gate ∷ stands.is_log.rest)) payload (start_in 8 all k) to) (sym (end-take ends all k head small)) there))
-
--- a sync that was done, and then looks
-pub only_stays : (old new : Files) (images images' : Images) → Only old images → Within images images' → new ≡ old → Only new images'
-only_stays old new images images' only within same c may file = only c (within c may) file ∙ ap (λ (files : Files). files file) (sym same)

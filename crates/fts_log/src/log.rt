@@ -53,7 +53,7 @@ impl<D: Disk> Log<D> {
         ensures durable { OnOk result (IsTrue D.tells → Only (D.seen (device_of self.new)) (D.images (device_of self.new))) }
         ensures any_moment { IsTrue D.tells → (entries : List (List ℕ)) → StandsFor entries self.old
             → LeavesOnly D.Disk (device_of self.old) (device_of self.new)
-                (IsBeforeOrAfter (magic_of self.old) entries (payload_of framed.now) (D.images (device_of self.old)) (D.seen (device_of self.old))) }
+            (IsBeforeOrAfter (magic_of self.old) entries (payload_of framed.now) (D.images (device_of self.old)) (D.seen (device_of self.old))) }
         ensures counted { OnOk result (count_of self.new ≡ count_of self.old + 1) }
         ensures grown { OnOk result (end_of self.new ≡ end_after self.old framed.now) }
         ensures others { IsTrue D.tells → SameOthers (D.seen (device_of self.old)) (D.seen (device_of self.new)) }

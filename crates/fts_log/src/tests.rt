@@ -126,7 +126,8 @@ fn a_log_with_one_byte_flipped_is_another_log_or_damaged(rt: HostRuntime) -> Res
         (1, 12, 13, Ok(1)),
         (1, 13, 33, Ok(2)),
         (1, 33, 34, Ok(1)),
-        (1, 34, 38, damaged(33)),
+        (1, 34, 37, damaged(33)),
+        (1, 37, 38, damaged(59)),
         (1, 38, 58, Ok(2)),
         (1, 58, 59, damaged(58)),
     ] {
@@ -159,7 +160,9 @@ fn bytes_behind_the_closed_gate_are_no_entries(rt: HostRuntime) -> Result<(), Fa
 }
 
 #[test]
-fn a_stop_in_each_call_of_an_append_leaves_the_old_entries_or_the_new(rt: HostRuntime) -> Result<(), Fail> {
+fn a_stop_in_each_call_of_an_append_leaves_the_old_entries_or_the_new(
+    rt: HostRuntime,
+) -> Result<(), Fail> {
     let alloc = rt.alloc();
     let mut log = created(alloc, Vec::new(alloc))?;
     assert_eq!(rt; log.append(&framed(alloc, &SETTINGS)?), Ok(0));
@@ -173,7 +176,11 @@ fn a_stop_in_each_call_of_an_append_leaves_the_old_entries_or_the_new(rt: HostRu
         for (call, want) in [(7, 1), (8, 1), (9, *opened), (10, *opened), (11, 2)] {
             let image = disk.pick_image(call, choice as u64)?;
             let bytes = image.file(0).to_vec(alloc)?;
-            assert_eq!(rt; found(alloc, bytes)?, Ok(want), "in call {call} by {choice}");
+            assert_eq!(rt;
+                found(alloc, bytes)?,
+                Ok(want),
+                "in call {call} by {choice}"
+            );
         }
     }
     Ok(())

@@ -54,4 +54,3 @@ returns-in_err-push-in-Whole-clause-crash g c told = leaves_more g.D.Disk c.args
 
 pub returns-in-Broken-clause-crash : goal.returns-in-Broken-clause-crash
 returns-in-Broken-clause-crash g c told = leaves_more g.D.Disk c.args.device.now c.records.device c.place_at.new.device (c.records.invariant.crash told) (c.place_at.ensures.crash told)
-
