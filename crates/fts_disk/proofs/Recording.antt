@@ -103,3 +103,9 @@ synced old new first files done grew is_done tied c here file =
     let Step : Bool → Type 0 = λ done. step_images (Sync done) (seen_after old first) (images_now old first) c in
     let same : Same (seen_after old first) c = subst Step is_done (images_push old (Sync done) first (Same first) c (subst (λ (calls : List Call). images_now calls first c) grew here)) in
     same file ∙ ap (λ (files : Files). files file) (sym tied)
+
+-- a sync that failed leaves what was pending
+pub still_pending : (old new : List Call) (first : Files) (done : Bool) → Grew (Sync done) old new → done ≡ false → Within (images_now new first) (images_now old first)
+still_pending old new first done grew failed c may =
+    let Step : Bool → Type 0 = λ done. step_images (Sync done) (seen_after old first) (images_now old first) c in
+    of_both (λ calls. images_now calls first c) (Sync done) old new grew (images_pushed old (Sync done) first (Same first) c (subst Step (sym failed) may)) may

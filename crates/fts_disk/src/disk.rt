@@ -82,6 +82,7 @@ pub trait Disk {
     fn sync(&mut self) -> Result<(), Failed>
         ensures seen { IsTrue tells → seen self.new ≡ seen self.old }
         ensures durable { OnOk result (IsTrue tells → Only (seen self.new) (images self.new)) }
+        ensures pending { OnErr result (IsTrue tells → Within (images self.new) (images self.old)) }
         ensures crash { IsTrue tells → Within (images self.old) (images self.new) }
         ensures time { IsTrue tells → Elapses (moment self.old) (moment self.new) (left_since self.old) (left_since self.new) (images self.new) }
         ensures ticks { OnOk result (IsTrue tells → moment self.old < moment self.new) }

@@ -272,6 +272,7 @@ impl Disk for MemDisk {
     fn sync(&mut self) -> Result<(), Failed>
         ensures seen { mem_files self.new ≡ mem_files self.old }
         ensures durable { OnOk result (Only (mem_files self.new) (mem_images self.new)) }
+        ensures pending { OnErr result (Within (mem_images self.new) (mem_images self.old)) }
         ensures crash { Within (mem_images self.old) (mem_images self.new) }
         ensures time { Elapses (mem_moment self.old) (mem_moment self.new) (mem_left_since self.old) (mem_left_since self.new) (mem_images self.new) }
         ensures ticks { OnOk result (mem_moment self.old < mem_moment self.new) }

@@ -1,5 +1,5 @@
-ghost use Rattle.std.specs.Prelude.{◌^◌, ◌<◌, [], length, IfOk};
-ghost use Rattle.fts_log.specs.Log.{StandsFor};
+ghost use Rattle.std.specs.Prelude.{◌^◌, ◌<◌, [], length, IfOk, OnOk};
+ghost use Rattle.fts_log.specs.Log.{StandsFor, IsReady};
 
 use super::*;
 use fts_disk::{Call, Disk, Kind, MemDisk};
@@ -25,6 +25,15 @@ fn framed(alloc: Global, payload: &[u8]) -> Result<Framed, Fail>
     Ok(framed)
 }
 
+// Appends an entry, and returns its number.
+fn append(alloc: Global, log: &mut Log<MemDisk>, payload: &[u8]) -> Result<u64, Fail>
+    requires room { length payload.now < 2 ^ 32 }
+    requires ready { IsReady log.old }
+    ensures ready { OnOk result (IsReady log.new) }
+{
+    Ok(log.append(&framed(alloc, payload)?)?)
+}
+
 // A log without entries on a device whose listed calls fail.
 fn created(alloc: Global, fails: Vec<(Kind, u64)>) -> Result<Log<MemDisk>, Fail>
     ensures { IfOk result (λ log. StandsFor [] log) }
@@ -40,9 +49,9 @@ fn created(alloc: Global, fails: Vec<(Kind, u64)>) -> Result<Log<MemDisk>, Fail>
 fn two_entries_are_written_byte_for_byte(rt: HostRuntime) -> Result<(), Fail> {
     let alloc = rt.alloc();
     let mut log = created(alloc, Vec::new(alloc))?;
-    assert_eq!(rt; log.append(&framed(alloc, &SETTINGS)?), Ok(0));
+    assert_eq!(rt; append(alloc, &mut log, &SETTINGS)?, 0);
     assert_eq!(rt; log.end(), 34);
-    assert_eq!(rt; log.append(&framed(alloc, &INSERTION)?), Ok(1));
+    assert_eq!(rt; append(alloc, &mut log, &INSERTION)?, 1);
     assert_eq!(rt; (log.count(), log.end(), log.faults()), (2, 59, 0));
     let disk = log.close();
     assert_eq!(rt; disk.file(0), BYTES.as_slice());
@@ -102,7 +111,8 @@ fn a_log_cut_at_each_length_is_damaged_at_a_place(rt: HostRuntime) -> Result<(),
         (59, 60, Ok(2)),
     ] {
         for size in from..to {
-            let bytes = BYTES[..size].to_vec(alloc)?;
+            let mut bytes = BYTES.to_vec(alloc)?;
+            bytes.truncate(size);
             assert_eq!(rt; found(alloc, bytes)?, want, "at {size}");
         }
     }
@@ -133,7 +143,9 @@ fn a_log_with_one_byte_flipped_is_another_log_or_damaged(rt: HostRuntime) -> Res
     ] {
         for place in from..to {
             let mut bytes = BYTES.to_vec(alloc)?;
-            bytes[place] ^= flip;
+            if let Some(byte) = bytes.get_mut(place) {
+                *byte ^= flip;
+            }
             assert_eq!(rt; found(alloc, bytes)?, want, "at {place} by {flip}");
         }
     }
@@ -165,8 +177,8 @@ fn a_stop_in_each_call_of_an_append_leaves_the_old_entries_or_the_new(
 ) -> Result<(), Fail> {
     let alloc = rt.alloc();
     let mut log = created(alloc, Vec::new(alloc))?;
-    assert_eq!(rt; log.append(&framed(alloc, &SETTINGS)?), Ok(0));
-    assert_eq!(rt; log.append(&framed(alloc, &INSERTION)?), Ok(1));
+    assert_eq!(rt; append(alloc, &mut log, &SETTINGS)?, 0);
+    assert_eq!(rt; append(alloc, &mut log, &INSERTION)?, 1);
     let mut disk = log.close();
     disk.sync()?;
     assert!(rt; disk.calls().len() == 12);

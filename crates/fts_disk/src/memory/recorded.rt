@@ -66,6 +66,8 @@ impl Recorded {
     /// Puts a sync into the record, as one that was done or that failed.
     pub(crate) fn sync(&mut self, done: bool) -> Result<(), AllocError>
         ensures durable { OnOk result (IsTrue done → Only (files_of self.new) (images_of self.new)) }
+        ensures pending { done ≡ false → Within (images_of self.new) (images_of self.old) }
+        ensures not_noted { OnErr result (Within (images_of self.new) (images_of self.old)) }
         ensures files { self.new.files ≡ self.old.files }
         ensures first { self.new.first ≡ self.old.first }
         ensures crash { Within (images_of self.old) (images_of self.new) }
