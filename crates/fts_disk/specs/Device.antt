@@ -1,4 +1,4 @@
-use Rattle.std.specs.Prelude.{◌≡◌, ◌≢◌, ℕ, ◌+◌, ◌≤◌, List, ◌++◌, length, take, drop, max}
+use Rattle.std.specs.Prelude.{◌≡◌, ◌≢◌, ℕ, ◌+◌, ◌≤◌, List, ◌++◌, length, take, drop, max, min}
 
 -- what the files of a device hold, by their numbers; a file that was never written is empty
 abbrev pub Files : Type 0
@@ -20,3 +20,8 @@ pub record Torn (at n : ℕ) (old new : List ℕ) : Type 0 where
   pub after : drop (at + n) new ≡ drop (at + n) old
   pub no_shorter : length old ≤ length new
   pub no_longer : length new ≤ max (length old) (at + n)
+
+-- a cut to n bytes that a crash stopped: a front of the file, no shorter than the cut wants
+pub record Shortened (n : ℕ) (old new : List ℕ) : Type 0 where
+  pub no_shorter : min n (length old) ≤ length new
+  pub front : take (length new) old ≡ new

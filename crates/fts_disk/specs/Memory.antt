@@ -1,11 +1,14 @@
-use Rattle.std.specs.Prelude.{◌≡◌, ◌+◌, ◌-◌, ◌^◌, ◌⊎◌, ℕ, List, min, slice_index, slice_set, Contains, Result, IsErr, OnOk}
+use Rattle.std.specs.Prelude.{◌≡◌, ◌+◌, ◌-◌, ◌^◌, ◌⊎◌, ℕ, List, length, min, slice_index, slice_set, Contains, Result, IsErr, OnOk}
 use Rattle.fts_faults.specs.Count.{Rose}
 use Rattle.fts_disk.specs.Device.{Files}
 use Rattle.fts_disk.specs.Contents.{contents}
+use Rattle.fts_disk.specs.Crash.{Images}
+use Rattle.fts_disk.specs.Replay.{images_now, left_after}
 use Rattle.fts_disk.specs.declared.memory.Call.{Call}
 use Rattle.fts_disk.specs.declared.memory.Kind.{Kind}
 use Rattle.fts_disk.specs.declared.memory.Kind.TheVariants.{Len, Read, Write, Cut, Sync}
 use Rattle.fts_disk.specs.declared.memory.MemDisk.{MemDisk}
+use Rattle.fts_disk.specs.declared.memory.recorded.Recorded.{Recorded}
 
 -- the place of a kind among the counts of calls
 abbrev pub place_of : Kind → ℕ
@@ -27,13 +30,49 @@ one_more kind made = slice_set made (place_of kind) (next_number kind made)
 abbrev pub IsNamed : Kind → List (Kind × ℕ) → List ℕ → Type 0
 IsNamed kind fails made = Contains fails (kind, next_number kind made)
 
+-- what the files of a record held when it began
+abbrev pub first_of : Recorded → Files
+first_of recorded = contents recorded.first.items
+
+-- what the files of a record hold
+abbrev pub files_of : Recorded → Files
+files_of recorded = contents recorded.files.items
+
+-- what a crash now may leave
+abbrev pub images_of : Recorded → Images
+images_of recorded = images_now recorded.calls.items (first_of recorded)
+
+-- the clock: how many calls there were
+abbrev pub moment_of : Recorded → ℕ
+moment_of recorded = length recorded.calls.items
+
+-- what a crash at some moment since a given one might have left
+abbrev pub left_of : Recorded → ℕ → Images
+left_of recorded moment = left_after moment recorded.calls.items (first_of recorded)
+
 -- what the files of the disk hold
 abbrev pub mem_files : MemDisk → Files
-mem_files disk = contents disk.recorded.files.items
+mem_files disk = files_of disk.recorded
+
+-- what the files held when the disk was made
+abbrev pub mem_first : MemDisk → Files
+mem_first disk = first_of disk.recorded
 
 -- its record of calls
 abbrev pub mem_calls : MemDisk → List Call
 mem_calls disk = disk.recorded.calls.items
+
+-- what a crash now may leave
+abbrev pub mem_images : MemDisk → Images
+mem_images disk = images_of disk.recorded
+
+-- its clock: how many calls stand in its record
+abbrev pub mem_moment : MemDisk → ℕ
+mem_moment disk = moment_of disk.recorded
+
+-- what a crash at some moment since a given one might have left
+abbrev pub mem_left_since : MemDisk → ℕ → Images
+mem_left_since disk = left_of disk.recorded
 
 -- which calls fail, by their kind and their number from 1
 abbrev pub mem_fails : MemDisk → List (Kind × ℕ)

@@ -1,9 +1,15 @@
-ghost use Rattle.std.specs.Prelude.{◌≡◌, ◌⊎◌, ◌+◌, ◌^◌, ◌<◌, ◌≤◌, ◌++◌, ◌∷◌, ◌↔◌, [], true, false, length, replicate, take, drop, IsTrue, IfOk, OnOk, OnErr, IsOk, IsErr, IsErrOf};
-ghost use Rattle.fts_disk.specs.Device.{Files, OnFile, Holds, Torn};
+ghost use Rattle.std.specs.Prelude.{◌≡◌, ◌⊎◌, ◌+◌, ◌^◌, ◌<◌, ◌≤◌, ◌↔◌, [], true, length, replicate, take, drop, IsTrue, IfOk, OnOk, OnErr, IsErr};
+ghost use Rattle.fts_disk.specs.Device.{Files, OnFile, Holds, Torn, Shortened};
+ghost use Rattle.fts_disk.specs.Crash.{Within, Follows, Only, Elapses};
 ghost use Rattle.fts_disk.specs.Contents.{contents};
 ghost use Rattle.fts_faults.specs.Count.{HasCause, Rose};
 
+mod pick;
+mod recorded;
+
 use crate::{Disk, Failed};
+use pick::image_in;
+use recorded::Recorded;
 use std::alloc::{AllocError, Global};
 
 /// A kind of call, by which a list of failing calls names them.
@@ -54,15 +60,6 @@ struct Counters {
     refused: u64,
 }
 
-// Files 0 to 15 and more, with a record of the calls on them.
-#[derive(Debug, Drop)]
-struct Recorded {
-    alloc: Global,
-    files: Vec<Vec<u8>>,
-    calls: Vec<Call>,
-    ghost sixteen: { 16 ≤ length files.items },
-}
-
 /// A device in memory, which tells its content and keeps a record of its calls.
 ///
 /// A list names the calls that fail, by their kind and by their number among the calls of this kind, from 1.
@@ -110,103 +107,9 @@ impl Counters {
     }
 }
 
-// Writes over the bytes from a place on, and past the end.
-fn overwrite(file: &mut Vec<u8>, at: usize, bytes: &[u8]) -> Result<(), AllocError>
-    requires { at ≤ length file.old.items }
-    ensures written { OnOk result (Holds at bytes.now file.old.items file.new.items) }
-    ensures kept { OnErr result (file.new.items ≡ file.old.items) }
-{
-    let over = bytes.len().min(file.len() - at);
-    file.extend_from_slice(&bytes[over..])?;
-    file[at..at + over].copy_from_slice(&bytes[..over]);
-    Ok(())
-}
-
-// Writes over the bytes of one file.
-fn overwrite_in(
-    files: &mut Vec<Vec<u8>>,
-    file: u32,
-    at: u64,
-    bytes: &[u8],
-) -> Result<(), AllocError>
-    requires file { file < length files.old.items }
-    requires within { at ≤ length (contents files.old.items file) }
-    ensures written { OnOk result (OnFile file (Holds at bytes.now) (contents files.old.items) (contents files.new.items)) }
-    ensures kept { OnErr result (contents files.new.items ≡ contents files.old.items) }
-    ensures count { length files.new.items ≡ length files.old.items }
-{
-    overwrite(&mut files[file as usize], at as usize, bytes)
-}
-
-// Cuts one file.
-fn cut_in(files: &mut Vec<Vec<u8>>, file: u32, len: u64)
-    requires { file < length files.old.items }
-    ensures shorter { OnFile file (λ old new. new ≡ take len old) (contents files.old.items) (contents files.new.items) }
-    ensures count { length files.new.items ≡ length files.old.items }
-{
-    files[file as usize].truncate(len as usize);
-}
-
-impl Recorded {
-    // The bytes of a file.
-    fn bytes(&self, file: u32) -> &[u8]
-        requires { file < 16 }
-        ensures { result.now ≡ contents self.now.files.items file }
-    {
-        &self.files[file as usize]
-    }
-
-    // Puts a call into the record.
-    fn note(&mut self, call: Call) -> Result<(), AllocError>
-        ensures noted { OnOk result (self.new.calls.items ≡ self.old.calls.items ++ call ∷ []) }
-        ensures not_noted { OnErr result (self.new.calls.items ≡ self.old.calls.items) }
-        ensures files { self.new.files ≡ self.old.files }
-    {
-        Ok(self.calls.push(call)?)
-    }
-
-    // Puts a write into the record, and does it, if it is to be done.
-    fn write(&mut self, file: u32, at: u64, bytes: &[u8], done: bool) -> Result<(), AllocError>
-        requires file { file < 16 }
-        requires within { at ≤ length (contents self.old.files.items file) }
-        ensures written { OnOk result (IsTrue done → OnFile file (Holds at bytes.now) (contents self.old.files.items) (contents self.new.files.items)) }
-        ensures not_done { done ≡ false → contents self.new.files.items ≡ contents self.old.files.items }
-        ensures kept { OnErr result (contents self.new.files.items ≡ contents self.old.files.items) }
-    {
-        let noted = bytes.to_vec(self.alloc)?;
-        self.note(Call::Write {
-            file,
-            at,
-            bytes: noted,
-            done,
-        })?;
-        if !done {
-            return Ok(());
-        }
-        let written = overwrite_in(&mut self.files, file, at, bytes);
-        if written.is_err() {
-            self.calls.pop();
-        }
-        written
-    }
-
-    // Puts a cut into the record, and does it, if it is to be done.
-    fn cut(&mut self, file: u32, len: u64, done: bool) -> Result<(), AllocError>
-        requires { file < 16 }
-        ensures shorter { OnOk result (IsTrue done → OnFile file (λ old new. new ≡ take len old) (contents self.old.files.items) (contents self.new.files.items)) }
-        ensures not_done { done ≡ false → contents self.new.files.items ≡ contents self.old.files.items }
-        ensures kept { OnErr result (contents self.new.files.items ≡ contents self.old.files.items) }
-    {
-        self.note(Call::Cut { file, len, done })?;
-        if done {
-            cut_in(&mut self.files, file, len);
-        }
-        Ok(())
-    }
-}
-
 impl MemDisk {
-    ghost use Rattle.fts_disk.specs.Memory.{mem_files, mem_calls, mem_fails, mem_made, mem_faults, mem_refused, IsNamed, one_more};
+    ghost use Rattle.fts_disk.specs.Memory.{mem_files, mem_first, mem_calls, mem_fails, mem_made, mem_faults, mem_refused, IsNamed, one_more};
+    ghost use Rattle.fts_disk.specs.Replay.{IsLeftIn};
 
     /// A device with these files, from file 0 on, and with the calls that fail. It has no calls and no faults.
     pub fn from_files(
@@ -215,17 +118,14 @@ impl MemDisk {
         fails: Vec<(Kind, u64)>,
     ) -> Result<MemDisk, AllocError>
         ensures files { IfOk result (λ disk. mem_files disk ≡ contents files.items) }
+        ensures first { IfOk result (λ disk. mem_first disk ≡ contents files.items) }
         ensures calls { IfOk result (λ disk. mem_calls disk ≡ []) }
         ensures fails { IfOk result (λ disk. mem_fails disk ≡ fails.items) }
         ensures made { IfOk result (λ disk. mem_made disk ≡ replicate 5 0) }
         ensures faults { IfOk result (λ disk. mem_faults disk ≡ 0) }
         ensures refused { IfOk result (λ disk. mem_refused disk ≡ 0) }
     {
-        let recorded = Recorded {
-            alloc,
-            files: sixteen(alloc, files)?,
-            calls: Vec::new(alloc),
-        };
+        let recorded = Recorded::from_files(alloc, files)?;
         let counters = Counters {
             fails,
             made: [0; 5],
@@ -250,6 +150,26 @@ impl MemDisk {
         &self.recorded.calls
     }
 
+    /// The disk as a stop in the call of this place in the record may leave it, from 0, with no calls that fail.
+    ///
+    /// A number chooses. Each write and cut since the last sync that was done takes a digit of it to the base 16,
+    /// the lowest first. The digit's remainder by 4 says how much of the call was done: nothing, half of its bytes,
+    /// all but one, or all. Its quotient by 4 says what stands in the rest of a write's range: what stood there, zeros,
+    /// ones or `ff`. A stop in a sync leaves what was pending before it.
+    pub fn pick_image(&self, call: usize, choice: u64) -> Result<MemDisk, AllocError>
+        requires { call < length (mem_calls self.now) }
+        ensures image { IfOk result (λ disk. IsLeftIn call (mem_calls self.now) (mem_first self.now) (mem_files disk)) }
+        ensures durable { IfOk result (λ disk. mem_first disk ≡ mem_files disk) }
+        ensures calls { IfOk result (λ disk. mem_calls disk ≡ []) }
+        ensures fails { IfOk result (λ disk. mem_fails disk ≡ []) }
+        ensures faults { IfOk result (λ disk. mem_faults disk ≡ 0) }
+    {
+        let recorded = &self.recorded;
+        let alloc = recorded.alloc;
+        let image = image_in(alloc, &recorded.first, &recorded.calls, call, choice)?;
+        MemDisk::from_files(alloc, image, Vec::new(alloc))
+    }
+
     /// How often it found no memory for a call.
     pub fn refused(&self) -> u64
         ensures { result ≡ mem_refused self.now }
@@ -259,11 +179,18 @@ impl MemDisk {
 }
 
 impl Disk for MemDisk {
-    ghost use Rattle.fts_disk.specs.Memory.{mem_files, mem_fails, mem_made, mem_faults, mem_refused, IsNamed, AnswersAsListed};
+    ghost use Rattle.fts_disk.specs.Memory.{mem_files, mem_images, mem_moment, mem_left_since, mem_fails, mem_made, mem_faults, mem_refused, IsNamed, AnswersAsListed};
+    ghost use Rattle.fts_disk.specs.ReplayLaws.{seen_stays, left_now, left_only_now};
 
     ghost tells = { true };
 
     ghost seen = { λ disk. mem_files disk };
+
+    ghost images = { λ disk. mem_images disk };
+
+    ghost moment = { λ disk. mem_moment disk };
+
+    ghost left_since = { λ disk. mem_left_since disk };
 
     ghost faults = { λ disk. mem_faults disk };
 
@@ -272,6 +199,9 @@ impl Disk for MemDisk {
         ensures small { IfOk result (λ n. n < 2 ^ 63) }
         ensures length { IfOk result (λ n. n ≡ length (mem_files self.old file)) }
         ensures seen { mem_files self.new ≡ mem_files self.old }
+        ensures crash { Within (mem_images self.old) (mem_images self.new) }
+        ensures time { Elapses (mem_moment self.old) (mem_moment self.new) (mem_left_since self.old) (mem_left_since self.new) (mem_images self.new) }
+        ensures ticks { OnOk result (mem_moment self.old < mem_moment self.new) }
         ensures cause { HasCause (mem_faults self.old) (mem_faults self.new) result }
         ensures listed { AnswersAsListed Kind.Len self.old self.new result }
     {
@@ -286,6 +216,9 @@ impl Disk for MemDisk {
         requires within { at + length buf.old ≤ length (mem_files self.old file) }
         ensures bytes { OnOk result (buf.new ≡ take (length buf.old) (drop at (mem_files self.old file))) }
         ensures seen { mem_files self.new ≡ mem_files self.old }
+        ensures crash { Within (mem_images self.old) (mem_images self.new) }
+        ensures time { Elapses (mem_moment self.old) (mem_moment self.new) (mem_left_since self.old) (mem_left_since self.new) (mem_images self.new) }
+        ensures ticks { OnOk result (mem_moment self.old < mem_moment self.new) }
         ensures cause { HasCause (mem_faults self.old) (mem_faults self.new) result }
         ensures listed { AnswersAsListed Kind.Read self.old self.new result }
     {
@@ -308,6 +241,9 @@ impl Disk for MemDisk {
         ensures written { OnOk result (OnFile file (Holds at bytes.now) (mem_files self.old) (mem_files self.new)) }
         ensures torn { OnErr result (OnFile file (Torn at (length bytes.now)) (mem_files self.old) (mem_files self.new)) }
         ensures kept { OnErr result (mem_files self.new ≡ mem_files self.old) }
+        ensures crash { Follows (OnFile file (Torn at (length bytes.now))) (mem_images self.old) (mem_images self.new) }
+        ensures time { Elapses (mem_moment self.old) (mem_moment self.new) (mem_left_since self.old) (mem_left_since self.new) (mem_images self.new) }
+        ensures ticks { OnOk result (mem_moment self.old < mem_moment self.new) }
         ensures cause { HasCause (mem_faults self.old) (mem_faults self.new) result }
         ensures listed { AnswersAsListed Kind.Write self.old self.new result }
     {
@@ -322,6 +258,9 @@ impl Disk for MemDisk {
         ensures shorter { OnOk result (OnFile file (λ old new. new ≡ take len old) (mem_files self.old) (mem_files self.new)) }
         ensures either { OnErr result ((mem_files self.new ≡ mem_files self.old) ⊎ OnFile file (λ old new. new ≡ take len old) (mem_files self.old) (mem_files self.new)) }
         ensures kept { OnErr result (mem_files self.new ≡ mem_files self.old) }
+        ensures crash { Follows (OnFile file (Shortened len)) (mem_images self.old) (mem_images self.new) }
+        ensures time { Elapses (mem_moment self.old) (mem_moment self.new) (mem_left_since self.old) (mem_left_since self.new) (mem_images self.new) }
+        ensures ticks { OnOk result (mem_moment self.old < mem_moment self.new) }
         ensures cause { HasCause (mem_faults self.old) (mem_faults self.new) result }
         ensures listed { AnswersAsListed Kind.Cut self.old self.new result }
     {
@@ -332,29 +271,28 @@ impl Disk for MemDisk {
 
     fn sync(&mut self) -> Result<(), Failed>
         ensures seen { mem_files self.new ≡ mem_files self.old }
+        ensures durable { OnOk result (Only (mem_files self.new) (mem_images self.new)) }
+        ensures pending { OnErr result (Within (mem_images self.new) (mem_images self.old)) }
+        ensures crash { Within (mem_images self.old) (mem_images self.new) }
+        ensures time { Elapses (mem_moment self.old) (mem_moment self.new) (mem_left_since self.old) (mem_left_since self.new) (mem_images self.new) }
+        ensures ticks { OnOk result (mem_moment self.old < mem_moment self.new) }
         ensures cause { HasCause (mem_faults self.old) (mem_faults self.new) result }
         ensures listed { AnswersAsListed Kind.Sync self.old self.new result }
     {
         let named = self.counters.is_named(Kind::Sync);
-        let noted = self.recorded.note(Call::Sync { done: !named });
+        let noted = self.recorded.sync(!named);
         self.counters.settle(named, noted)
     }
 
     fn faults(&self) -> u64 {
         self.counters.faults
     }
-}
 
-// The files, and empty ones up to file 15.
-fn sixteen(alloc: Global, files: Vec<Vec<u8>>) -> Result<Vec<Vec<u8>>, AllocError>
-    ensures same { IfOk result (λ all. contents all.items ≡ contents files.items) }
-    ensures sixteen { IfOk result (λ all. 16 ≤ length all.items) }
-{
-    let mut all = files;
-    for _ in all.len()..16 {
-        all.push(Vec::new(alloc))?;
-    }
-    Ok(all)
+    ghost seen_may_stay = { λ disk told. seen_stays disk };
+
+    ghost counts_now = { λ disk t c told. left_now disk t c };
+
+    ghost only_now = { λ disk c told. left_only_now disk c };
 }
 
 #[cfg(test)]

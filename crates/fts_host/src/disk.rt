@@ -105,6 +105,12 @@ impl<R: Files<File = File>> Disk for HostDisk<R> {
 
     ghost seen = { λ _ _. [] };
 
+    ghost images = { λ _ _. Unit {0} };
+
+    ghost moment = { λ _. 0 };
+
+    ghost left_since = { λ _ _ _. Unit {0} };
+
     ghost faults = { λ disk. host_faults disk };
 
     fn len(&mut self, file: u32) -> Result<u64, Failed>
@@ -167,6 +173,12 @@ impl<R: Files<File = File>> Disk for HostDisk<R> {
     fn faults(&self) -> u64 {
         self.faults.count
     }
+
+    ghost seen_may_stay = { λ _ _. tt };
+
+    ghost counts_now = { λ _ _ _ _ _ _. tt };
+
+    ghost only_now = { λ _ _ _ _. tt };
 }
 
 // Makes all files durable, and then their names.

@@ -2,7 +2,8 @@
 //!
 //! **This crate is trusted.** Its contracts say only that each failure is counted, since no contract speaks of
 //! what the system keeps or shows. So its types tell nothing of content, and a reader has to believe that each call
-//! does to the system what its page says. What reads or writes here:
+//! does to the system what its page says, and that the system keeps of a `HostDisk` what `docs/PROOF.md`, "What is
+//! assumed of a disk", says of each call. What reads or writes here:
 //!
 //! - `HostDisk` opens, makes, reads, writes, cuts and syncs files of one folder, and makes the folder.
 //! - `StdSource` reads from a reader of std, as standard input.

@@ -3,6 +3,7 @@ use Rattle.std.proofs.Common.{◌≡◌, ◌≢◌, ℕ, ◌+◌, ◌^◌, ◌�
 use Rattle.std.proofs.lemmas.Bool.{cases_eq}
 use Rattle.std.proofs.lemmas.List.Elements.{All-push}
 use Rattle.fts_disk.specs.Device.{Files, Holds, Torn}
+use Rattle.fts_disk.specs.Crash.{OnlyIn}
 use Rattle.fts_disk.specs.declared.disk.Disk.{Ghosts}
 use Rattle.fts_log.specs.declared.log.Log.{Log}
 use Rattle.fts_log.specs.Log.{StandsFor, device_of, magic_of, count_of, end_of, found_ends, found_count}
@@ -78,8 +79,9 @@ module _ (magic : List ℕ) (entries : List (List ℕ)) (payload : List ℕ) whe
 pub stands_after : {D : Type 0} {disk : Ghosts D} (entries : List (List ℕ)) (payload : List ℕ) (old new : Log D disk) → StandsFor entries old
     → IsLog (magic_of new) (entries ++ payload ∷ []) (disk.seen (device_of new) 0)
     → magic_of new ≡ magic_of old → found_ends new ≡ found_ends old
+    → OnlyIn 0 (disk.seen (device_of new)) (disk.images (device_of new))
     → end_of new ≡ end_of old + length (staged payload) → count_of new ≡ count_of old + 1 → StandsFor (entries ++ payload ∷ []) new
-stands_after entries payload old new stands is_log magic found «end» count =
+stands_after entries payload old new stands is_log magic found durable «end» count =
     let L = length (magic_of old) in
     let last = L + length (records entries) + length (record_of payload) in
     let stays : found_ends old ≡ take (length (found_ends old)) (ends_from L (entries ++ payload ∷ [])) =
@@ -88,6 +90,7 @@ stands_after entries payload old new stands is_log magic found «end» count =
     let last_end : end_of new ≡ log_end (magic_of old) both = omega (arith, «end», stands.«end», length-front-push (magic_of old) entries payload, length-append payload (0 ∷ [])) in
     record {
       is_log = is_log;
+      durable = durable;
       «end» = last_end ∙ ap (λ (magic : List ℕ). log_end magic both) (sym magic);
       count = omega (arith, count, stands.count, length-append entries (payload ∷ []));
       ends = found ∙ stays ∙ ap (λ (xs : List ℕ). take (length xs) (ends_from L both)) (sym found)

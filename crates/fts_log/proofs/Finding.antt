@@ -2,6 +2,7 @@
 use Rattle.std.proofs.Common.{◌≡◌, ℕ, ◌+◌, ◌<◌, ◌≤◌, List, [], ◌∷◌, ◌++◌, length, take, drop, min, get_or, Some, Bool, true, false, IsTrue, sym, ◌∙◌, ap, subst, append_assoc, length-append, arith}
 use Rattle.std.proofs.lemmas.List.{take_at, take-take, take_all, length-take}
 use Rattle.fts_disk.specs.Device.{Files}
+use Rattle.fts_disk.specs.Crash.{Only}
 use Rattle.fts_disk.specs.declared.disk.Disk.{Ghosts}
 use Rattle.fts_log.specs.declared.log.Log.{Log}
 use Rattle.fts_log.specs.declared.found.Found.{Found}
@@ -24,14 +25,15 @@ no_magic file bytes magic start answer shows here size width begins refused rest
 
 module _ {D : Type 0} {disk : Ghosts D} (log : Log D disk) (entries : List (List ℕ)) where
   -- a log that was found stands for its entries
-  pub stands_found : (found : Found) (old : Files) → IsFoundIn (magic_of log) entries (old 0) found → disk.seen (device_of log) ≡ old
+  pub stands_found : (found : Found) (old : Files) → IsFoundIn (magic_of log) entries (old 0) found → disk.seen (device_of log) ≡ old → Only (disk.seen (device_of log)) (disk.images (device_of log))
       → end_of log ≡ found.gate + 1 → count_of log ≡ length found.ends.items → log.found ≡ Some found → StandsFor entries log × (found_count log ≡ length entries)
-  stands_found found old is same «end» count keeps =
+  stands_found found old is same durable «end» count keeps =
       let here : found_ends log ≡ ends_from (length (magic_of log)) entries = ap ends_in keeps ∙ is.ends in
       let size : found_count log ≡ length entries = ap length here ∙ length-ends_from (length (magic_of log)) entries in (
         record {
           is_log = kept (IsLog (magic_of log) entries) old (disk.seen (device_of log)) same is.is_log;
           «end» = omega (arith, «end», is.gate);
+          durable = λ c may. durable c may 0;
           count = count ∙ sym (ap length (ap ends_in keeps)) ∙ size;
           ends = here ∙ sym (take_all (found_count log) (ends_from (length (magic_of log)) entries) (omega (arith, ap length here)));
         },

@@ -6,3 +6,4 @@ pub mod Scanning
 pub mod Ends
 pub mod Finding
 pub mod Unique
+pub mod Crashing

@@ -1,3 +1,4 @@
+pub mod Crash
 pub mod Record
 pub mod Error
 pub mod Frame

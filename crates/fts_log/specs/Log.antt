@@ -1,5 +1,6 @@
 -- What a log stands for.
 use Rattle.std.specs.Prelude.{◌≡◌, ℕ, ◌+◌, List, [], length, take, Option, Some, None}
+use Rattle.fts_disk.specs.Crash.{OnlyIn}
 use Rattle.fts_disk.specs.declared.disk.Disk.{Ghosts}
 use Rattle.fts_log.specs.declared.log.Log.{Log}
 use Rattle.fts_log.specs.declared.found.Found.{Found}
@@ -50,11 +51,13 @@ pub record KeepsMaking {D : Type 0} {disk : Ghosts D} (old new : Log D disk) : T
   pub limit : limit_of new ≡ limit_of old
   pub found : found_count new ≡ found_count old
 
--- file 0 is a log of these entries, and the log's numbers are theirs
+-- file 0 is a log of these entries, and the log's numbers are theirs; a crash leaves file 0 as it reads, whatever is
+-- pending in the other files
 pub record StandsFor {D : Type 0} {disk : Ghosts D} (entries : List (List ℕ)) (log : Log D disk) : Type 0 where
   pub is_log : IsLog (magic_of log) entries (disk.seen (device_of log) 0)
   pub «end» : end_of log ≡ log_end (magic_of log) entries
   pub count : count_of log ≡ length entries
+  pub durable : OnlyIn 0 (disk.seen (device_of log)) (disk.images (device_of log))
   pub ends : found_ends log ≡ take (found_count log) (ends_from (length (magic_of log)) entries)
 
 -- the log stands for some entries: no append of it answered a fault of the device

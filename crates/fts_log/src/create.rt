@@ -1,6 +1,7 @@
 //! Making a log.
 ghost use Rattle.std.specs.Prelude.{◌≡◌, ◌^◌, ◌≤◌, ◌++◌, [], ◌∷◌, length, IsTrue, IfOk, IfErr, OnOk};
 ghost use Rattle.fts_faults.specs.Count.{Rose, HasCause};
+ghost use Rattle.fts_disk.specs.Crash.{Only};
 ghost use Rattle.fts_log.specs.Device.{SameOthers};
 ghost use Rattle.fts_log.specs.Log.{StandsFor, device_of, magic_of, limit_of, found_count, count_of, end_of};
 
@@ -18,6 +19,7 @@ pub fn create_log<D: Disk>(device: D, magic: [u8; 8], limit: u64) -> Result<Log<
     requires { limit ≤ 2 ^ 32 }
 
     ensures created { IfOk result (λ log. IsTrue D.tells → StandsFor [] log) }
+    ensures durable { IfOk result (λ log. IsTrue D.tells → Only (D.seen (device_of log)) (D.images (device_of log))) }
     ensures bytes { IfOk result (λ log. IsTrue D.tells → D.seen (device_of log) 0 ≡ magic ++ 0 ∷ []) }
     ensures kept { IfOk result (λ log. (magic_of log ≡ magic) × (limit_of log ≡ limit)) }
     ensures empty { IfOk result (λ log. (count_of log ≡ 0) × (end_of log ≡ 9) × (found_count log ≡ 0)) }
@@ -45,6 +47,7 @@ pub fn create_log<D: Disk>(device: D, magic: [u8; 8], limit: u64) -> Result<Log<
 // Writes the magic and a closed gate, and nothing else, and makes them durable.
 fn start<D: Disk>(device: &mut D, magic: [u8; 8]) -> Result<(), Failed>
     ensures bytes { OnOk result (IsTrue D.tells → D.seen device.new 0 ≡ magic ++ 0 ∷ []) }
+    ensures durable { OnOk result (IsTrue D.tells → Only (D.seen device.new) (D.images device.new)) }
     ensures others { IsTrue D.tells → SameOthers (D.seen device.old) (D.seen device.new) }
     ensures width { length magic ≡ 8 }
     ensures cause { HasCause (D.faults device.old) (D.faults device.new) result }

@@ -29,11 +29,16 @@ pub struct Log<D: Disk> {
 impl<D: Disk> Log<D> {
     ghost use Rattle.fts_log.specs.Device.{SameOthers, LooksOnly};
     ghost use Rattle.fts_log.specs.Record.{IsLogOfEither};
+    ghost use Rattle.fts_log.specs.Crash.{IsBeforeOrAfter};
+    ghost use Rattle.fts_disk.specs.Crash.{Only};
+    ghost use Rattle.fts_disk.specs.Moments.{LeavesOnly, LeavesAsBefore};
     ghost use Rattle.fts_log.specs.Frame.{payload_of};
     ghost use Rattle.fts_log.specs.Log.{StandsFor, IsReady, KeepsMaking, device_of, magic_of, limit_of, count_of, end_of, end_after, found_count};
 
-    /// Appends the payload as an entry, and returns its number, from 0. At `Ok` the entry is durable.
-    /// Takes no memory.
+    /// Appends the payload as an entry, and returns its number, from 0. At `Ok` the entry is durable, and so is all
+    /// that was pending in the device's other files. Takes no memory.
+    ///
+    /// A crash at any moment of the call leaves the log of the old entries, or of these and the new one.
     ///
     /// # Errors
     ///
@@ -45,6 +50,10 @@ impl<D: Disk> Log<D> {
         ensures number { IfOk result (λ number. number ≡ count_of self.old) }
         ensures acknowledged { OnOk result (IsTrue D.tells → (entries : List (List ℕ)) → StandsFor entries self.old
             → StandsFor (entries ++ payload_of framed.now ∷ []) self.new) }
+        ensures durable { OnOk result (IsTrue D.tells → Only (D.seen (device_of self.new)) (D.images (device_of self.new))) }
+        ensures any_moment { IsTrue D.tells → (entries : List (List ℕ)) → StandsFor entries self.old
+            → LeavesOnly D.Disk (device_of self.old) (device_of self.new)
+            (IsBeforeOrAfter (magic_of self.old) entries (payload_of framed.now) (D.images (device_of self.old)) (D.seen (device_of self.old))) }
         ensures counted { OnOk result (count_of self.new ≡ count_of self.old + 1) }
         ensures grown { OnOk result (end_of self.new ≡ end_after self.old framed.now) }
         ensures others { IsTrue D.tells → SameOthers (D.seen (device_of self.old)) (D.seen (device_of self.new)) }
@@ -64,9 +73,9 @@ impl<D: Disk> Log<D> {
             return Err(AppendError::LogFull { end });
         }
         self.device.write_at(0, self.end, bytes)?;
-        self.device.sync()?;
+        self.device.sync()?; // Only now is the record durable, and its gate may be opened.
         self.device.write_at(0, self.end - 1, &[1])?;
-        self.device.sync()?;
+        self.device.sync()?; // Only now is the entry durable.
         let number = self.count;
         self.end = end;
         self.count += 1;
@@ -87,6 +96,7 @@ impl<D: Disk> Log<D> {
             → payload.items ≡ slice_index_or entries k []) }
         ensures stays { IsTrue D.tells → (entries : List (List ℕ)) → StandsFor entries self.old → StandsFor entries self.new }
         ensures looks { IsTrue D.tells → LooksOnly D.Disk (device_of self.old) (device_of self.new) }
+        ensures crash { IsTrue D.tells → LeavesAsBefore D.Disk (device_of self.old) (device_of self.new) }
         ensures kept { KeepsMaking self.old self.new }
         ensures same { (count_of self.new ≡ count_of self.old) × (end_of self.new ≡ end_of self.old) }
         ensures failed { IsErrOf result EntryError.DiskFault → Rose (D.faults (device_of self.old)) (D.faults (device_of self.new)) }

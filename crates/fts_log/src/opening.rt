@@ -1,6 +1,8 @@
 //! Opening a log.
 ghost use Rattle.std.specs.Prelude.{◌≡◌, ℕ, List, ◌+◌, ◌^◌, ◌<◌, ◌≤◌, ◌↔◌, length, take, IsTrue, IfOk, IfErr, OnOk, IsErrOf};
 ghost use Rattle.fts_faults.specs.Count.{Rose};
+ghost use Rattle.fts_disk.specs.Crash.{Only};
+ghost use Rattle.fts_disk.specs.Moments.{LeavesAsBefore};
 ghost use Rattle.fts_log.specs.Device.{LooksOnly};
 ghost use Rattle.fts_log.specs.Record.{IsDamagedAt, IsBrokenAt};
 ghost use Rattle.fts_log.specs.Scan.{Shows, Stands, IsFoundIn};
@@ -13,7 +15,7 @@ use crate::{EntryError, Log, OpenError};
 use fts_disk::Disk;
 use std::alloc::Global;
 
-/// Opens the log of file 0. `limit` is the largest end that an append may leave, in bytes; the log that is
+/// Opens the log of file 0. A crash at any moment of the call leaves what it could leave before the call. `limit` is the largest end that an append may leave, in bytes; the log that is
 /// there may end above it. It begins with a sync, writes nothing, goes over the file once, and keeps one
 /// number an entry.
 ///
@@ -35,11 +37,14 @@ pub fn open_log<D: Disk>(
     ensures opened { IfOk result (λ log. IsTrue D.tells → (entries : List (List ℕ)) × StandsFor entries log × (found_count log ≡ length entries)) }
     ensures kept { IfOk result (λ log. (magic_of log ≡ magic) × (limit_of log ≡ limit)) }
     ensures found { IfOk result (λ log. found_count log ≡ count_of log) }
+    ensures durable { IfOk result (λ log. IsTrue D.tells → Only (D.seen (device_of log)) (D.images (device_of log))) }
     ensures looks { IfOk result (λ log. IsTrue D.tells → LooksOnly D.Disk device (device_of log)) }
+    ensures crash { IfOk result (λ log. IsTrue D.tells → LeavesAsBefore D.Disk device (device_of log)) }
     ensures never_falls { IfOk result (λ log. D.faults device ≤ D.faults (device_of log)) }
 
     ensures damaged { IfErr result (λ e. (at : ℕ) → e.0 ≡ OpenError.Damaged at → IsTrue D.tells → IsDamagedAt magic at (D.seen device 0)) }
     ensures looks_err { IfErr result (λ e. IsTrue D.tells → LooksOnly D.Disk device e.1) }
+    ensures crash_err { IfErr result (λ e. IsTrue D.tells → LeavesAsBefore D.Disk device e.1) }
     ensures failed { IfErr result (λ e. e.0 ≡ OpenError.DiskFault → Rose (D.faults device) (D.faults e.1)) }
     ensures never_falls_err { IfErr result (λ e. D.faults device ≤ D.faults e.1) }
 {
@@ -65,8 +70,10 @@ pub fn open_log<D: Disk>(
 fn find<D: Disk>(alloc: Global, device: &mut D, magic: [u8; 8]) -> Result<Found, OpenError>
     ensures found { IfOk result (λ found. IsTrue D.tells → (entries : List (List ℕ)) × IsFoundIn magic entries (D.seen device.old 0) found) }
     ensures width { OnOk result (length magic ≡ 8) }
+    ensures durable { OnOk result (IsTrue D.tells → Only (D.seen device.new) (D.images device.new)) }
     ensures damaged { (at : ℕ) → IsErrOf result (OpenError.Damaged at) → IsTrue D.tells → IsDamagedAt magic at (D.seen device.old 0) }
     ensures looks { IsTrue D.tells → LooksOnly D.Disk device.old device.new }
+    ensures crash { IsTrue D.tells → LeavesAsBefore D.Disk device.old device.new }
     ensures failed { IsErrOf result OpenError.DiskFault → Rose (D.faults device.old) (D.faults device.new) }
     ensures never_falls { D.faults device.old ≤ D.faults device.new }
 {
@@ -102,6 +109,7 @@ fn scan<D: Disk>(
     ensures found { IfOk result (λ found. IsTrue D.tells → (entries : List (List ℕ)) × IsFoundIn (take 8 (D.seen device.old 0)) entries (D.seen device.old 0) found) }
     ensures damaged { (at : ℕ) → IsErrOf result (OpenError.Damaged at) → IsTrue D.tells → IsBrokenAt (take 8 (D.seen device.old 0)) at (D.seen device.old 0) }
     ensures looks { IsTrue D.tells → LooksOnly D.Disk device.old device.new }
+    ensures crash { IsTrue D.tells → LeavesAsBefore D.Disk device.old device.new }
     ensures failed { IsErrOf result OpenError.DiskFault → Rose (D.faults device.old) (D.faults device.new) }
     ensures never_falls { D.faults device.old ≤ D.faults device.new }
 {
@@ -142,6 +150,7 @@ fn place_at<D: Disk>(
     ensures next { (next : ℕ) → result ≡ Ok (Place.Whole next) → (at + 5 ≤ next) × (next ≤ file_length) }
     ensures shows { OnOk result (IsTrue D.tells → Shows window.new (D.seen device.old 0)) }
     ensures looks { IsTrue D.tells → LooksOnly D.Disk device.old device.new }
+    ensures crash { IsTrue D.tells → LeavesAsBefore D.Disk device.old device.new }
     ensures failed { IsErrOf result EntryError.DiskFault → Rose (D.faults device.old) (D.faults device.new) }
     ensures never_falls { D.faults device.old ≤ D.faults device.new }
 {

@@ -1,8 +1,8 @@
-ghost use Rattle.std.specs.Prelude.{◌^◌, ◌<◌, [], length, IfOk};
-ghost use Rattle.fts_log.specs.Log.{StandsFor};
+ghost use Rattle.std.specs.Prelude.{◌^◌, ◌<◌, [], length, IfOk, OnOk};
+ghost use Rattle.fts_log.specs.Log.{StandsFor, IsReady};
 
 use super::*;
-use fts_disk::{Call, Kind, MemDisk};
+use fts_disk::{Call, Disk, Kind, MemDisk};
 use std::alloc::Global;
 use std::test::Fail;
 
@@ -25,6 +25,15 @@ fn framed(alloc: Global, payload: &[u8]) -> Result<Framed, Fail>
     Ok(framed)
 }
 
+// Appends an entry, and returns its number.
+fn append(alloc: Global, log: &mut Log<MemDisk>, payload: &[u8]) -> Result<u64, Fail>
+    requires room { length payload.now < 2 ^ 32 }
+    requires ready { IsReady log.old }
+    ensures ready { OnOk result (IsReady log.new) }
+{
+    Ok(log.append(&framed(alloc, payload)?)?)
+}
+
 // A log without entries on a device whose listed calls fail.
 fn created(alloc: Global, fails: Vec<(Kind, u64)>) -> Result<Log<MemDisk>, Fail>
     ensures { IfOk result (λ log. StandsFor [] log) }
@@ -40,27 +49,12 @@ fn created(alloc: Global, fails: Vec<(Kind, u64)>) -> Result<Log<MemDisk>, Fail>
 fn two_entries_are_written_byte_for_byte(rt: HostRuntime) -> Result<(), Fail> {
     let alloc = rt.alloc();
     let mut log = created(alloc, Vec::new(alloc))?;
-    assert_eq!(rt; log.append(&framed(alloc, &SETTINGS)?), Ok(0));
+    assert_eq!(rt; append(alloc, &mut log, &SETTINGS)?, 0);
     assert_eq!(rt; log.end(), 34);
-    assert_eq!(rt; log.append(&framed(alloc, &INSERTION)?), Ok(1));
+    assert_eq!(rt; append(alloc, &mut log, &INSERTION)?, 1);
     assert_eq!(rt; (log.count(), log.end(), log.faults()), (2, 59, 0));
     let disk = log.close();
     assert_eq!(rt; disk.file(0), BYTES.as_slice());
-    Ok(())
-}
-
-#[test]
-fn a_log_is_opened_and_a_full_one_refuses(rt: HostRuntime) -> Result<(), Fail> {
-    let alloc = rt.alloc();
-    let files = vec![in alloc; BYTES.to_vec(alloc)?]?;
-    let disk = MemDisk::from_files(alloc, files, Vec::new(alloc))?;
-    let mut log = match open_log(alloc, disk, MAGIC, 83) {
-        Ok(log) => log,
-        Err((error, _)) => return Err(error.into()),
-    };
-    assert_eq!(rt; (log.count(), log.end()), (2, 59));
-    let refused = log.append(&framed(alloc, &INSERTION)?);
-    assert_eq!(rt; refused, Err(AppendError::LogFull { end: 84 }));
     Ok(())
 }
 
@@ -79,24 +73,126 @@ fn an_entry_is_read_back(rt: HostRuntime) -> Result<(), Fail> {
 }
 
 #[test]
-fn a_log_that_is_cut_short_is_damaged_at_a_place(rt: HostRuntime) -> Result<(), Fail> {
+fn a_log_ends_at_its_limit(rt: HostRuntime) -> Result<(), Fail> {
     let alloc = rt.alloc();
-    for (size, want) in [
-        (0, 0),
-        (7, 0),
-        (8, 8),
-        (9, 8),
-        (32, 8),
-        (33, 33),
-        (34, 33),
-        (57, 33),
-        (58, 58),
-    ] {
-        let files = vec![in alloc; BYTES[..size].to_vec(alloc)?]?;
+    for (limit, want) in [(84, Ok(2)), (83, Err(AppendError::LogFull { end: 84 }))] {
+        let files = vec![in alloc; BYTES.to_vec(alloc)?]?;
         let disk = MemDisk::from_files(alloc, files, Vec::new(alloc))?;
-        match open_log(alloc, disk, MAGIC, 1000) {
-            Ok(_) => assert!(rt; false, "opened at {size}"),
-            Err((error, _)) => assert_eq!(rt; error, OpenError::Damaged { at: want }, "at {size}"),
+        match open_log(alloc, disk, MAGIC, limit) {
+            Ok(mut log) => assert_eq!(rt; log.append(&framed(alloc, &INSERTION)?), want),
+            Err((error, _)) => return Err(error.into()),
+        }
+    }
+    Ok(())
+}
+
+// How many entries an opening of these bytes finds, or why it refuses them.
+fn found(alloc: Global, bytes: Vec<u8>) -> Result<Result<u64, OpenError>, Fail> {
+    let files = vec![in alloc; bytes]?;
+    let disk = MemDisk::from_files(alloc, files, Vec::new(alloc))?;
+    match open_log(alloc, disk, MAGIC, 1000) {
+        Ok(log) => Ok(Ok(log.count())),
+        Err((error, _)) => Ok(Err(error)),
+    }
+}
+
+fn damaged(at: u64) -> Result<u64, OpenError> {
+    Err(OpenError::Damaged { at })
+}
+
+#[test]
+fn a_log_cut_at_each_length_is_damaged_at_a_place(rt: HostRuntime) -> Result<(), Fail> {
+    let alloc = rt.alloc();
+    for (from, to, want) in [
+        (0, 8, damaged(0)),
+        (8, 33, damaged(8)),
+        (33, 58, damaged(33)),
+        (58, 59, damaged(58)),
+        (59, 60, Ok(2)),
+    ] {
+        for size in from..to {
+            let mut bytes = BYTES.to_vec(alloc)?;
+            bytes.truncate(size);
+            assert_eq!(rt; found(alloc, bytes)?, want, "at {size}");
+        }
+    }
+    Ok(())
+}
+
+#[test]
+fn a_log_with_one_byte_flipped_is_another_log_or_damaged(rt: HostRuntime) -> Result<(), Fail> {
+    let alloc = rt.alloc();
+    // All bits of the byte, and the lowest alone.
+    for (flip, from, to, want) in [
+        (255, 0, 8, damaged(0)),
+        (255, 8, 9, Ok(0)),
+        (255, 9, 13, damaged(8)),
+        (255, 13, 33, Ok(2)),
+        (255, 33, 34, Ok(1)),
+        (255, 34, 38, damaged(33)),
+        (255, 38, 59, Ok(2)),
+        (1, 8, 9, Ok(0)),
+        (1, 9, 12, damaged(8)),
+        (1, 12, 13, Ok(1)),
+        (1, 13, 33, Ok(2)),
+        (1, 33, 34, Ok(1)),
+        (1, 34, 37, damaged(33)),
+        (1, 37, 38, damaged(59)),
+        (1, 38, 58, Ok(2)),
+        (1, 58, 59, damaged(58)),
+    ] {
+        for place in from..to {
+            let mut bytes = BYTES.to_vec(alloc)?;
+            if let Some(byte) = bytes.get_mut(place) {
+                *byte ^= flip;
+            }
+            assert_eq!(rt; found(alloc, bytes)?, want, "at {place} by {flip}");
+        }
+    }
+    Ok(())
+}
+
+#[test]
+fn bytes_behind_the_closed_gate_are_no_entries(rt: HostRuntime) -> Result<(), Fail> {
+    let alloc = rt.alloc();
+    let mut bytes = BYTES.to_vec(alloc)?;
+    bytes.extend_from_slice(&[1; 66])?;
+    let files = vec![in alloc; bytes]?;
+    let disk = MemDisk::from_files(alloc, files, Vec::new(alloc))?;
+    let mut log = match open_log(alloc, disk, MAGIC, 1000) {
+        Ok(log) => log,
+        Err((error, _)) => return Err(error.into()),
+    };
+    assert_eq!(rt; (log.count(), log.end()), (2, 59));
+    assert_eq!(rt; log.append(&framed(alloc, b"")?), Ok(2));
+    let disk = log.close();
+    assert!(rt; disk.file(0).len() == 125);
+    assert_eq!(rt; found(alloc, disk.file(0).to_vec(alloc)?)?, Ok(3));
+    Ok(())
+}
+
+#[test]
+fn a_stop_in_each_call_of_an_append_leaves_the_old_entries_or_the_new(
+    rt: HostRuntime,
+) -> Result<(), Fail> {
+    let alloc = rt.alloc();
+    let mut log = created(alloc, Vec::new(alloc))?;
+    assert_eq!(rt; append(alloc, &mut log, &SETTINGS)?, 0);
+    assert_eq!(rt; append(alloc, &mut log, &INSERTION)?, 1);
+    let mut disk = log.close();
+    disk.sync()?;
+    assert!(rt; disk.calls().len() == 12);
+    // A gate that a number leaves as 01 is open.
+    const OPEN: [u64; 16] = [1, 1, 1, 2, 1, 1, 1, 2, 2, 2, 2, 2, 1, 1, 1, 2];
+    for (choice, opened) in OPEN.iter().enumerate() {
+        for (call, want) in [(7, 1), (8, 1), (9, *opened), (10, *opened), (11, 2)] {
+            let image = disk.pick_image(call, choice as u64)?;
+            let bytes = image.file(0).to_vec(alloc)?;
+            assert_eq!(rt;
+                found(alloc, bytes)?,
+                Ok(want),
+                "in call {call} by {choice}"
+            );
         }
     }
     Ok(())
@@ -121,6 +217,39 @@ fn a_failing_call_of_an_append_leaves_a_log(rt: HostRuntime) -> Result<(), Fail>
         match open_log(alloc, log.close(), MAGIC, 1000) {
             Ok(log) => assert_eq!(rt; log.count(), entries, "at {number}"),
             Err((error, _)) => return Err(error.into()),
+        }
+    }
+    Ok(())
+}
+
+#[test]
+fn a_failing_call_of_an_opening_is_a_fault(rt: HostRuntime) -> Result<(), Fail> {
+    let alloc = rt.alloc();
+    for kind in [Kind::Sync, Kind::Len, Kind::Read] {
+        let files = vec![in alloc; BYTES.to_vec(alloc)?]?;
+        let fails = vec![in alloc; (kind, 1)]?;
+        let disk = MemDisk::from_files(alloc, files, fails)?;
+        match open_log(alloc, disk, MAGIC, 1000) {
+            Ok(_) => assert!(rt; false, "opened"),
+            Err((error, disk)) => {
+                assert_eq!(rt; error, OpenError::DiskFault);
+                assert_eq!(rt; disk.faults(), 1);
+                assert_eq!(rt; disk.file(0), BYTES.as_slice());
+            }
+        }
+    }
+    Ok(())
+}
+
+#[test]
+fn a_failing_call_of_a_creation_is_a_fault(rt: HostRuntime) -> Result<(), Fail> {
+    let alloc = rt.alloc();
+    for kind in [Kind::Cut, Kind::Write, Kind::Sync] {
+        let fails = vec![in alloc; (kind, 1)]?;
+        let disk = MemDisk::from_files(alloc, Vec::new(alloc), fails)?;
+        match create_log(disk, MAGIC, 1000) {
+            Ok(_) => assert!(rt; false, "created"),
+            Err((_, disk)) => assert_eq!(rt; disk.faults(), 1),
         }
     }
     Ok(())

@@ -1,6 +1,7 @@
 //! Reading a file of a device, a stretch at a time.
 ghost use Rattle.std.specs.Prelude.{◌≡◌, ℕ, List, ◌+◌, ◌-◌, ◌<◌, ◌≤◌, ◌^◌, length, take, drop, min, IsTrue, IfOk, OnOk, IsErrOf};
 ghost use Rattle.fts_faults.specs.Count.{Rose};
+ghost use Rattle.fts_disk.specs.Moments.{LeavesAsBefore};
 ghost use Rattle.fts_log.specs.Device.{LooksOnly};
 
 use crate::EntryError;
@@ -31,6 +32,7 @@ pub(crate) fn read_bytes<D: Disk>(
     ensures bytes { IfOk result (λ bytes. IsTrue D.tells → bytes.items ≡ take size (drop at (D.seen device.old 0))) }
     ensures size { IfOk result (λ bytes. length bytes.items ≡ size) }
     ensures looks { IsTrue D.tells → LooksOnly D.Disk device.old device.new }
+    ensures crash { IsTrue D.tells → LeavesAsBefore D.Disk device.old device.new }
     ensures failed { IsErrOf result EntryError.DiskFault → Rose (D.faults device.old) (D.faults device.new) }
     ensures never_falls { D.faults device.old ≤ D.faults device.new }
 {
@@ -55,6 +57,7 @@ impl Window {
         ensures start { IfOk result (λ window. window.start ≡ at) }
         ensures size { IfOk result (λ window. length window.bytes.items ≡ min (file_length - at) 65536) }
         ensures looks { IsTrue D.tells → LooksOnly D.Disk device.old device.new }
+        ensures crash { IsTrue D.tells → LeavesAsBefore D.Disk device.old device.new }
         ensures failed { IsErrOf result EntryError.DiskFault → Rose (D.faults device.old) (D.faults device.new) }
         ensures never_falls { D.faults device.old ≤ D.faults device.new }
     {
@@ -79,6 +82,7 @@ impl Window {
         ensures start { OnOk result (self.new.start ≤ at) }
         ensures size { OnOk result (at - self.new.start + min (file_length - at) 5 ≤ length self.new.bytes.items) }
         ensures looks { IsTrue D.tells → LooksOnly D.Disk device.old device.new }
+        ensures crash { IsTrue D.tells → LeavesAsBefore D.Disk device.old device.new }
         ensures failed { IsErrOf result EntryError.DiskFault → Rose (D.faults device.old) (D.faults device.new) }
         ensures never_falls { D.faults device.old ≤ D.faults device.new }
     {

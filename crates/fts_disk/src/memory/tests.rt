@@ -87,3 +87,83 @@ fn a_named_call_fails_and_changes_nothing(rt: HostRuntime) -> Result<(), Fail> {
     assert_eq!(rt; disk.refused(), 0);
     Ok(())
 }
+
+#[test]
+fn a_stop_in_a_write_leaves_it_torn_as_a_number_says(rt: HostRuntime) -> Result<(), Fail> {
+    let alloc = rt.alloc();
+    let files = vec![in alloc; b"abcdef".to_vec(alloc)?]?;
+    let mut disk = MemDisk::from_files(alloc, files, Vec::new(alloc))?;
+    assert!(rt; disk.file(0).len() == 6);
+    disk.write_at(0, 4, b"XYZ")?;
+    disk.sync()?;
+    let images: [&[u8]; 16] = [
+        b"abcdef",
+        b"abcdXf",
+        b"abcdXY",
+        b"abcdXYZ",
+        b"abcd\x00\x00\x00",
+        b"abcdX\x00\x00",
+        b"abcdXY\x00",
+        b"abcdXYZ",
+        b"abcd\x01\x01\x01",
+        b"abcdX\x01\x01",
+        b"abcdXY\x01",
+        b"abcdXYZ",
+        b"abcd\xff\xff\xff",
+        b"abcdX\xff\xff",
+        b"abcdXY\xff",
+        b"abcdXYZ",
+    ];
+    assert!(rt; disk.calls().len() == 2);
+    for (choice, want) in images.iter().enumerate() {
+        let in_write = disk.pick_image(0, choice as u64)?;
+        assert_eq!(rt; in_write.file(0), *want, "at {choice}");
+        let in_sync = disk.pick_image(1, choice as u64)?;
+        assert_eq!(rt; in_sync.file(0), *want, "at {choice}");
+    }
+    Ok(())
+}
+
+#[test]
+fn a_stop_leaves_what_was_synced_and_some_of_the_rest(rt: HostRuntime) -> Result<(), Fail> {
+    let alloc = rt.alloc();
+    let fails = vec![in alloc; (Kind::Sync, 2)]?;
+    let mut disk = MemDisk::from_files(alloc, Vec::new(alloc), fails)?;
+    disk.write_at(2, 0, b"abcdef")?;
+    disk.sync()?;
+    assert!(rt; disk.file(2).len() == 6);
+    disk.cut(2, 2)?;
+    assert_eq!(rt; disk.sync(), Err(Failed));
+    assert!(rt; disk.file(2).len() == 2);
+    disk.write_at(2, 1, b"xyz")?;
+    assert!(rt; disk.calls().len() == 5);
+    let rows: [(usize, u64, &[u8]); 8] = [
+        (1, 0x0, b""),
+        (2, 0x0, b"abcdef"),
+        (2, 0x1, b"abcd"),
+        (3, 0x2, b"abc"),
+        (3, 0x3, b"ab"),
+        (4, 0x30, b"axyzef"),
+        (4, 0x13, b"ax"),
+        (4, 0x73, b"axyz"),
+    ];
+    for (call, choice, want) in rows {
+        let image = disk.pick_image(call, choice)?;
+        assert_eq!(rt; image.file(2), want, "in call {call} by {choice}");
+    }
+    Ok(())
+}
+
+#[test]
+fn a_write_into_a_large_file_costs_its_bytes(rt: HostRuntime) -> Result<(), Fail> {
+    let alloc = rt.alloc();
+    let files = vec![in alloc; vec![in alloc; 0; 100_000_000]?]?;
+    let mut disk = MemDisk::from_files(alloc, files, Vec::new(alloc))?;
+    // A copy of the file at each write would take minutes.
+    for k in 0..10_000u64 {
+        assert!(rt; disk.file(0).len() == 100_000_000);
+        disk.write_at(0, k * 9_999, b"0123456789")?;
+    }
+    assert_eq!(rt; disk.calls().len(), 10_000);
+    Ok(())
+}

@@ -2,6 +2,7 @@ use Rattle.std.proofs.Common.{ℕ, List, [], ◌∷◌, Ok, IsTrue, ◌∙◌, l
 use Rattle.fts_disk.specs.Device.{Files}
 use Rattle.fts_log.specs.Scan.{Shows}
 use Rattle.fts_log.specs.Place.{start_of, IsSpaced}
+use Rattle.fts_disk.proofs.Runs.{leaves_none, leaves_more}
 use Rattle.fts_log.proofs.Ends.{spaced_more, last_more}
 use Rattle.fts_log.proofs.Scanning.{IsScanned, scanned_none, scanned_next}
 use Rattle.fts_log.proofs.opening.scan.Goals as goal
@@ -18,6 +19,7 @@ records-init g c =
       shown = c.requires.shown;
       scanned = λ told. ([], subst (λ (ends : List ℕ). IsScanned file 8 ends []) (sym none) (scanned_none file (omega (arith, c.requires.told told, c.requires.within))));
       looks = λ told. record { seen = refl };
+      crash = λ told. leaves_none g.D.Disk c.args.device.now (λ files left. g.met.D.Disk.only_now c.args.device.now files told left);
       never_falls = omega arith;
     }
 
@@ -36,5 +38,19 @@ records-preserved g c =
       shown = λ told. subst (λ (files : Files). Shows c.place_at.new.window (files 0)) (same told) (c.in_ok-place_at.ensures.shows told);
       scanned = λ told. scanned_next _ _ c.records.at next c.in_ok-place_at.field-0 c.records.ends.items _ (so_far.scanned told) (same told) (c.in_ok-place_at.ensures.stands told) c.in-Whole.is pushed;
       looks = λ told. record { seen = (c.in_ok-place_at.ensures.looks told).seen ∙ same told };
+      crash = λ told. leaves_more g.D.Disk c.args.device.now c.records.device c.place_at.new.device (so_far.crash told) (c.in_ok-place_at.ensures.crash told);
       never_falls = omega (arith, so_far.never_falls, c.in_ok-place_at.ensures.never_falls);
     }
+
+-- each exit is one look further than the loop
+pub returns-in_err-place_at-clause-crash : goal.returns-in_err-place_at-clause-crash
+returns-in_err-place_at-clause-crash g c told = leaves_more g.D.Disk c.args.device.now c.records.device c.place_at.new.device (c.records.invariant.crash told) (c.place_at.ensures.crash told)
+
+pub returns-in-Closed-clause-crash : goal.returns-in-Closed-clause-crash
+returns-in-Closed-clause-crash g c told = leaves_more g.D.Disk c.args.device.now c.records.device c.place_at.new.device (c.records.invariant.crash told) (c.place_at.ensures.crash told)
+
+pub returns-in_err-push-in-Whole-clause-crash : goal.returns-in_err-push-in-Whole-clause-crash
+returns-in_err-push-in-Whole-clause-crash g c told = leaves_more g.D.Disk c.args.device.now c.records.device c.place_at.new.device (c.records.invariant.crash told) (c.place_at.ensures.crash told)
+
+pub returns-in-Broken-clause-crash : goal.returns-in-Broken-clause-crash
+returns-in-Broken-clause-crash g c told = leaves_more g.D.Disk c.args.device.now c.records.device c.place_at.new.device (c.records.invariant.crash told) (c.place_at.ensures.crash told)

@@ -1,4 +1,5 @@
 use Rattle.std.proofs.Common.{◌≡◌, ℕ, List, ◌-◌, ◌≤◌, length, IsTrue}
+use Rattle.fts_disk.specs.Moments.{LeavesAsBefore}
 use Rattle.fts_log.specs.Device.{LooksOnly}
 use Rattle.fts_log.specs.Place.{start_of, IsSpaced}
 use Rattle.fts_log.specs.Scan.{Shows}
@@ -14,6 +15,7 @@ invariant-records g l = record {
   shown : IsTrue g.D.Disk.tells → Shows l.window (g.D.Disk.seen l.fn.device 0);
   scanned : IsTrue g.D.Disk.tells → (entries : List (List ℕ)) × IsScanned (g.D.Disk.seen l.fn.device 0) l.at l.ends.items entries;
   looks : IsTrue g.D.Disk.tells → LooksOnly g.D.Disk l.fn.device l.device;
+  crash : IsTrue g.D.Disk.tells → LeavesAsBefore g.D.Disk l.fn.device l.device;
   never_falls : g.D.Disk.faults l.fn.device ≤ g.D.Disk.faults l.device;
 }
 

@@ -1,6 +1,6 @@
 use Rattle.std.proofs.Common.{◌≡◌, ◌≤◌, length}
 use Rattle.fts_disk.specs.Contents.{contents}
-use Rattle.fts_disk.proofs.memory.sixteen.Given as goal
+use Rattle.fts_disk.proofs.memory.recorded.sixteen.Given as goal
 
 abbrev pub invariant-loop : goal.invariant-loop
 invariant-loop l = record {

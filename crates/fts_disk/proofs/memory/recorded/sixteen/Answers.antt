@@ -1,7 +1,7 @@
 use Rattle.std.proofs.Common.{◌∙◌, ap, rules}
 use Rattle.fts_disk.specs.Contents.{contents}
 use Rattle.fts_disk.proofs.Contents.{empty_more}
-use Rattle.fts_disk.proofs.memory.sixteen.Goals as goal
+use Rattle.fts_disk.proofs.memory.recorded.sixteen.Goals as goal
 
 pub loop-preserved : goal.loop-preserved
 loop-preserved c = record {

@@ -1,6 +1,6 @@
 use Rattle.std.proofs.Common.{◌≡◌, take}
 use Rattle.fts_disk.proofs.Contents.{set_on_file}
-use Rattle.fts_disk.proofs.memory.cut_in.Goals as goal
+use Rattle.fts_disk.proofs.memory.recorded.cut_in.Goals as goal
 
 pub returns-clause-shorter : goal.returns-clause-shorter
 returns-clause-shorter c =

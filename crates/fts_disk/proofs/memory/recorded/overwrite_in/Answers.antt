@@ -1,7 +1,7 @@
 use Rattle.std.proofs.lemmas.Result.{on_ok_weaker, on_err_weaker}
 use Rattle.fts_disk.specs.Device.{Holds}
 use Rattle.fts_disk.proofs.Contents.{set_on_file, set_same}
-use Rattle.fts_disk.proofs.memory.overwrite_in.Goals as goal
+use Rattle.fts_disk.proofs.memory.recorded.overwrite_in.Goals as goal
 
 pub returns-clause-written : goal.returns-clause-written
 returns-clause-written c =
