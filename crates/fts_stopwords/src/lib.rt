@@ -1,11 +1,10 @@
 //! Stopwords: the words that are never indexed.
 #![tactic(auto)]
 
-ghost use Rattle.std.specs.Prelude.{◌≡◌, ◌↔◌, ◌==◌, length, map, filter, IsTrue, Contains, slice_index};
-ghost use Rattle.std.specs.List.{list_any};
-ghost use Rattle.std.specs.Str.{bytes_eq};
+ghost use Rattle.std.specs.Prelude.{◌≡◌, ◌<◌, ◌↔◌, map, IsTrue, Contains};
 ghost use Rattle.fts_words.specs.Byte.{lowered};
 ghost use Rattle.fts_words.specs.Stopwords.{default_stopwords, is_listed};
+ghost use Rattle.fts_stopwords.specs.Slot.{slot_by, slot_word, slot_words};
 ghost use Rattle.fts_stopwords.specs.StopSet.{words_of};
 
 /// The default stopwords, in the order of InnoDB's list, in which `the` stands twice.
@@ -26,65 +25,67 @@ pub enum StopSet {
     Default,
 }
 
-/// The default stopwords that begin with this byte.
-#[tactic(auto, unfolding(fts_words::specs::Stopwords::default_stopwords))]
+/// The default stopword of each slot, or nothing: no two of them have one slot.
+#[tactic(auto, unfolding(fts_words::specs::Stopwords::default_stopwords, crate::specs::Slot::slot_words))]
 #[inline(always)]
-fn default_words_by(first: u8) -> &'static [&'static [u8]]
-    ensures { map (λ w. w.now) result.now ≡ filter (λ w. slice_index w 0 == first) default_stopwords }
+fn slot_words() -> &'static [&'static [u8]]
+    ensures { map (λ w. w.now) result.now ≡ slot_words }
 {
-    match first {
-        b'a' => &[b"a", b"about", b"an", b"are", b"as", b"at"],
-        b'b' => &[b"be", b"by"],
-        b'c' => &[b"com"],
-        b'd' => &[b"de"],
-        b'e' => &[b"en"],
-        b'f' => &[b"for", b"from"],
-        b'h' => &[b"how"],
-        b'i' => &[b"i", b"in", b"is", b"it"],
-        b'l' => &[b"la"],
-        b'o' => &[b"of", b"on", b"or"],
-        b't' => &[b"that", b"the", b"this", b"to", b"the"],
-        b'u' => &[b"und"],
-        b'w' => &[
-            b"was", b"what", b"when", b"where", b"who", b"will", b"with", b"www",
-        ],
-        _ => &[],
-    }
+    &[
+        b"", b"", b"", b"", b"", b"", b"", b"", b"com", b"", b"", b"", b"", b"", b"", b"", b"from",
+        b"", b"be", b"", b"de", b"as", b"are", b"", b"", b"", b"", b"", b"", b"is", b"", b"", b"",
+        b"", b"", b"", b"", b"", b"", b"", b"", b"the", b"by", b"", b"", b"", b"", b"an", b"was",
+        b"", b"this", b"en", b"", b"", b"where", b"in", b"", b"", b"", b"with", b"", b"on", b"",
+        b"", b"", b"", b"", b"at", b"", b"", b"", b"", b"", b"", b"", b"it", b"i", b"of", b"",
+        b"when", b"", b"", b"about", b"", b"a", b"", b"", b"", b"", b"how", b"", b"", b"", b"",
+        b"", b"", b"that", b"", b"", b"what", b"la", b"", b"", b"", b"www", b"", b"", b"", b"",
+        b"", b"", b"", b"to", b"for", b"", b"will", b"", b"or", b"", b"", b"who", b"", b"", b"",
+        b"und", b"", b"", b"",
+    ]
 }
 
-/// Whether the word is one of some words.
+/// The slot of a word whose letters are lowered, by its first byte, its last and its length.
 #[inline(always)]
-fn is_among(words: &[&[u8]], word: &[u8]) -> bool
-    ensures { result ≡ list_any (λ w. bytes_eq w.now word.now) words.now }
+fn slot_of(first: u8, last: u8, len: usize) -> usize
+    ensures value { result ≡ slot_by first last len }
+    ensures within { result < 128 }
 {
-    words.iter().any(|w| *w == word)
+    (usize::from(first) + usize::from(last) * 46 + len % 8 * 5) % 128
 }
 
-/// Whether the word is one of some words where letters of both cases count as one.
+/// The default stopword of a slot, or no bytes.
 #[inline(always)]
-fn is_among_lowered(words: &[&[u8]], word: &[u8]) -> bool
-    ensures { result ≡ list_any (λ w. bytes_eq (lowered w.now) (lowered word.now)) words.now }
+fn slot_word(slot: usize) -> &'static [u8]
+    requires { slot < 128 }
+    ensures { result.now ≡ slot_word slot }
 {
-    words.iter().any(|w| w.eq_ignore_ascii_case(word))
+    slot_words()[slot]
 }
 
+/// Whether a word is a default stopword, byte by byte.
 #[tactic(auto, unfolding(fts_words::specs::Stopwords::default_stopwords))]
 fn is_default(word: &[u8]) -> bool
     ensures { result ≡ is_listed default_stopwords word.now }
 {
     match word {
         [] => false,
-        [first, ..] => is_among(default_words_by(*first), word),
+        [first, ..] => slot_word(slot_of(*first, word[word.len() - 1], word.len())) == word,
     }
 }
 
+/// Whether a word is a default stopword once its letters are lowered. Only the comparison branches on what the word is:
+/// the processor can't foresee such branches.
 #[tactic(auto, unfolding(fts_words::specs::Stopwords::default_stopwords))]
 fn is_default_lowered(word: &[u8]) -> bool
     ensures { result ≡ is_listed default_stopwords (lowered word.now) }
 {
     match word {
         [] => false,
-        [first, ..] => is_among_lowered(default_words_by(first.to_ascii_lowercase()), word),
+        [first, ..] => {
+            let last = word[word.len() - 1].to_ascii_lowercase();
+            let slot = slot_of(first.to_ascii_lowercase(), last, word.len());
+            slot_word(slot).eq_ignore_ascii_case(word)
+        }
     }
 }
 

@@ -1,3 +1,4 @@
 mod Scan
 mod Rows
 mod Filtered
+mod Lanes

@@ -84,15 +84,16 @@ so_far_first text from within byte =
       last = subst (λ (x : ℕ). word_at text x ≡ true) same byte;
     }
 
-pub so_far_byte : (text : List ℕ) (from to : ℕ) → IsWordSoFar text from to → to < length text → word_at text to ≡ true → IsWordSoFar text from (to + 1)
-so_far_byte text from to so_far within byte =
-    let same : to ≡ to + 1 - 1 = omega arith in
-    record {
-      order = omega (arith, so_far.order);
-      within = omega arith;
-      each = each_more text from to so_far.each (in_word_by_byte text to byte);
-      last = subst (λ (x : ℕ). word_at text x ≡ true) same byte;
-    }
+pub so_far_run : (text : List ℕ) (from to end : ℕ) → IsWordSoFar text from to → to ≤ end → end ≤ length text → ((k : ℕ) → to ≤ k → k < end → word_at text k ≡ true) → IsWordSoFar text from end
+so_far_run text from to end so_far order within each = record {
+  order = omega (arith, so_far.order);
+  within = within;
+  each = λ k low high. ⊎_elim (λ (less : k < to). so_far.each k low less) (λ (most : to ≤ k). in_word_by_byte text k (each k most high)) (cases_lt k to);
+  last = ⊎_elim
+      (λ (more : to < end). each (end - 1) (omega arith) (omega arith))
+      (λ (none : end ≤ to). let same : to - 1 ≡ end - 1 = omega arith in subst (λ (x : ℕ). word_at text x ≡ true) same so_far.last)
+      (cases_lt to end);
+}
 
 pub so_far_apostrophe : (text : List ℕ) (from to : ℕ) → IsWordSoFar text from to → to + 1 < length text → (apostrophe_at text to && word_at text (to + 1)) ≡ true → IsWordSoFar text from (to + 2)
 so_far_apostrophe text from to so_far within pair =

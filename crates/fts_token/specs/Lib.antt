@@ -1,2 +1,3 @@
 pub mod Between
 pub mod Left
+pub mod Run

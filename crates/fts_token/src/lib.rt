@@ -10,6 +10,7 @@ mod laws;
 mod lower;
 mod placed;
 mod raw;
+mod run;
 #[cfg(test)]
 mod tests;
 mod words;

@@ -2,20 +2,45 @@ ghost use Rattle.std.specs.Prelude.{◌≡◌, ℕ, ◌+◌, ◌<◌, ◌≤◌,
 ghost use Rattle.fts_words.specs.Byte.{is_word_byte, word_at, apostrophe_at};
 ghost use Rattle.fts_words.specs.RawWords.{in_word, raw_words, raw_words_from};
 ghost use Rattle.fts_token.specs.Between.{IsBetweenWords};
+ghost use Rattle.fts_token.specs.Run.{word_bytes};
 
+use crate::run::run_end;
 use fts_words::Span;
+
+const T: bool = true;
+
+const F: bool = false;
+
+/// For each byte, whether it is a word byte: the processor can't foresee the branches of comparisons.
+#[tactic(auto, unfolding(crate::specs::Run::word_bytes))]
+#[inline(always)]
+fn word_bytes() -> &'static [bool]
+    ensures { result.now ≡ word_bytes }
+{
+    &[
+        F, F, F, F, F, F, F, F, F, F, F, F, F, F, F, F, F, F, F, F, F, F, F, F, F, F, F, F, F, F,
+        F, F, F, F, F, F, F, F, F, F, F, F, F, F, F, F, F, F, T, T, T, T, T, T, T, T, T, T, F, F,
+        F, F, F, F, F, T, T, T, T, T, T, T, T, T, T, T, T, T, T, T, T, T, T, T, T, T, T, T, T, T,
+        T, F, F, F, F, T, F, T, T, T, T, T, T, T, T, T, T, T, T, T, T, T, T, T, T, T, T, T, T, T,
+        T, T, T, F, F, F, F, F, F, F, F, F, F, F, F, F, F, F, F, F, F, F, F, F, F, F, F, F, F, F,
+        F, F, F, F, F, F, F, F, F, F, F, F, F, F, F, F, F, F, F, F, F, F, F, F, F, F, F, F, F, F,
+        F, F, F, F, F, F, F, F, F, F, F, F, F, F, F, F, F, F, F, F, F, F, F, F, F, F, F, F, F, F,
+        F, F, F, F, F, F, F, F, F, F, F, F, F, F, F, F, F, F, F, F, F, F, F, F, F, F, F, F, F, F,
+        F, F, F, F, F, F, F, F, F, F, F, F, F, F, F, F,
+    ]
+}
 
 /// Whether the byte is an ASCII letter, a digit or `_`.
 #[inline(always)]
 pub fn is_word_byte(byte: u8) -> bool
     ensures { result ≡ is_word_byte byte }
 {
-    byte.is_ascii_alphanumeric() || byte == b'_'
+    word_bytes()[usize::from(byte)]
 }
 
 /// Whether the text has a word byte at a place. It has none behind its end.
 #[inline(always)]
-fn has_word_byte(text: &[u8], place: usize) -> bool
+pub(crate) fn has_word_byte(text: &[u8], place: usize) -> bool
     ensures byte { result ≡ word_at text.now place }
     ensures within { IsTrue result → place < length text.now }
 {
@@ -65,13 +90,11 @@ fn word_end(text: &[u8], from: usize) -> usize
 {
     let mut to = from + 1;
     loop {
-        if has_word_byte(text, to) {
-            to += 1;
-        } else if has_apostrophe_before_word_byte(text, to) {
-            to += 2;
-        } else {
+        to = run_end(text, to);
+        if !has_apostrophe_before_word_byte(text, to) {
             return to;
         }
+        to += 2;
     }
 }
 
