@@ -229,14 +229,13 @@ fn a_failing_call_of_an_opening_is_a_fault(rt: HostRuntime) -> Result<(), Fail> 
         let files = vec![in alloc; BYTES.to_vec(alloc)?]?;
         let fails = vec![in alloc; (kind, 1)]?;
         let disk = MemDisk::from_files(alloc, files, fails)?;
-        match open_log(alloc, disk, MAGIC, 1000) {
-            Ok(_) => assert!(rt; false, "opened"),
-            Err((error, disk)) => {
-                assert_eq!(rt; error, OpenError::DiskFault);
-                assert_eq!(rt; disk.faults(), 1);
-                assert_eq!(rt; disk.file(0), BYTES.as_slice());
-            }
-        }
+        let (answer, disk) = match open_log(alloc, disk, MAGIC, 1000) {
+            Ok(log) => (None, log.close()),
+            Err((error, disk)) => (Some(error), disk),
+        };
+        assert_eq!(rt; answer, Some(OpenError::DiskFault));
+        assert_eq!(rt; disk.faults(), 1);
+        assert_eq!(rt; disk.file(0), BYTES.as_slice());
     }
     Ok(())
 }
@@ -247,10 +246,11 @@ fn a_failing_call_of_a_creation_is_a_fault(rt: HostRuntime) -> Result<(), Fail> 
     for kind in [Kind::Cut, Kind::Write, Kind::Sync] {
         let fails = vec![in alloc; (kind, 1)]?;
         let disk = MemDisk::from_files(alloc, Vec::new(alloc), fails)?;
-        match create_log(disk, MAGIC, 1000) {
-            Ok(_) => assert!(rt; false, "created"),
-            Err((_, disk)) => assert_eq!(rt; disk.faults(), 1),
-        }
+        let (made, disk) = match create_log(disk, MAGIC, 1000) {
+            Ok(log) => (true, log.close()),
+            Err((_, disk)) => (false, disk),
+        };
+        assert_eq!(rt; (made, disk.faults()), (false, 1));
     }
     Ok(())
 }

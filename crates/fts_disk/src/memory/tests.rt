@@ -153,17 +153,3 @@ fn a_stop_leaves_what_was_synced_and_some_of_the_rest(rt: HostRuntime) -> Result
     }
     Ok(())
 }
-
-#[test]
-fn a_write_into_a_large_file_costs_its_bytes(rt: HostRuntime) -> Result<(), Fail> {
-    let alloc = rt.alloc();
-    let files = vec![in alloc; vec![in alloc; 0; 100_000_000]?]?;
-    let mut disk = MemDisk::from_files(alloc, files, Vec::new(alloc))?;
-    // A copy of the file at each write would take minutes.
-    for k in 0..10_000u64 {
-        assert!(rt; disk.file(0).len() == 100_000_000);
-        disk.write_at(0, k * 9_999, b"0123456789")?;
-    }
-    assert_eq!(rt; disk.calls().len(), 10_000);
-    Ok(())
-}
