@@ -17,30 +17,28 @@ fn settings(alloc: Global) -> Settings {
     }
 }
 
-/// A row of two columns; the second is left out where it is empty.
-fn row(alloc: Global, id: u64, texts: (&str, &str)) -> Result<Row, Fail> {
-    let mut columns = RowTexts::new(alloc);
-    columns.push(texts.0.as_bytes().to_vec(alloc)?)?;
-    if !texts.1.is_empty() {
-        columns.push(texts.1.as_bytes().to_vec(alloc)?)?;
+/// A row of one or two columns; the second is left out where it is empty.
+fn row(alloc: Global, id: u64, first: &str, second: &str) -> Result<Row, Fail> {
+    let mut texts = RowTexts::new(alloc);
+    texts.push(first.as_bytes().to_vec(alloc)?)?;
+    if !second.is_empty() {
+        texts.push(second.as_bytes().to_vec(alloc)?)?;
     }
-    Ok(Row { id, texts: columns })
+    Ok(Row { id, texts })
 }
 
 /// The ids of the rows that a query finds, each row scanned alone.
 fn found(
     rt: &impl Abort,
     alloc: Global,
-    rows: &[(&str, &str)],
+    rows: &[(u64, &str, &str)],
     text: &str,
 ) -> Result<Vec<u64>, Fail> {
     let settings = settings(alloc);
     let query = parse(alloc, text.as_bytes())?;
     let mut all = Vec::new(alloc);
-    let mut id = 0;
-    for texts in rows {
-        id += 1;
-        let row = row(alloc, id, *texts)?;
+    for (id, first, second) in rows {
+        let row = row(alloc, *id, first, second)?;
         assert!(rt; row.texts.is_row());
         let rows = [row];
         let ids = scan(alloc, &settings, &rows, &query)?;
@@ -50,7 +48,11 @@ fn found(
 }
 
 /// Three rows of one column.
-const FRUIT: [(&str, &str); 3] = [("apple pie", ""), ("apple theory", ""), ("the theory", "")];
+const FRUIT: [(u64, &str, &str); 3] = [
+    (1, "apple pie", ""),
+    (2, "apple theory", ""),
+    (3, "the theory", ""),
+];
 
 const FRUIT_SEARCHES: [(&str, &[u64]); 14] = [
     ("pie", &[1]),
@@ -69,15 +71,15 @@ const FRUIT_SEARCHES: [(&str, &[u64]); 14] = [
     ("-(apple)", &[]),
 ];
 
-const PEAR: [(&str, &str); 1] = [("pear", "")];
+const PEAR: [(u64, &str, &str); 1] = [(1, "pear", "")];
 
 const PEAR_SEARCHES: [(&str, &[u64]); 2] = [("-apple", &[]), ("pear -apple", &[1])];
 
 /// Three rows of two columns.
-const PHRASES: [(&str, &str); 3] = [
-    ("x", "test, phrase"),
-    ("x", "test the phrase"),
-    ("a test", "phrase b"),
+const PHRASES: [(u64, &str, &str); 3] = [
+    (1, "x", "test, phrase"),
+    (2, "x", "test the phrase"),
+    (3, "a test", "phrase b"),
 ];
 
 const PHRASE_SEARCHES: [(&str, &[u64]); 3] = [
@@ -86,10 +88,10 @@ const PHRASE_SEARCHES: [(&str, &[u64]); 3] = [
     ("\"the of\"", &[]),
 ];
 
-const DISTANCES: [(&str, &str); 3] = [
-    ("apple the pie", ""),
-    ("apple of the pie", ""),
-    ("apple apple", ""),
+const DISTANCES: [(u64, &str, &str); 3] = [
+    (1, "apple the pie", ""),
+    (2, "apple of the pie", ""),
+    (3, "apple apple", ""),
 ];
 
 const DISTANCE_SEARCHES: [(&str, &[u64]); 4] = [
@@ -102,7 +104,7 @@ const DISTANCE_SEARCHES: [(&str, &[u64]); 4] = [
 fn try_searches(
     rt: &impl Abort,
     alloc: Global,
-    rows: &[(&str, &str)],
+    rows: &[(u64, &str, &str)],
     searches: &[(&str, &[u64])],
 ) -> Result<(), Fail> {
     for (text, want) in searches {

@@ -1,4 +1,4 @@
-use Rattle.std.proofs.Common.{◌≡◌, ℕ, List, false, true, ap, sym, ◌∙◌, arith}
+use Rattle.std.proofs.Common.{◌≡◌, false, ap, sym, ◌∙◌}
 use Rattle.fts_words.specs.Indexed.{word_of}
 use Rattle.fts_types.specs.Rules.{rules_of}
 use Rattle.fts_plain.specs.Words.{fits}

@@ -1,4 +1,4 @@
-use Rattle.std.proofs.Common.{◌≡◌, List, ap, sym, ◌∙◌}
+use Rattle.std.proofs.Common.{List, ap, sym, ◌∙◌}
 use Rattle.fts_types.specs.Rules.{rules_of}
 use Rattle.fts_query.specs.declared.query.Term.{Term}
 use Rattle.fts_query.specs.View.{term_view, terms_view}
