@@ -178,3 +178,35 @@ fn documents_are_copied(rt: HostRuntime) -> Result<(), Fail> {
     assert_eq!(rt; copy.bytes(), EXAMPLE.as_slice());
     Ok(())
 }
+
+fn ids_of(rt: &impl Abort, queue: &PostingQueue, above: u64, expected: &[u64]) {
+    let mut count = 0;
+    for document in queue.docs_behind(above) {
+        assert!(rt; count < expected.len());
+        assert_eq!(rt; document.id(), expected[count]);
+        count += 1;
+    }
+    assert_eq!(rt; count, expected.len());
+    assert_eq!(rt; queue.has_behind(above), !expected.is_empty());
+}
+
+#[test]
+fn a_queue_gives_what_it_took(rt: HostRuntime) -> Result<(), Fail> {
+    let mut queue = PostingQueue::new(rt.alloc());
+    for id in [3_u64, 4, 500, 501] {
+        queue.reserve(2)?;
+        queue.push(id, &[7, 131_071]);
+    }
+    ids_of(&rt, &queue, 0, &[3, 4, 500, 501]);
+    ids_of(&rt, &queue, 3, &[4, 500, 501]);
+    queue.drop_until(4);
+    ids_of(&rt, &queue, 0, &[500, 501]);
+    ids_of(&rt, &queue, 501, &[]);
+    queue.drop_until(500);
+    queue.reserve(2)?;
+    queue.push(9_000, &[0, 1]);
+    ids_of(&rt, &queue, 0, &[501, 9_000]);
+    queue.drop_until(9_000);
+    ids_of(&rt, &queue, 0, &[]);
+    Ok(())
+}
