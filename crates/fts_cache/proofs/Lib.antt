@@ -1,0 +1,4 @@
+pub mod Queues
+pub mod Documents
+pub mod Ids
+pub mod Sweeps

@@ -1,0 +1,5 @@
+pub mod Document
+pub mod Words
+pub mod Cache
+pub mod Kept
+pub mod Sorted
