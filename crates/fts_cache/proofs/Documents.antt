@@ -1,6 +1,7 @@
 -- The words of documents, one after another.
-use Rattle.std.proofs.Common.{◌≡◌, ◌≢◌, ◌⊎◌, inl, inr, ⊎_elim, ℕ, ◌+◌, ◌*◌, ◌^◌, ◌<◌, ◌≤◌, Bool, true, false, cond, nat_lt, List, [], ◌∷◌, ◌++◌, length, map, filter, sum_by, drop, get_or, refl, sym, ap, subst, ◌∙◌, append_assoc, zero-add, add-zero, slice_get, Option, Some, zero, suc, max, arith}
+use Rattle.std.proofs.Common.{◌≡◌, ◌≢◌, ◌⊎◌, inl, inr, ⊎_elim, ◌↔◌, ℕ, ◌+◌, ◌-◌, ◌*◌, ◌^◌, ◌<◌, ◌≤◌, Bool, true, false, cond, IsTrue, nat_lt, List, [], ◌∷◌, ◌++◌, length, map, filter, sum_by, drop, get_or, refl, sym, ap, subst, ◌∙◌, append_assoc, zero-add, add-zero, slice_get, Option, Some, zero, suc, max, arith}
 use Rattle.std.proofs.lemmas.Bool.{lt-ltb, le-ltb, cases_lt}
+use Rattle.std.proofs.lemmas.Cmp.{nat_list_cmp_total}
 use Rattle.std.proofs.lemmas.List.{append-nil, drop_more}
 use Rattle.std.proofs.lemmas.Option.{slice_get_within, unwrap_or-slice_get}
 use Rattle.std.specs.Option.{unwrap_or}
@@ -9,12 +10,13 @@ use Rattle.std.proofs.lemmas.List.Elements.{filter-append}
 use Rattle.std.proofs.lemmas.List.Sums.{sum_by_push, sum_by-cons}
 use Rattle.std.specs.Str.{bytes_eq}
 use Rattle.std.specs.Cmp.Lexicographic.{slice_cmp}
-use Rattle.std.specs.Ordering.{nat_cmp, ordering_then}
+use Rattle.std.specs.Ordering.{nat_cmp, ordering_then, is_lt}
 use Rattle.std.specs.Cmp.{nat_cmp_is}
 use Rattle.std.specs.declared.cmp.Ordering.{Ordering}
-use Rattle.std.specs.declared.cmp.Ordering.TheVariants.{Less, Equal}
+use Rattle.std.specs.declared.cmp.Ordering.TheVariants.{Less, Equal, Greater}
 use Rattle.fts_ilist.specs.Spelling.{Posting, ArePositions}
 use Rattle.fts_ilist.specs.Queue.{Queue, bytes_for, postings_behind}
+use Rattle.fts_cache.specs.declared.document.WordPlaces.{WordPlaces}
 use Rattle.fts_cache.specs.Document.{WordPositions, Document, IsDocument, document_size, words_size, found_words, postings_from, bytes_in, IsBefore, BeginsBefore, EndsBefore, AreWords}
 use Rattle.fts_cache.specs.Words.{Entries, queue_in, Changes, StaysButRoom, Pushes, IsAdded, IsPartlyAdded}
 use Rattle.fts_cache.proofs.Queues.{which_word, is_same}
@@ -25,9 +27,14 @@ begins_push : (word : List ℕ) (ws : List WordPositions) (w : WordPositions) �
 begins_push word [] w h before = (before, tt)
 begins_push word (v ∷ vs) w h before = (h.0, begins_push word vs w h.1 before)
 
+first_before : (word last : List ℕ) (v : WordPositions) (vs : List WordPositions) → AreWords (v ∷ vs) → IsBefore word v.word → EndsBefore (v ∷ vs) last → IsBefore word last
+first_before word last v [] h first end = nat_list_cmp_total.trans word v.word last first end
+first_before word last v (u ∷ us) h first end = first_before word last u us h.2 (nat_list_cmp_total.trans word v.word u.word first h.1.0) end
+
 pub words_push : (ws : List WordPositions) (w : WordPositions) → AreWords ws → EndsBefore ws w.word → ArePositions w.positions → AreWords (ws ++ w ∷ [])
 words_push [] w h before are = (are, tt, tt)
-words_push (v ∷ vs) w h before are = (h.0, begins_push v.word vs w h.1 before.0, words_push vs w h.2 before.1 are)
+words_push (v ∷ []) w h before are = (h.0, (before, tt), (are, tt, tt))
+words_push (v ∷ (u ∷ us)) w h before are = (h.0, begins_push v.word (u ∷ us) w h.1 (first_before v.word w.word u us h.2 h.1.0 before), words_push (u ∷ us) w h.2 before are)
 
 pub size_push : (ws : List WordPositions) (w : WordPositions) → words_size (ws ++ w ∷ []) ≡ words_size ws + length w.positions * (length w.word + 8)
 size_push ws w = sum_by_push (λ (v : WordPositions). length v.positions * (length v.word + 8)) ws w
@@ -245,3 +252,33 @@ behind_both a b c ps e =
       | inl lt ↦ let same : c ≡ b = omega arith in ap (λ (n : ℕ). postings_behind n ps) same ∙ sym (behind_again b a ps (omega arith))
       | inr le ↦ let same : c ≡ a = omega arith in ap (λ (n : ℕ). postings_behind n ps) same ∙ sym (behind_lower a b ps le)
     ]
+
+-- ---- the last word
+
+abbrev pub shown_word : WordPlaces → WordPositions
+shown_word p = record { word = p.word.items; positions = p.positions.items }
+
+pub ends_at : (word : List ℕ) (ps : List WordPlaces) (i : ℕ) (x : WordPlaces) → i + 1 ≡ length ps → x ≡ get_or ps i x → EndsBefore (map shown_word ps) word ↔ IsBefore x.word.items word
+ends_at word [] i x e at = absurd (omega (arith, e))
+ends_at word (p ∷ []) zero x e at = (λ h. subst (λ (y : WordPlaces). IsBefore y.word.items word) (sym at) h, λ h. subst (λ (y : WordPlaces). IsBefore y.word.items word) at h)
+ends_at word (p ∷ []) (suc i) x e at = absurd (omega (arith, e))
+ends_at word (p ∷ (q ∷ qs)) zero x e at = absurd (omega (arith, e))
+ends_at word (p ∷ (q ∷ qs)) (suc i) x e at = ends_at word (q ∷ qs) i x (omega (arith, e)) at
+
+pub ends_nowhere : (word : List ℕ) (ps : List WordPlaces) → length ps ≡ 0 → EndsBefore (map shown_word ps) word
+ends_nowhere word [] e = tt
+ends_nowhere word (p ∷ ps) e = absurd (omega (arith, e))
+
+below : (o : Ordering) → (is_lt o ≡ true) ↔ (o ≡ Less)
+below Less = (λ e. refl, λ e. refl)
+below Equal = (λ e. absurd cc, λ e. absurd cc)
+below Greater = (λ e. absurd cc, λ e. absurd cc)
+
+pub behind_last : (word : List ℕ) (ps : List WordPlaces) (x : WordPlaces) (o : Ordering) (b : Bool) → Some x ≡ slice_get ps (length ps - 1) → o ≡ slice_cmp nat_cmp x.word.items word → b ≡ is_lt o
+    → IsTrue b ↔ EndsBefore (map shown_word ps) word
+behind_last word ps x o b at order test =
+    let within = slice_get_within ps (length ps - 1) x (sym at) in
+    let same : x ≡ get_or ps (length ps - 1) x = ap (λ (y : Option WordPlaces). unwrap_or y x) at ∙ unwrap_or-slice_get ps (length ps - 1) x in
+    let e = ends_at word ps (length ps - 1) x (omega arith) same in
+    let l = below o in
+    (λ t. e.1 (sym order ∙ l.0 (sym test ∙ t)), λ h. test ∙ l.1 (order ∙ e.0 h))

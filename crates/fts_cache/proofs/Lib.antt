@@ -2,3 +2,4 @@ pub mod Queues
 pub mod Documents
 pub mod Ids
 pub mod Sweeps
+pub mod Shown

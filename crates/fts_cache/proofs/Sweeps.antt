@@ -19,7 +19,7 @@ nothing_left b (p ∷ ps) e h = absurd (
     cc)
 
 -- no later entry has the key of the first
-key_absent : (k : Vec ℕ) (es : Entries) (w : List ℕ) → IsDistinct (λ (x y : Vec ℕ). bytes_eq x.items y.items) (k ∷ keys_of es) → w ≡ k.items → queue_in es w ≡ no_queue
+pub key_absent : (k : Vec ℕ) (es : Entries) (w : List ℕ) → IsDistinct (λ (x y : Vec ℕ). bytes_eq x.items y.items) (k ∷ keys_of es) → w ≡ k.items → queue_in es w ≡ no_queue
 unfolding IsDistinct
 key_absent k [] w u e = refl
 key_absent k (f ∷ fs) w u e =
@@ -27,7 +27,7 @@ key_absent k (f ∷ fs) w u e =
     ∙ ap (λ (b : Bool). cond b f.1 (queue_in fs w)) (ap (λ (x : List ℕ). bytes_eq x f.0.items) e ∙ u.0.0)
     ∙ key_absent k fs w (u.0.1, u.1.1) e
 
-distinct_rest : (k : Vec ℕ) (es : Entries) → IsDistinct (λ (x y : Vec ℕ). bytes_eq x.items y.items) (k ∷ keys_of es) → IsDistinct (λ (x y : Vec ℕ). bytes_eq x.items y.items) (keys_of es)
+pub distinct_rest : (k : Vec ℕ) (es : Entries) → IsDistinct (λ (x y : Vec ℕ). bytes_eq x.items y.items) (k ∷ keys_of es) → IsDistinct (λ (x y : Vec ℕ). bytes_eq x.items y.items) (keys_of es)
 unfolding IsDistinct
 distinct_rest k es u = u.1
 

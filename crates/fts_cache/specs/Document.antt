@@ -53,10 +53,11 @@ abbrev pub BeginsBefore : List ℕ → List WordPositions → Type 0
 BeginsBefore word [] = Unit {0}
 BeginsBefore word (w ∷ ws) = IsBefore word w.word × BeginsBefore word ws
 
--- each of these comes before the word
+-- the last of these, if any, comes before the word
 abbrev pub EndsBefore : List WordPositions → List ℕ → Type 0
 EndsBefore [] word = Unit {0}
-EndsBefore (w ∷ ws) word = IsBefore w.word word × EndsBefore ws word
+EndsBefore (w ∷ []) word = IsBefore w.word word
+EndsBefore (w ∷ (v ∷ vs)) word = EndsBefore (v ∷ vs) word
 
 -- words of one document: they ascend, each with its positions
 abbrev pub AreWords : List WordPositions → Type 0
@@ -68,3 +69,9 @@ pub record IsDocument (d : Document) : Type 0 where
   pub limit : d.id < 2 ^ 63
   pub words : AreWords d.words
   pub small : document_size d < 2 ^ 32
+
+-- a word with these positions can be added behind the words of a document
+pub record CanPush (d : Document) (word positions : List ℕ) : Type 0 where
+  pub above : EndsBefore d.words word
+  pub are_positions : ArePositions positions
+  pub small : document_size d + length positions * (length word + 8) < 2 ^ 32

@@ -202,6 +202,13 @@ impl Cache {
         self.size
     }
 
+    /// The largest id that came in or that was dropped up to, or 0. A new document is above it.
+    pub fn last(&self) -> u64
+        ensures { result ≡ self.now.last }
+    {
+        self.last
+    }
+
     /// How many documents it has.
     pub fn len(&self) -> usize
         ensures { result ≡ length self.now.documents }

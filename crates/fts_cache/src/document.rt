@@ -1,8 +1,9 @@
 //! One document's words.
-ghost use Rattle.std.specs.Prelude.{◌≡◌, ◌+◌, ◌*◌, ◌^◌, ◌<◌, ◌≤◌, ◌==◌, ◌++◌, [], ◌∷◌, length, slice_get, Some, OnOk, OnErr};
+ghost use Rattle.std.specs.Prelude.{◌≡◌, ◌+◌, ◌*◌, ◌^◌, ◌<◌, ◌≤◌, ◌==◌, ◌++◌, [], ◌∷◌, length, map, slice_get, Some, IsTrue, ◌↔◌, OnOk, OnErr};
 ghost use Rattle.fts_ilist.specs.Spelling.{ArePositions};
-ghost use Rattle.fts_cache.specs.Document.{Document, WordPositions, document_size, EndsBefore, IsDocument};
+ghost use Rattle.fts_cache.specs.Document.{Document, WordPositions, document_size, EndsBefore, CanPush, IsDocument};
 
+use fts_ilist::LAST_POSITION;
 use std::alloc::{AllocError, Global};
 use std::marker::Model;
 
@@ -31,6 +32,41 @@ impl Model for DocWords {
     ghost view = { λ d. record { id = d.id; words = map (λ w. record { word = w.word.items; positions = w.positions.items }) d.words.items } };
 
     ghost invariant = { λ d. (let shown : Document = record { id = d.id; words = map (λ w. record { word = w.word.items; positions = w.positions.items }) d.words.items } in IsDocument shown × (d.size ≡ document_size shown)) };
+}
+
+/// Whether a word comes behind the last of these, if any.
+fn is_behind(words: &[WordPlaces], word: &[u8]) -> bool
+    ensures { IsTrue result ↔ EndsBefore (map (λ w. record { word = w.word.items; positions = w.positions.items }) words.now) word.now }
+{
+    match words.last() {
+        Some(places) => places.word.as_slice().cmp(&word).is_lt(),
+        None => true,
+    }
+}
+
+/// Whether these are positions of one word: at least one, ascending, at most 131,071.
+fn are_positions(positions: &[u32]) -> bool
+    ensures { IsTrue result ↔ ArePositions positions.now }
+{
+    let mut next = 0;
+    for position in positions {
+        if *position < next || *position > LAST_POSITION {
+            return false;
+        }
+        next = *position + 1;
+    }
+    !positions.is_empty()
+}
+
+/// Whether a size stays below 2^32 with a word of this length at so many positions.
+fn has_room(size: u32, len: usize, positions: usize) -> bool
+    requires len { len < 2 ^ 63 }
+    ensures { IsTrue result ↔ (size + positions * (len + 8) < 2 ^ 32) }
+{
+    match (positions as u64).checked_mul(len as u64 + 8) {
+        Some(more) => more < 1 << 32 && u64::from(size) + more < 1 << 32,
+        None => false,
+    }
 }
 
 impl DocWords {
@@ -87,11 +123,23 @@ impl DocWords {
         (&places.word, &places.positions)
     }
 
+    /// Whether a word with these positions can be added behind the last: it comes behind the last word in the order of
+    /// bytes, its positions are at least one, ascending and at most 131,071, and the size stays below 2^32.
+    pub fn can_push(&self, word: &[u8], positions: &[u32]) -> bool
+        ensures { IsTrue result ↔ CanPush self.now word.now positions.now }
+    {
+        if !is_behind(&self.words, word) {
+            return false;
+        }
+        if !are_positions(positions) {
+            return false;
+        }
+        has_room(self.size, word.len(), positions.len())
+    }
+
     /// Adds a word behind the last. Where there is no memory for it, the document stays as it was.
     pub fn push(&mut self, word: Vec<u8>, positions: Vec<u32>) -> Result<(), AllocError>
-        requires above { EndsBefore self.old.words word.items }
-        requires positions { ArePositions positions.items }
-        requires small { document_size self.old + length positions.items * (length word.items + 8) < 2 ^ 32 }
+        requires { CanPush self.old word.items positions.items }
         ensures ok { OnOk result (self.new ≡ record self.old { words = self.old.words ++ record { word = word.items; positions = positions.items } ∷ [] }) }
         ensures err { OnErr result (self.new ≡ self.old) }
     {

@@ -1,28 +1,134 @@
+ghost use Rattle.std.specs.Prelude.{◌<◌, ◌^◌};
+
 use super::*;
 use std::alloc::Global;
+use std::collections::BTreeMap;
 use std::process::Abort;
 use std::test::Fail;
 
 // A document with these words, each at the places given.
-fn document(alloc: Global, id: u64, words: &[(&[u8], &[u32])]) -> Result<DocWords, Fail> {
+fn document(
+    rt: &impl Abort,
+    alloc: Global,
+    id: u64,
+    words: &[(&[u8], &[u32])],
+) -> Result<DocWords, Fail>
+    requires positive { 0 < id }
+    requires limit { id < 2 ^ 63 }
+{
     let mut made = DocWords::new(alloc, id);
     for (word, positions) in words {
-        made.push(word.to_vec(alloc)?, positions.to_vec(alloc)?)?;
+        let word = Vec::from_slice(alloc, word)?;
+        let positions = Vec::from_slice(alloc, positions)?;
+        assert!(rt; made.can_push(&word, &positions));
+        made.push(word, positions)?;
     }
     Ok(made)
 }
 
+// Makes room for the documents and adds them.
+fn add_all(rt: &impl Abort, cache: &mut Cache, documents: &[DocWords]) -> Result<(), Fail> {
+    cache.reserve(documents)?;
+    for document in documents {
+        assert!(rt; cache.last() < document.id());
+        cache.add(document);
+    }
+    Ok(())
+}
+
 // The word's documents and their first positions are these.
 fn has(rt: &impl Abort, cache: &Cache, word: &[u8], expected: &[(u64, u32)]) {
-    let mut count = 0;
+    let mut left = expected.iter().copied();
     for found in cache.postings(word) {
-        assert!(rt; count < expected.len());
         let first = found.positions().next();
         assert_eq!(rt;
-            (found.id(), first),
-            (expected[count].0, Some(expected[count].1))
+            left.next(),
+            Some((found.id(), first.expect(rt, "a position")))
         );
-        count += 1;
     }
-    assert_eq!(rt; count, expected.len());
+    assert_eq!(rt; left.next(), None);
+}
+
+#[test]
+fn the_cache_gives_what_it_took(rt: HostRuntime) -> Result<(), Fail> {
+    let alloc = rt.alloc();
+    let mut cache = Cache::new(alloc);
+    let documents = [
+        document(&rt, alloc, 3, &[(b"apple", &[4, 20]), (b"pear", &[0])])?,
+        document(&rt, alloc, 4, &[(b"apple", &[0]), (b"apples", &[6])])?,
+        document(&rt, alloc, 900, &[(b"apply", &[7]), (b"pear", &[0, 9])])?,
+        document(&rt, alloc, 901, &[])?,
+    ];
+    cache.reserve(&documents)?;
+    assert!(rt; cache.is_empty() && cache.prefix(b"")?.is_empty());
+    add_all(&rt, &mut cache, &documents)?;
+    // 16 a document, and for each occurrence the word's length and 8.
+    assert_eq!(rt;
+        cache.size(),
+        4 * 16 + (2 * 13 + 12) + (13 + 14) + (13 + 2 * 12)
+    );
+    assert_eq!(rt; (cache.len(), cache.last()), (4, 901));
+    has(&rt, &cache, b"apple", &[(3, 4), (4, 0)]);
+    has(&rt, &cache, b"pear", &[(3, 0), (900, 0)]);
+    has(&rt, &cache, b"plum", &[]);
+    assert_eq!(rt;
+        cache.prefix(b"appl")?.as_slice(),
+        [b"apple".as_slice(), b"apples", b"apply"].as_slice()
+    );
+    assert_eq!(rt;
+        cache.prefix(b"apples")?.as_slice(),
+        [b"apples".as_slice()].as_slice()
+    );
+    cache.drop_until(4);
+    assert_eq!(rt; cache.size(), 2 * 16 + (13 + 2 * 12));
+    has(&rt, &cache, b"apple", &[]);
+    has(&rt, &cache, b"pear", &[(900, 0)]);
+    assert_eq!(rt;
+        cache.prefix(b"")?.as_slice(),
+        [b"apply".as_slice(), b"pear"].as_slice()
+    );
+    cache.drop_until(950);
+    assert_eq!(rt; (cache.size(), cache.len(), cache.last()), (0, 0, 950));
+    assert!(rt; cache.prefix(b"")?.is_empty());
+    Ok(())
+}
+
+// Documents of the words `a` to `y`, dropped in batches, beside a plain map from letters to ids.
+#[test]
+fn the_cache_is_as_a_plain_map(rt: HostRuntime) -> Result<(), Fail> {
+    let alloc = rt.alloc();
+    let mut cache = Cache::new(alloc);
+    let mut plain: BTreeMap<u8, Vec<u64>> = BTreeMap::new(alloc);
+    for id in 1..61_u64 {
+        let mut made = DocWords::new(alloc, id);
+        for letter in b'a'..=b'y' {
+            if (id * u64::from(letter)) % 7 < 3 {
+                let word = Vec::from_slice(alloc, &[letter])?;
+                let positions = Vec::from_slice(alloc, &[5, 6])?;
+                assert!(rt; made.can_push(&word, &positions));
+                made.push(word, positions)?;
+                let mut ids = plain.remove(&letter).unwrap_or_else(|| Vec::new(alloc));
+                ids.push(id)?;
+                plain.insert(letter, ids)?;
+            }
+        }
+        add_all(&rt, &mut cache, &[made])?;
+        if id % 16 == 0 {
+            cache.drop_until(id - 8);
+            for ids in plain.values_mut() {
+                ids.retain(|kept: &u64| *kept > id - 8);
+            }
+        }
+    }
+    for letter in b'a'..=b'y' {
+        let mut left = plain
+            .get(&letter)
+            .map_or([].iter(), |ids| ids.iter())
+            .copied();
+        for found in cache.postings(&[letter]) {
+            assert_eq!(rt; left.next(), Some(found.id()));
+        }
+        assert_eq!(rt; left.next(), None);
+    }
+    Ok(())
 }

@@ -1,5 +1,5 @@
 //! The queues of the cached words, by word.
-ghost use Rattle.std.specs.Prelude.{◌≡◌, ◌+◌, ◌^◌, ◌<◌, ◌≤◌, ◌++◌, List, ℕ, [], ◌∷◌, length, map, IfOk, OnOk, OnErr};
+ghost use Rattle.std.specs.Prelude.{◌≡◌, ◌+◌, ◌^◌, ◌<◌, ◌≤◌, ◌++◌, List, ℕ, [], ◌∷◌, length, map, if◌then◌else◌, IfOk, OnOk, OnErr};
 ghost use Rattle.fts_ilist.specs.Spelling.{ArePositions};
 ghost use Rattle.fts_ilist.specs.Queue.{Queue, bytes_for, postings_behind};
 ghost use Rattle.fts_cache.specs.Document.{bytes_in, bytes_of};
@@ -163,21 +163,32 @@ fn is_shown(word: &[u8], queue: &PostingQueue, through: u64, prefix: &[u8]) -> b
     word.starts_with(prefix) && queue.has_behind(through)
 }
 
+/// Puts a word behind the others, where it shows.
+fn push_shown<'a>(words: &mut Vec<&'a [u8]>, word: &'a [u8], shown: bool) -> Result<(), AllocError>
+    ensures { OnOk result (map (λ w. w.now) words.new.items ≡ map (λ w. w.now) words.old.items ++ (if shown then word.now ∷ [] else [])) }
+{
+    if shown {
+        words.push(word)?;
+    }
+    Ok(())
+}
+
 /// The words that begin so and whose queues have a document above `through`, as they were entered.
 pub(crate) fn shown_words<'a>(
     queues: &'a WordQueues,
     through: u64,
     prefix: &[u8],
 ) -> Result<Vec<&'a [u8]>, AllocError>
-    ensures { IfOk result (λ words. map (λ w. w.now) words.items ≡ shown_in through prefix.now queues.now.entries) }
+    ensures words { IfOk result (λ words. map (λ w. w.now) words.items ≡ shown_in through prefix.now queues.now.entries) }
+    ensures unique { IsUnique (λ k l. bytes_eq k.items l.items) queues.now }
 {
     let mut words = Vec::new(*queues.allocator());
     for place in 0..queues.len() {
-        if let Some((word, queue)) = queues.get_index(place) {
-            if is_shown(word, queue, through, prefix) {
-                words.push(word.as_slice())?;
-            }
-        }
+        let (word, queue) = match queues.get_index(place) {
+            Some(entry) => entry,
+            None => unreachable!(),
+        };
+        push_shown(&mut words, word, is_shown(word, queue, through, prefix))?;
     }
     Ok(words)
 }

@@ -180,23 +180,25 @@ fn documents_are_copied(rt: HostRuntime) -> Result<(), Fail> {
 }
 
 fn ids_of(rt: &impl Abort, queue: &PostingQueue, above: u64, expected: &[u64]) {
-    let mut count = 0;
+    let mut left = expected.iter().copied();
     for document in queue.docs_behind(above) {
-        assert!(rt; count < expected.len());
-        assert_eq!(rt; document.id(), expected[count]);
-        count += 1;
+        assert_eq!(rt; left.next(), Some(document.id()));
     }
-    assert_eq!(rt; count, expected.len());
+    assert_eq!(rt; left.next(), None);
     assert_eq!(rt; queue.has_behind(above), !expected.is_empty());
 }
 
 #[test]
 fn a_queue_gives_what_it_took(rt: HostRuntime) -> Result<(), Fail> {
     let mut queue = PostingQueue::new(rt.alloc());
-    for id in [3_u64, 4, 500, 501] {
-        queue.reserve(2)?;
-        queue.push(id, &[7, 131_071]);
-    }
+    queue.reserve(2)?;
+    queue.push(3, &[7, 131_071]);
+    queue.reserve(1)?;
+    queue.reserve(2)?;
+    queue.push(4, &[0]);
+    queue.push(500, &[7, 131_071]);
+    queue.reserve(2)?;
+    queue.push(501, &[0, 1]);
     ids_of(&rt, &queue, 0, &[3, 4, 500, 501]);
     ids_of(&rt, &queue, 3, &[4, 500, 501]);
     queue.drop_until(4);
