@@ -3,3 +3,5 @@ pub mod Documents
 pub mod Ids
 pub mod Sweeps
 pub mod Shown
+pub mod Holding
+pub mod Rows

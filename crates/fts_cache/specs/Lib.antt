@@ -3,3 +3,4 @@ pub mod Words
 pub mod Cache
 pub mod Kept
 pub mod Sorted
+pub mod Holds

@@ -2,7 +2,6 @@ ghost use Rattle.std.specs.Prelude.{◌<◌, ◌^◌};
 
 use super::*;
 use std::alloc::Global;
-use std::collections::BTreeMap;
 use std::process::Abort;
 use std::test::Fail;
 
@@ -93,42 +92,58 @@ fn the_cache_gives_what_it_took(rt: HostRuntime) -> Result<(), Fail> {
     Ok(())
 }
 
-// Documents of the words `a` to `y`, dropped in batches, beside a plain map from letters to ids.
+// A document of every third letter or so, which are noted beside its id.
+fn letters(
+    rt: &impl Abort,
+    alloc: Global,
+    id: u64,
+    noted: &mut Vec<(u64, u8)>,
+) -> Result<DocWords, Fail>
+    requires positive { 0 < id }
+    requires limit { id < 2 ^ 63 }
+{
+    let mut made = DocWords::new(alloc, id);
+    for letter in b'a'..=b'y' {
+        if (id % 7 * u64::from(letter)) % 7 < 3 {
+            let word = Vec::from_slice(alloc, &[letter])?;
+            let positions = Vec::from_slice(alloc, &[5, 6])?;
+            assert!(rt; made.can_push(&word, &positions));
+            made.push(word, positions)?;
+            noted.push((id, letter))?;
+        }
+    }
+    Ok(made)
+}
+
+// The letter's documents are the noted ones above an id.
+fn has_noted(rt: &impl Abort, cache: &Cache, letter: u8, noted: &[(u64, u8)], above: u64) {
+    let mut found = cache.postings(&[letter]);
+    for (id, other) in noted {
+        if *other == letter && *id > above {
+            let document = found.next().expect(rt, "a document");
+            assert_eq!(rt; document.id(), *id);
+        }
+    }
+    assert!(rt; found.next().is_none());
+}
+
+// Documents of the words `a` to `y`, dropped in batches, beside a plain list of ids and letters.
 #[test]
-fn the_cache_is_as_a_plain_map(rt: HostRuntime) -> Result<(), Fail> {
+fn the_cache_is_as_a_plain_list(rt: HostRuntime) -> Result<(), Fail> {
     let alloc = rt.alloc();
     let mut cache = Cache::new(alloc);
-    let mut plain: BTreeMap<u8, Vec<u64>> = BTreeMap::new(alloc);
+    let mut noted = Vec::new(alloc);
+    let mut dropped = 0;
     for id in 1..61_u64 {
-        let mut made = DocWords::new(alloc, id);
-        for letter in b'a'..=b'y' {
-            if (id * u64::from(letter)) % 7 < 3 {
-                let word = Vec::from_slice(alloc, &[letter])?;
-                let positions = Vec::from_slice(alloc, &[5, 6])?;
-                assert!(rt; made.can_push(&word, &positions));
-                made.push(word, positions)?;
-                let mut ids = plain.remove(&letter).unwrap_or_else(|| Vec::new(alloc));
-                ids.push(id)?;
-                plain.insert(letter, ids)?;
-            }
-        }
+        let made = letters(&rt, alloc, id, &mut noted)?;
         add_all(&rt, &mut cache, &[made])?;
         if id % 16 == 0 {
-            cache.drop_until(id - 8);
-            for ids in plain.values_mut() {
-                ids.retain(|kept: &u64| *kept > id - 8);
-            }
+            dropped = id - 8;
+            cache.drop_until(dropped);
         }
     }
     for letter in b'a'..=b'y' {
-        let mut left = plain
-            .get(&letter)
-            .map_or([].iter(), |ids| ids.iter())
-            .copied();
-        for found in cache.postings(&[letter]) {
-            assert_eq!(rt; left.next(), Some(found.id()));
-        }
-        assert_eq!(rt; left.next(), None);
+        has_noted(&rt, &cache, letter, &noted, dropped);
     }
     Ok(())
 }

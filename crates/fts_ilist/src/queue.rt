@@ -164,8 +164,8 @@ impl PostingQueue {
     {
         let room = self.room + bytes_for_document(positions);
         if self.bytes.capacity() - self.bytes.len() < room {
-            // A quarter more, so that the bytes that are copied stay within a constant for each byte put in.
-            self.bytes.reserve_exact(room.max(self.bytes.len() / 4))?;
+            // An eighth more, so that the bytes that are copied stay within a constant for each byte put in.
+            self.bytes.reserve_exact(room.max(self.bytes.len() / 8))?;
         }
         self.room = room;
         Ok(())
@@ -187,16 +187,18 @@ impl PostingQueue {
     }
 
     /// Takes the documents up to `doc` out. It takes time for them alone, and for the bytes behind them only
-    /// where these are fewer than those that left before.
+    /// where these are at most four times as many as those that left before.
     pub fn drop_until(&mut self, doc: u64)
         ensures { self.new ≡ record self.old { postings = postings_behind doc self.old.postings } }
     {
         let (start, before) = place_behind(&self.bytes, self.start, self.before, doc);
         self.start = start;
         self.before = before;
-        if start > self.bytes.len() - start {
+        if start > (self.bytes.len() - start) / 4 {
             cut_front(&mut self.bytes, start);
             self.start = 0;
+            let kept = self.bytes.len();
+            self.bytes.shrink_to(kept + kept / 8 + self.room);
         }
     }
 }
