@@ -26,6 +26,13 @@ short_groups (suc k) n h =
 pub number_fits : (n : ℕ) → n < 2 ^ 64 → length (number_bytes n) ≤ 10
 number_fits n h = omega (arith, length_number n, short_groups 9 (n / 128) (omega arith))
 
+-- the increase of an id, and of a position
+pub id_fits : (n : ℕ) → n < 2 ^ 63 → length (number_bytes n) ≤ 9
+id_fits n h = omega (arith, length_number n, short_groups 8 (n / 128) (omega arith))
+
+pub position_fits : (n : ℕ) → n ≤ 131072 → length (number_bytes n) ≤ 3
+position_fits n h = omega (arith, length_number n, short_groups 2 (n / 128) (omega arith))
+
 pub groups_positive : (n : ℕ) → 0 < length (all_groups n) → 0 < n
 groups_positive n h =
     elim (cases_lt 0 n) [

@@ -9,3 +9,4 @@ pub mod Reader
 pub mod Tails
 pub mod Lists
 pub mod Merging
+pub mod Queues

@@ -5,3 +5,4 @@ pub mod Reading
 pub mod Progress
 pub mod Changes
 pub mod Parsed
+pub mod Queue

@@ -113,6 +113,13 @@ impl<'a> Model for Documents<'a> {
 }
 
 impl<'a> Documents<'a> {
+    /// No documents.
+    pub fn none() -> Self
+        ensures { result ≡ [] }
+    {
+        Documents { rest: &[], last: 0 }
+    }
+
     /// The id of the next document, where one is left. Nothing moves.
     pub fn peek_id(&self) -> Option<u64>
         ensures none { IfNone result (self.now ≡ []) }

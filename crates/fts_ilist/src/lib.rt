@@ -7,11 +7,13 @@
 mod documents;
 mod list;
 mod number;
+mod queue;
 mod reading;
 
 pub use documents::{Document, Documents, Positions};
 pub use list::{Ilist, ParseError, lists_have_one_spelling, parse};
 pub use number::{Bad, NUMBER_ROOM, numbers_have_one_spelling, put_number, take_number};
+pub use queue::PostingQueue;
 pub use reading::{LAST_ID, LAST_POSITION};
 
 #[cfg(test)]

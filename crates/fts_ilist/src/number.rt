@@ -1,6 +1,6 @@
 //! Numbers as bytes: groups of seven bits, the most significant first, in the fewest bytes, with the high bit
 //! set on the last byte alone.
-ghost use Rattle.std.specs.Prelude.{◌≡◌, ℕ, ◌+◌, ◌^◌, ◌<◌, ◌≤◌, List, ◌++◌, length, drop, Ok, IfOk, IfErr, OnOk, OnErr, IfSome, IfNone};
+ghost use Rattle.std.specs.Prelude.{◌≡◌, ℕ, ◌+◌, ◌^◌, ◌<◌, ◌≤◌, List, ◌++◌, length, drop, Ok, IfOk, IfErr, OnOk, OnErr, IfSome, IfNone, vec_len, vec_capacity};
 ghost use Rattle.fts_ilist.specs.Number.{number_bytes, BeginsWithNumber};
 ghost use Rattle.fts_ilist.specs.declared.number.TheConstants.{NUMBER_ROOM};
 
@@ -134,4 +134,21 @@ pub(crate) fn append_number(out: &mut Vec<u8>, n: u64) -> Result<(), AllocError>
     let mut buf = [0; NUMBER_ROOM];
     let len = put_number(n, &mut buf);
     out.extend_from_slice(&buf[..len])
+}
+
+/// Writes the number at the end, within the capacity.
+#[inline]
+pub(crate) fn put_in_room(out: &mut Vec<u8>, n: u64)
+    requires { vec_len out.old + length (number_bytes n) ≤ vec_capacity out.old }
+    ensures items { out.new.items ≡ out.old.items ++ number_bytes n }
+    ensures len { vec_len out.new ≡ vec_len out.old + length (number_bytes n) }
+    ensures capacity { vec_capacity out.old ≤ vec_capacity out.new }
+{
+    if n < 128 {
+        out.push(n as u8 + 128).unwrap();
+        return;
+    }
+    let mut buf = [0; NUMBER_ROOM];
+    let len = put_number(n, &mut buf);
+    out.extend_from_slice(&buf[..len]).unwrap();
 }

@@ -1,0 +1,7 @@
+pub mod Queues
+pub mod Documents
+pub mod Ids
+pub mod Sweeps
+pub mod Shown
+pub mod Holding
+pub mod Rows

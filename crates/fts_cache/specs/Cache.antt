@@ -1,0 +1,75 @@
+-- What contracts see of a cache.
+use Rattle.std.specs.Prelude.{◌≡◌, ℕ, ◌+◌, ◌^◌, ◌<◌, ◌≤◌, List, [], ◌∷◌, length, filter, sum_by, nat_lt}
+use Rattle.fts_ilist.specs.Spelling.{Posting}
+use Rattle.fts_ilist.specs.Queue.{postings_behind}
+use Rattle.fts_cache.specs.Document.{Document, document_size, document_postings, bytes_of}
+use Rattle.fts_cache.specs.Words.{Entries, queue_in, EndBy}
+
+-- a document in the cache
+pub record CachedDocument : Type 0 where
+  pub id : ℕ
+  pub size : ℕ
+
+-- a cache, as its contracts speak of it by `documents`, `last` and the functions below
+pub record CacheState : Type 0 where
+  -- the documents, by ascending ids
+  pub documents : List CachedDocument
+  -- no document up to this id can come in
+  pub last : ℕ
+  -- for how many more documents there is room
+  pub spare : ℕ
+  -- the queues of the words that were entered, and the id of the last document that left
+  pub queues : Entries
+  pub through : ℕ
+
+-- the documents that have the word, by ascending ids, with their positions
+abbrev pub postings_of : CacheState → List ℕ → List Posting
+postings_of c word = postings_behind c.through (queue_in c.queues word).postings
+
+-- for how many bytes of documents there is room in the list of a word
+abbrev pub room_of : CacheState → List ℕ → ℕ
+room_of c word = (queue_in c.queues word).room
+
+-- the size of the cache: the sum of its documents' sizes
+abbrev pub cache_size : CacheState → ℕ
+cache_size c = sum_by (λ d. d.size) c.documents
+
+-- a document as the cache keeps it
+abbrev pub cached : Document → CachedDocument
+cached d = record { id = d.id; size = document_size d }
+
+-- the documents behind an id
+abbrev pub cached_behind : ℕ → List CachedDocument → List CachedDocument
+cached_behind id ds = filter (λ d. nat_lt id d.id) ds
+
+-- the same documents and postings; room isn't spoken of
+pub record SameContents (old new : CacheState) : Type 0 where
+  pub documents : new.documents ≡ old.documents
+  pub postings : (w : List ℕ) → postings_of new w ≡ postings_of old w
+  pub last : new.last ≡ old.last
+
+-- these documents can be added, one after another, without memory
+pub record HasRoom (c : CacheState) (ds : List Document) : Type 0 where
+  pub words : (w : List ℕ) → bytes_of w ds ≤ room_of c w
+  pub documents : length ds ≤ c.spare
+  pub size : cache_size c + sum_by document_size ds < 2 ^ 64
+
+-- documents with ascending ids, from above low up to last
+abbrev pub Ids : ℕ → ℕ → List CachedDocument → Type 0
+Ids low last [] = low ≤ last
+Ids low last (d ∷ ds) = (low < d.id) × Ids d.id last ds
+
+abbrev pub IdsAscend : List CachedDocument → Type 0
+IdsAscend ds = (last : ℕ) × Ids 0 last ds
+
+-- the first document, if any, is above doc
+abbrev pub BeginsAbove : ℕ → List CachedDocument → Type 0
+BeginsAbove doc [] = Unit {0}
+BeginsAbove doc (d ∷ ds) = doc < d.id
+
+-- the fields of a cache
+pub record IsCache (entries : Entries) (ds : List CachedDocument) (through last size : ℕ) : Type 0 where
+  pub ends : EndBy last entries
+  pub ids : Ids 0 last ds
+  pub left : through ≤ last
+  pub size_is : size ≡ sum_by (λ d. d.size) ds

@@ -1,0 +1,6 @@
+pub mod Document
+pub mod Words
+pub mod Cache
+pub mod Kept
+pub mod Sorted
+pub mod Holds

@@ -1,0 +1,14 @@
+//! The words of documents that are not yet flushed to the tables of the index (InnoDB: the full-text index cache).
+#![tactic(auto)]
+
+mod cache;
+mod document;
+mod laws;
+mod words;
+
+pub use cache::Cache;
+pub use document::DocWords;
+pub use laws::a_cache_holds_its_documents;
+
+#[cfg(test)]
+mod tests;

@@ -1,0 +1,149 @@
+ghost use Rattle.std.specs.Prelude.{◌<◌, ◌^◌};
+
+use super::*;
+use std::alloc::Global;
+use std::process::Abort;
+use std::test::Fail;
+
+// A document with these words, each at the places given.
+fn document(
+    rt: &impl Abort,
+    alloc: Global,
+    id: u64,
+    words: &[(&[u8], &[u32])],
+) -> Result<DocWords, Fail>
+    requires positive { 0 < id }
+    requires limit { id < 2 ^ 63 }
+{
+    let mut made = DocWords::new(alloc, id);
+    for (word, positions) in words {
+        let word = Vec::from_slice(alloc, word)?;
+        let positions = Vec::from_slice(alloc, positions)?;
+        assert!(rt; made.can_push(&word, &positions));
+        made.push(word, positions)?;
+    }
+    Ok(made)
+}
+
+// Makes room for the documents and adds them.
+fn add_all(rt: &impl Abort, cache: &mut Cache, documents: &[DocWords]) -> Result<(), Fail> {
+    cache.reserve(documents)?;
+    for document in documents {
+        assert!(rt; cache.last() < document.id());
+        cache.add(document);
+    }
+    Ok(())
+}
+
+// The word's documents and their first positions are these.
+fn has(rt: &impl Abort, cache: &Cache, word: &[u8], expected: &[(u64, u32)]) {
+    let mut left = expected.iter().copied();
+    for found in cache.postings(word) {
+        let first = found.positions().next();
+        assert_eq!(rt;
+            left.next(),
+            Some((found.id(), first.expect(rt, "a position")))
+        );
+    }
+    assert_eq!(rt; left.next(), None);
+}
+
+#[test]
+fn the_cache_gives_what_it_took(rt: HostRuntime) -> Result<(), Fail> {
+    let alloc = rt.alloc();
+    let mut cache = Cache::new(alloc);
+    let documents = [
+        document(&rt, alloc, 3, &[(b"apple", &[4, 20]), (b"pear", &[0])])?,
+        document(&rt, alloc, 4, &[(b"apple", &[0]), (b"apples", &[6])])?,
+        document(&rt, alloc, 900, &[(b"apply", &[7]), (b"pear", &[0, 9])])?,
+        document(&rt, alloc, 901, &[])?,
+    ];
+    cache.reserve(&documents)?;
+    assert!(rt; cache.is_empty() && cache.prefix(b"")?.is_empty());
+    add_all(&rt, &mut cache, &documents)?;
+    // 16 a document, and for each occurrence the word's length and 8.
+    assert_eq!(rt;
+        cache.size(),
+        4 * 16 + (2 * 13 + 12) + (13 + 14) + (13 + 2 * 12)
+    );
+    assert_eq!(rt; (cache.len(), cache.last()), (4, 901));
+    has(&rt, &cache, b"apple", &[(3, 4), (4, 0)]);
+    has(&rt, &cache, b"pear", &[(3, 0), (900, 0)]);
+    has(&rt, &cache, b"plum", &[]);
+    assert_eq!(rt;
+        cache.prefix(b"appl")?.as_slice(),
+        [b"apple".as_slice(), b"apples", b"apply"].as_slice()
+    );
+    assert_eq!(rt;
+        cache.prefix(b"apples")?.as_slice(),
+        [b"apples".as_slice()].as_slice()
+    );
+    cache.drop_until(4);
+    assert_eq!(rt; cache.size(), 2 * 16 + (13 + 2 * 12));
+    has(&rt, &cache, b"apple", &[]);
+    has(&rt, &cache, b"pear", &[(900, 0)]);
+    assert_eq!(rt;
+        cache.prefix(b"")?.as_slice(),
+        [b"apply".as_slice(), b"pear"].as_slice()
+    );
+    cache.drop_until(950);
+    assert_eq!(rt; (cache.size(), cache.len(), cache.last()), (0, 0, 950));
+    assert!(rt; cache.prefix(b"")?.is_empty());
+    Ok(())
+}
+
+// A document of every third letter or so, which are noted beside its id.
+fn letters(
+    rt: &impl Abort,
+    alloc: Global,
+    id: u64,
+    noted: &mut Vec<(u64, u8)>,
+) -> Result<DocWords, Fail>
+    requires positive { 0 < id }
+    requires limit { id < 2 ^ 63 }
+{
+    let mut made = DocWords::new(alloc, id);
+    for letter in b'a'..=b'y' {
+        if (id % 7 * u64::from(letter)) % 7 < 3 {
+            let word = Vec::from_slice(alloc, &[letter])?;
+            let positions = Vec::from_slice(alloc, &[5, 6])?;
+            assert!(rt; made.can_push(&word, &positions));
+            made.push(word, positions)?;
+            noted.push((id, letter))?;
+        }
+    }
+    Ok(made)
+}
+
+// The letter's documents are the noted ones above an id.
+fn has_noted(rt: &impl Abort, cache: &Cache, letter: u8, noted: &[(u64, u8)], above: u64) {
+    let mut found = cache.postings(&[letter]);
+    for (id, other) in noted {
+        if *other == letter && *id > above {
+            let document = found.next().expect(rt, "a document");
+            assert_eq!(rt; document.id(), *id);
+        }
+    }
+    assert!(rt; found.next().is_none());
+}
+
+// Documents of the words `a` to `y`, dropped in batches, beside a plain list of ids and letters.
+#[test]
+fn the_cache_is_as_a_plain_list(rt: HostRuntime) -> Result<(), Fail> {
+    let alloc = rt.alloc();
+    let mut cache = Cache::new(alloc);
+    let mut noted = Vec::new(alloc);
+    let mut dropped = 0;
+    for id in 1..61_u64 {
+        let made = letters(&rt, alloc, id, &mut noted)?;
+        add_all(&rt, &mut cache, &[made])?;
+        if id % 16 == 0 {
+            dropped = id - 8;
+            cache.drop_until(dropped);
+        }
+    }
+    for letter in b'a'..=b'y' {
+        has_noted(&rt, &cache, letter, &noted, dropped);
+    }
+    Ok(())
+}

@@ -1,0 +1,231 @@
+-- Documents that come in at the back and leave at the front.
+use Rattle.std.proofs.Common.{◌≡◌, ◌≢◌, ℕ, ◌+◌, ◌-◌, ◌^◌, ◌<◌, ◌≤◌, List, [], ◌∷◌, ◌++◌, length, take, drop, get_or, append_assoc, filter, nat_lt, Bool, true, false, cond, refl, sym, ap, subst, ◌∙◌, arith, inl, inr}
+use Rattle.std.proofs.lemmas.Bool.{cases_lt, lt-ltb, le-ltb}
+use Rattle.std.proofs.lemmas.List.{append-nil, length-drop, drop-append-le, drop-drop, drop_more, length-append, nil_from_length}
+use Rattle.fts_ilist.specs.Number.{number_bytes}
+use Rattle.fts_ilist.specs.Spelling.{Posting, items_bytes, position_items, posting_items, postings_items, PositionsFrom, ArePositions, PostingsAfter, id_at_end, HasFirstId}
+use Rattle.fts_ilist.specs.Reading.{postings_in, IsTail}
+use Rattle.fts_ilist.specs.Progress.{ReadsDocument}
+use Rattle.fts_ilist.specs.Queue.{postings_behind, StandsAt, Passes, IsQueue}
+use Rattle.fts_ilist.proofs.Codec.{position_fits}
+use Rattle.fts_ilist.proofs.Items.{bytes_append}
+use Rattle.fts_ilist.proofs.Postings.{postings_in-bytes, postings_items-append, id_at_end-append, PostingsAfter-append}
+use Rattle.fts_ilist.proofs.Reader.{document_bytes}
+use Rattle.fts_ilist.proofs.Tails.{none_left, posting_in, document_step, document_tail}
+
+-- ---- which documents stand behind an id
+
+below_end : (before : ℕ) (ps : List Posting) → PostingsAfter before ps → before ≤ id_at_end before ps
+below_end before [] h = omega arith
+below_end before (p ∷ ps) h = omega (arith, h.0, below_end p.id ps h.3)
+
+-- all of them
+pub all_behind : (doc before : ℕ) (ps : List Posting) → PostingsAfter before ps → doc ≤ before → postings_behind doc ps ≡ ps
+all_behind doc before [] h le = refl
+all_behind doc before (p ∷ ps) h le =
+    let rest = all_behind doc p.id ps h.3 (omega (arith, h.0)) in
+    ap (λ (b : Bool). cond b (p ∷ postings_behind doc ps) (postings_behind doc ps)) (lt-ltb doc p.id (omega (arith, h.0)))
+    ∙ ap (λ (w : List Posting). p ∷ w) rest
+
+pub all_from_first : (doc id before : ℕ) (ps : List Posting) → PostingsAfter before ps → HasFirstId ps id → doc < id → postings_behind doc ps ≡ ps
+all_from_first doc id before [] h has lt = refl
+all_from_first doc id before (p ∷ ps) h has lt =
+    let above : doc < p.id = omega (arith, has) in
+    ap (λ (b : Bool). cond b (p ∷ postings_behind doc ps) (postings_behind doc ps)) (lt-ltb doc p.id above)
+    ∙ ap (λ (w : List Posting). p ∷ w) (all_behind doc p.id ps h.3 (omega arith))
+
+-- none of them
+pub none_behind : (doc before : ℕ) (ps : List Posting) → PostingsAfter before ps → id_at_end before ps ≤ doc → postings_behind doc ps ≡ []
+none_behind doc before [] h le = refl
+none_behind doc before (p ∷ ps) h le =
+    let not_above : p.id ≤ doc = omega (arith, below_end p.id ps h.3) in
+    ap (λ (b : Bool). cond b (p ∷ postings_behind doc ps) (postings_behind doc ps)) (le-ltb doc p.id not_above)
+    ∙ none_behind doc p.id ps h.3 le
+
+cons_is_not_nil : (p : Posting) (ps : List Posting) → p ∷ ps ≡ [] → ⊥
+cons_is_not_nil p ps e = absurd (omega (arith, ap length e))
+
+-- the last of them
+pub some_behind : (doc before : ℕ) (ps : List Posting) → PostingsAfter before ps → 0 < length ps → doc < id_at_end before ps → postings_behind doc ps ≡ [] → ⊥
+some_behind doc before [] h some lt e = absurd (omega (arith, some))
+some_behind doc before (p ∷ []) h some lt e =
+    cons_is_not_nil p [] (sym (ap (λ (b : Bool). cond b (p ∷ []) []) (lt-ltb doc p.id lt)) ∙ e)
+some_behind doc before (p ∷ (q ∷ qs)) h some lt e =
+    let rest = some_behind doc p.id (q ∷ qs) h.3 (omega arith) lt in
+    elim (cases_lt doc p.id) [
+      | inl above ↦ cons_is_not_nil p (postings_behind doc (q ∷ qs)) (sym (ap (λ (b : Bool). cond b (p ∷ postings_behind doc (q ∷ qs)) (postings_behind doc (q ∷ qs))) (lt-ltb doc p.id above)) ∙ e)
+      | inr below ↦ rest (sym (ap (λ (b : Bool). cond b (p ∷ postings_behind doc (q ∷ qs)) (postings_behind doc (q ∷ qs))) (le-ltb doc p.id below)) ∙ e)
+    ]
+
+-- ---- past the first document
+
+pub passes : (rest : List ℕ) (last id start end doc : ℕ) → IsTail last rest → ReadsDocument rest 0 last id start end → id ≤ doc → Passes rest last doc end id
+passes rest last id start end doc t d le =
+    let left = postings_behind doc (postings_in id (drop end rest)) in
+    let first : Posting = posting_in id (take (end - 1 - start) (drop start rest)) in
+    record {
+      order = omega (arith, d.front_order, d.order);
+      within = d.within;
+      tail = document_tail rest last id start end t d;
+      same = ap (postings_behind doc) (document_step rest last id start end d)
+          ∙ ap (λ (b : Bool). cond b (first ∷ left) left) (le-ltb doc id le);
+      end_is = ap (id_at_end last) (document_step rest last id start end d);
+    }
+
+pub record StandsBehind (bytes : List ℕ) (at last doc end id : ℕ) : Type 0 where
+  pub stands : StandsAt bytes (at + end) id
+  pub same : postings_behind doc (postings_in last (drop at bytes)) ≡ postings_behind doc (postings_in id (drop (at + end) bytes))
+  pub end_is : id_at_end last (postings_in last (drop at bytes)) ≡ id_at_end id (postings_in id (drop (at + end) bytes))
+
+pub one_more_passed : (bytes : List ℕ) (at last doc end id : ℕ) → StandsAt bytes at last → Passes (drop at bytes) last doc end id → StandsBehind bytes at last doc end id
+one_more_passed bytes at last doc end id s p =
+    let e = drop-drop end at bytes in
+    record {
+      stands = record { within = omega (arith, p.within, length-drop at bytes, s.within); tail = subst (IsTail id) e p.tail };
+      same = p.same ∙ ap (λ (w : List ℕ). postings_behind doc (postings_in id w)) e;
+      end_is = p.end_is ∙ ap (λ (w : List ℕ). id_at_end id (postings_in id w)) e;
+    }
+
+-- ---- one more document at the back
+
+pub record IsPushed (before doc : ℕ) (tail : List ℕ) (ps : List Posting) : Type 0 where
+  pub is_tail : IsTail before tail
+  pub view : postings_in before tail ≡ ps
+  pub last_is : doc ≡ id_at_end before ps
+
+pub pushed_back : (before last : ℕ) (tail : List ℕ) (d : Posting) (new : List ℕ) → IsTail before tail → last ≡ id_at_end before (postings_in before tail)
+    → last < d.id → d.id < 2 ^ 63 → ArePositions d.positions
+    → new ≡ tail ++ (number_bytes (d.id - last) ++ (items_bytes (position_items 0 d.positions) ++ 0 ∷ []))
+    → IsPushed before d.id new (postings_in before tail ++ d ∷ [])
+pushed_back before last tail d new t e above limit are written =
+    let old = postings_in before tail in
+    let one : number_bytes (d.id - last) ++ (items_bytes (position_items 0 d.positions) ++ 0 ∷ []) ≡ items_bytes (postings_items last (d ∷ []))
+    = document_bytes last d.id d.positions [] ∙ append-nil (items_bytes (posting_items last d)) ∙ ap items_bytes (sym (append-nil (posting_items last d))) in
+    let spelled : new ≡ items_bytes (postings_items before (old ++ d ∷ []))
+    = written
+    ∙ ap (λ (w : List ℕ). tail ++ w) one
+    ∙ ap (λ (w : List ℕ). w ++ items_bytes (postings_items last (d ∷ []))) t.spelled
+    ∙ ap (λ (w : ℕ). items_bytes (postings_items before old) ++ items_bytes (postings_items w (d ∷ []))) e
+    ∙ ap (λ (w : List ℕ). items_bytes (postings_items before old) ++ w) (sym (append-nil (items_bytes (postings_items (id_at_end before old) (d ∷ [])))))
+    ∙ sym (bytes_append (postings_items before old) (postings_items (id_at_end before old) (d ∷ [])) [])
+    ∙ append-nil (items_bytes (postings_items before old ++ postings_items (id_at_end before old) (d ∷ [])))
+    ∙ ap items_bytes (sym (postings_items-append before old (d ∷ []))) in
+    let after : PostingsAfter before (old ++ d ∷ [])
+    = PostingsAfter-append before old (d ∷ []) t.after (omega (arith, e), limit, are, tt) in
+    let view : postings_in before new ≡ old ++ d ∷ []
+    = ap (postings_in before) spelled ∙ postings_in-bytes before (old ++ d ∷ []) after in
+    record {
+      is_tail = record { limit = t.limit; after = subst (PostingsAfter before) (sym view) after; spelled = spelled ∙ ap (λ (w : List Posting). items_bytes (postings_items before w)) (sym view) };
+      view = view;
+      last_is = sym (id_at_end-append before old (d ∷ []));
+    }
+
+-- ---- writing positions one after another
+
+pub positions_at : (ps : List ℕ) (i next : ℕ) → i < length ps → PositionsFrom next (drop i ps)
+    → (next ≤ get_or ps i 0) × (get_or ps i 0 ≤ 131071) × PositionsFrom (get_or ps i 0 + 1) (drop (i + 1) ps)
+positions_at ps i next lt h = subst (PositionsFrom next) (drop_more ps i 0 lt) h
+
+pub increase_fits : (ps : List ℕ) (i next n : ℕ) → i < length ps → PositionsFrom next (drop i ps) → n ≡ get_or ps i 0 + 1 - next → length (number_bytes n) ≤ 3
+increase_fits ps i next n lt h e = let p = positions_at ps i next lt h in position_fits n (omega (arith, p.1))
+
+pub one_more_written : (ps : List ℕ) (i next n : ℕ) (old out whole : List ℕ) → i < length ps → n ≡ get_or ps i 0 + 1 - next → out ≡ old ++ number_bytes n
+    → old ++ items_bytes (position_items next (drop i ps)) ≡ whole → out ++ items_bytes (position_items (get_or ps i 0 + 1) (drop (i + 1) ps)) ≡ whole
+one_more_written ps i next n old out whole lt e written so_far =
+    let rest = items_bytes (position_items (get_or ps i 0 + 1) (drop (i + 1) ps)) in
+    ap (λ (w : List ℕ). w ++ rest) written
+    ∙ ap (λ (w : ℕ). (old ++ number_bytes w) ++ rest) e
+    ∙ append_assoc old (number_bytes (get_or ps i 0 + 1 - next)) rest
+    ∙ ap (λ (w : List ℕ). old ++ items_bytes (position_items next w)) (sym (drop_more ps i 0 lt))
+    ∙ so_far
+
+-- ---- the calls of a queue
+
+pub record IsQueueOf (bytes : List ℕ) (capacity start before last room : ℕ) (ps : List Posting) : Type 0 where
+  pub is_queue : IsQueue bytes capacity start before last room
+  pub view : postings_in before (drop start bytes) ≡ ps
+
+pub no_queue : (bytes : List ℕ) (capacity : ℕ) → bytes ≡ [] → IsQueueOf bytes capacity 0 0 0 0 []
+no_queue bytes capacity e =
+    let none : postings_in 0 bytes ≡ [] = none_left 0 bytes (ap length e) in
+    let after : PostingsAfter 0 (postings_in 0 bytes) = subst (PostingsAfter 0) (sym none) tt in
+    record {
+      is_queue = record {
+        stands = record { within = omega arith; tail = record { limit = omega arith; after = after; spelled = e ∙ ap (λ (w : List Posting). items_bytes (postings_items 0 w)) (sym none) } };
+        last_is = ap (id_at_end 0) (sym none);
+        spare = omega (arith, ap length e);
+      };
+      view = none;
+    }
+
+-- documents left: the fields at a later place
+pub queue_later : (bytes : List ℕ) (capacity start before last room at id doc : ℕ) → IsQueue bytes capacity start before last room → StandsAt bytes at id
+    → postings_in id (drop at bytes) ≡ postings_behind doc (postings_in before (drop start bytes)) → id_at_end id (postings_in id (drop at bytes)) ≡ id_at_end before (postings_in before (drop start bytes))
+    → IsQueueOf bytes capacity at id last room (postings_behind doc (postings_in before (drop start bytes)))
+queue_later bytes capacity start before last room at id doc q s e same = record {
+  is_queue = record { stands = s; last_is = q.last_is ∙ sym same; spare = q.spare };
+  view = e;
+}
+
+pub queue_cut : (bytes : List ℕ) (capacity start before last room : ℕ) (new : List ℕ) (more : ℕ) (ps : List Posting) → IsQueueOf bytes capacity start before last room ps → new ≡ drop start bytes → more ≡ capacity
+    → IsQueueOf new more 0 before last room ps
+queue_cut bytes capacity start before last room new more ps q e f =
+    let s = q.is_queue.stands in
+    record {
+      is_queue = record {
+        stands = record { within = omega arith; tail = subst (IsTail before) (sym e) s.tail };
+        last_is = q.is_queue.last_is ∙ ap (λ (w : List ℕ). id_at_end before (postings_in before w)) (sym e);
+        spare = omega (arith, ap length e, length-drop start bytes, q.is_queue.spare, f);
+      };
+      view = ap (postings_in before) e ∙ q.view;
+    }
+
+pub queue_pushed : (bytes : List ℕ) (capacity start before last room : ℕ) (d : Posting) (new : List ℕ) (more left : ℕ) → IsQueue bytes capacity start before last room
+    → last < d.id → d.id < 2 ^ 63 → ArePositions d.positions
+    → new ≡ bytes ++ (number_bytes (d.id - last) ++ (items_bytes (position_items 0 d.positions) ++ 0 ∷ []))
+    → length new + left ≤ more
+    → IsQueueOf new more start before d.id left (postings_in before (drop start bytes) ++ d ∷ [])
+queue_pushed bytes capacity start before last room d new more left q above limit are written spare =
+    let s = q.stands in
+    let document = number_bytes (d.id - last) ++ (items_bytes (position_items 0 d.positions) ++ 0 ∷ []) in
+    let tail : drop start new ≡ drop start bytes ++ document = ap (drop start) written ∙ drop-append-le start bytes document s.within in
+    let p = pushed_back before last (drop start bytes) d (drop start new) s.tail q.last_is above limit are tail in
+    record {
+      is_queue = record {
+        stands = record { within = omega (arith, s.within, ap length written, length-append bytes document); tail = p.is_tail };
+        last_is = p.last_is ∙ ap (id_at_end before) (sym p.view);
+        spare = spare;
+      };
+      view = p.view;
+    }
+
+pub has_some : (bytes : List ℕ) (capacity start before last room doc : ℕ) → IsQueue bytes capacity start before last room
+    → start < length bytes → doc < last → postings_behind doc (postings_in before (drop start bytes)) ≢ []
+has_some bytes capacity start before last room doc q some above =
+    let t = q.stands.tail in
+    let ps = postings_in before (drop start bytes) in
+    let many : 0 < length ps
+    = elim (cases_lt 0 (length ps)) [
+      | inl lt ↦ lt
+      | inr none ↦ absurd (omega (arith, length-drop start bytes, ap length t.spelled, ap (λ (w : List Posting). length (items_bytes (postings_items before w))) (nil_from_length ps (omega arith))))
+    ] in
+    some_behind doc before ps t.after many (omega (arith, q.last_is))
+
+pub has_none : (bytes : List ℕ) (capacity start before last room doc : ℕ) → IsQueue bytes capacity start before last room
+    → postings_behind doc (postings_in before (drop start bytes)) ≢ [] → (start < length bytes) × (doc < last)
+has_none bytes capacity start before last room doc q some =
+    let t = q.stands.tail in
+    let ps = postings_in before (drop start bytes) in (
+      elim (cases_lt start (length bytes)) [
+        | inl lt ↦ lt
+        | inr le ↦ absurd (some (ap (postings_behind doc) (none_left before (drop start bytes) (omega (arith, length-drop start bytes)))))
+      ],
+      elim (cases_lt doc last) [
+        | inl lt ↦ lt
+        | inr le ↦ absurd (some (none_behind doc before ps t.after (omega (arith, q.last_is))))
+      ],
+    )
+
+pub few_positions : (next : ℕ) (ps : List ℕ) → next ≤ 131072 → PositionsFrom next ps → length ps + next ≤ 131072
+few_positions next [] le h = omega arith
+few_positions next (p ∷ ps) le h = let rest = few_positions (p + 1) ps (omega (arith, h.1)) h.2 in omega (arith, h.0, rest)
