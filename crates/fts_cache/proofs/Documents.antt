@@ -1,5 +1,5 @@
 -- The words of documents, one after another.
-use Rattle.std.proofs.Common.{◌≡◌, ◌≢◌, ◌⊎◌, inl, inr, ⊎_elim, ◌↔◌, ℕ, ◌+◌, ◌-◌, ◌*◌, ◌^◌, ◌<◌, ◌≤◌, Bool, true, false, cond, IsTrue, nat_lt, List, [], ◌∷◌, ◌++◌, length, map, filter, sum_by, drop, get_or, refl, sym, ap, subst, ◌∙◌, append_assoc, zero-add, add-zero, slice_get, Option, Some, zero, suc, max, arith}
+use Rattle.std.proofs.Common.{◌≡◌, ◌≢◌, inl, inr, ⊎_elim, ◌↔◌, ℕ, ◌+◌, ◌-◌, ◌*◌, ◌^◌, ◌<◌, ◌≤◌, Bool, true, false, cond, IsTrue, nat_lt, List, [], ◌∷◌, ◌++◌, length, map, sum_by, drop, get_or, refl, sym, ap, subst, ◌∙◌, append_assoc, zero-add, add-zero, slice_get, Option, Some, zero, suc, max, arith}
 use Rattle.std.proofs.lemmas.Bool.{lt-ltb, le-ltb, cases_lt}
 use Rattle.std.proofs.lemmas.Cmp.{nat_list_cmp_total}
 use Rattle.std.proofs.lemmas.List.{append-nil, drop_more}

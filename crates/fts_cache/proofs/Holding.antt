@@ -1,5 +1,5 @@
 -- A cache of documents, as the calls change it.
-use Rattle.std.proofs.Common.{◌≡◌, ℕ, ◌<◌, ◌≤◌, Bool, cond, nat_lt, List, [], ◌∷◌, ◌++◌, map, filter, refl, sym, ap, ◌∙◌, arith, inl, inr}
+use Rattle.std.proofs.Common.{◌≡◌, ℕ, ◌<◌, ◌≤◌, Bool, cond, nat_lt, List, [], ◌∷◌, ◌++◌, map, refl, sym, ap, ◌∙◌, inl, inr}
 use Rattle.std.specs.List.{flat_map}
 use Rattle.std.proofs.lemmas.Bool.{cases_lt, lt-ltb, le-ltb}
 use Rattle.std.proofs.lemmas.List.{append-nil, map-append}
@@ -7,7 +7,7 @@ use Rattle.std.proofs.lemmas.List.Elements.{filter-append}
 use Rattle.std.proofs.lemmas.Grind.{flat_map-append}
 use Rattle.fts_ilist.specs.Spelling.{Posting}
 use Rattle.fts_ilist.specs.Queue.{postings_behind}
-use Rattle.fts_cache.specs.Document.{WordPositions, Document, postings_from, document_postings}
+use Rattle.fts_cache.specs.Document.{WordPositions, Document, document_postings}
 use Rattle.fts_cache.specs.Cache.{CacheState, CachedDocument, cached, cached_behind, postings_of}
 use Rattle.fts_cache.specs.Holds.{Holds, documents_behind}
 

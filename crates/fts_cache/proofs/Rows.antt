@@ -1,6 +1,6 @@
 -- A worked document: apple at 4 and 20, pear at 0.
-use Rattle.std.proofs.Common.{◌≡◌, ◌<◌, ◌^◌, codes, [], ◌∷◌, refl}
-use Rattle.fts_cache.specs.Document.{Document, document_size, document_postings, bytes_in, IsBefore, AreWords}
+use Rattle.std.proofs.Common.{◌≡◌, codes, [], ◌∷◌, refl}
+use Rattle.fts_cache.specs.Document.{Document, document_size, document_postings, bytes_in, IsBefore}
 
 abbrev row : Document
 row = record {

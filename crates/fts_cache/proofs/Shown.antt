@@ -1,5 +1,5 @@
 -- The words that begin so: which they are, and that they ascend once they are sorted.
-use Rattle.std.proofs.Common.{◌≡◌, ◌≢◌, ◌⊎◌, ⊎_elim, ◌↔◌, ℕ, zero, suc, ◌+◌, ◌<◌, ◌≤◌, Bool, true, false, cond, ◌&&◌, ◌||◌, IsTrue, nat_eq, nat_lt, List, [], ◌∷◌, ◌++◌, length, map, filter, take, get_or, slice_get, Option, Some, refl, sym, ap, subst, ◌∙◌, arith}
+use Rattle.std.proofs.Common.{◌≡◌, ◌≢◌, ⊎_elim, ◌↔◌, ℕ, suc, ◌+◌, ◌<◌, ◌≤◌, Bool, true, false, cond, ◌&&◌, ◌||◌, IsTrue, nat_eq, nat_lt, List, [], ◌∷◌, ◌++◌, length, map, filter, take, get_or, slice_get, Option, Some, refl, sym, ap, subst, ◌∙◌, arith}
 use Rattle.std.specs.Borrow.{Bor}
 use Rattle.std.specs.Global.{Vec}
 use Rattle.std.specs.Cmp.Lexicographic.{slice_cmp}
@@ -22,9 +22,9 @@ use Rattle.std.proofs.lemmas.Map.Text.{is_eq-slice_cmp}
 use Rattle.std.proofs.lemmas.Option.{slice_get_within, unwrap_or-slice_get}
 use Rattle.fts_ilist.specs.Spelling.{Posting}
 use Rattle.fts_ilist.specs.Queue.{Queue, postings_behind}
-use Rattle.fts_cache.specs.Words.{Entries, no_queue, queue_in, shows, shown_in}
+use Rattle.fts_cache.specs.Words.{Entries, queue_in, shows, shown_in}
 use Rattle.fts_cache.specs.Sorted.{IsAmong, AscendByBytes}
-use Rattle.fts_cache.proofs.Queues.{which_word, is_same, same_word, first_queue}
+use Rattle.fts_cache.proofs.Queues.{which_word, is_same, first_queue}
 use Rattle.fts_cache.proofs.Sweeps.{key_absent, distinct_rest}
 
 -- ---- one entry after another

@@ -2,7 +2,7 @@
 use Rattle.std.specs.Prelude.{◌≡◌, ℕ, ◌+◌, ◌^◌, ◌<◌, ◌≤◌, List, [], ◌∷◌, length, filter, sum_by, nat_lt}
 use Rattle.fts_ilist.specs.Spelling.{Posting}
 use Rattle.fts_ilist.specs.Queue.{postings_behind}
-use Rattle.fts_cache.specs.Document.{Document, document_size, document_postings, bytes_of}
+use Rattle.fts_cache.specs.Document.{Document, document_size, bytes_of}
 use Rattle.fts_cache.specs.Words.{Entries, queue_in, EndBy}
 
 -- a document in the cache

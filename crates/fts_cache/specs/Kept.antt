@@ -1,5 +1,5 @@
 -- The documents of a cache as it keeps them.
-use Rattle.std.specs.Prelude.{ℕ, List, map}
+use Rattle.std.specs.Prelude.{List, map}
 use Rattle.fts_cache.specs.declared.cache.Cached.{Cached}
 use Rattle.fts_cache.specs.Cache.{CachedDocument}
 

@@ -48,47 +48,62 @@ fn has(rt: &impl Abort, cache: &Cache, word: &[u8], expected: &[(u64, u32)]) {
     assert_eq!(rt; left.next(), None);
 }
 
-#[test]
-fn the_cache_gives_what_it_took(rt: HostRuntime) -> Result<(), Fail> {
-    let alloc = rt.alloc();
+// A cache of four documents, the last of them empty.
+fn filled(rt: &impl Abort, alloc: Global) -> Result<Cache, Fail> {
     let mut cache = Cache::new(alloc);
     let documents = [
-        document(&rt, alloc, 3, &[(b"apple", &[4, 20]), (b"pear", &[0])])?,
-        document(&rt, alloc, 4, &[(b"apple", &[0]), (b"apples", &[6])])?,
-        document(&rt, alloc, 900, &[(b"apply", &[7]), (b"pear", &[0, 9])])?,
-        document(&rt, alloc, 901, &[])?,
+        document(rt, alloc, 3, &[(b"apple", &[4, 20]), (b"pear", &[0])])?,
+        document(rt, alloc, 4, &[(b"apple", &[0]), (b"apples", &[6])])?,
+        document(rt, alloc, 900, &[(b"apply", &[7]), (b"pear", &[0, 9])])?,
+        document(rt, alloc, 901, &[])?,
     ];
-    cache.reserve(&documents)?;
-    assert!(rt; cache.is_empty() && cache.prefix(b"")?.is_empty());
-    add_all(&rt, &mut cache, &documents)?;
+    add_all(rt, &mut cache, &documents)?;
+    Ok(cache)
+}
+
+#[test]
+fn a_document_counts_16_and_its_words(rt: HostRuntime) -> Result<(), Fail> {
+    let mut cache = filled(&rt, rt.alloc())?;
     // 16 a document, and for each occurrence the word's length and 8.
     assert_eq!(rt;
         cache.size(),
-        4 * 16 + (2 * 13 + 12) + (13 + 14) + (13 + 2 * 12)
-    );
-    assert_eq!(rt; (cache.len(), cache.last()), (4, 901));
-    has(&rt, &cache, b"apple", &[(3, 4), (4, 0)]);
-    has(&rt, &cache, b"pear", &[(3, 0), (900, 0)]);
-    has(&rt, &cache, b"plum", &[]);
-    assert_eq!(rt;
-        cache.prefix(b"appl")?.as_slice(),
-        [b"apple".as_slice(), b"apples", b"apply"].as_slice()
-    );
-    assert_eq!(rt;
-        cache.prefix(b"apples")?.as_slice(),
-        [b"apples".as_slice()].as_slice()
+        64 + (2 * 13 + 12) + (13 + 14) + (13 + 2 * 12)
     );
     cache.drop_until(4);
-    assert_eq!(rt; cache.size(), 2 * 16 + (13 + 2 * 12));
-    has(&rt, &cache, b"apple", &[]);
-    has(&rt, &cache, b"pear", &[(900, 0)]);
-    assert_eq!(rt;
-        cache.prefix(b"")?.as_slice(),
-        [b"apply".as_slice(), b"pear"].as_slice()
-    );
+    assert_eq!(rt; cache.size(), 32 + (13 + 2 * 12));
     cache.drop_until(950);
     assert_eq!(rt; (cache.size(), cache.len(), cache.last()), (0, 0, 950));
-    assert!(rt; cache.prefix(b"")?.is_empty());
+    Ok(())
+}
+
+#[test]
+fn a_word_has_its_documents_until_they_are_dropped(rt: HostRuntime) -> Result<(), Fail> {
+    let mut cache = filled(&rt, rt.alloc())?;
+    has(&rt, &cache, b"apple", &[(3, 4), (4, 0)]);
+    has(&rt, &cache, b"plum", &[]);
+    cache.drop_until(4);
+    has(&rt, &cache, b"apple", &[]);
+    has(&rt, &cache, b"pear", &[(900, 0)]);
+    Ok(())
+}
+
+// The words that begin with the prefix are these.
+fn begin_with(
+    rt: &impl Abort,
+    cache: &Cache,
+    prefix: &[u8],
+    expected: &[&[u8]],
+) -> Result<(), Fail> {
+    assert_eq!(rt; cache.prefix(prefix)?.as_slice(), expected);
+    Ok(())
+}
+
+#[test]
+fn a_prefix_finds_the_words_that_are_held(rt: HostRuntime) -> Result<(), Fail> {
+    let mut cache = filled(&rt, rt.alloc())?;
+    begin_with(&rt, &cache, b"appl", &[b"apple", b"apples", b"apply"])?;
+    cache.drop_until(4);
+    begin_with(&rt, &cache, b"", &[b"apply", b"pear"])?;
     Ok(())
 }
 

@@ -1,7 +1,7 @@
 use Rattle.std.proofs.Common.{ap, ◌∙◌}
 use Rattle.std.specs.Cmp.Lexicographic.{slice_cmp}
 use Rattle.std.specs.Ordering.{nat_cmp}
-use Rattle.fts_cache.proofs.Documents.{behind_last, ends_nowhere}
+use Rattle.fts_cache.proofs.Documents.{behind_last}
 use Rattle.fts_cache.proofs.document.is_behind.Goals as goal
 
 pub returns-in-Some : goal.returns-in-Some

@@ -1,4 +1,4 @@
-use Rattle.std.proofs.Common.{sym, ◌∙◌}
+use Rattle.std.proofs.Common.{◌∙◌}
 use Rattle.fts_cache.proofs.Holding.{holds_more, holds_less}
 use Rattle.fts_cache.proofs.laws.a_cache_holds_its_documents.Goals as goal
 

@@ -1,7 +1,7 @@
 use Rattle.std.proofs.Common.{ℕ, ◌+◌, List, arith, drop, subst}
 use Rattle.fts_cache.specs.Document.{WordPositions}
 use Rattle.fts_cache.specs.Words.{IsPartlyAdded, Pushes}
-use Rattle.fts_cache.proofs.Documents.{begin_adding, add_one, end_adding, words_at, words_from, word_room}
+use Rattle.fts_cache.proofs.Documents.{begin_adding, add_one, words_at, words_from, word_room}
 use Rattle.fts_cache.proofs.words.add_document.Goals as goal
 
 pub loop-place-init : goal.loop-place-init

@@ -1,4 +1,4 @@
-use Rattle.std.proofs.Common.{◌+◌, [], zero-add, ap, sym, ◌∙◌}
+use Rattle.std.proofs.Common.{◌+◌, [], zero-add, ap, ◌∙◌}
 use Rattle.fts_ilist.specs.Queue.{Queue, bytes_for}
 use Rattle.fts_cache.proofs.Queues.{enters}
 use Rattle.fts_cache.proofs.words.enter_word.Goals as goal

@@ -1,6 +1,5 @@
-use Rattle.std.proofs.Common.{◌≡◌, ◌+◌, ◌++◌, ◌∷◌, [], length, refl, ap, sym, ◌∙◌}
-use Rattle.fts_ilist.specs.Queue.{Queue, bytes_for, postings_behind}
-use Rattle.fts_cache.specs.Words.{queue_in}
+use Rattle.std.proofs.Common.{◌++◌, ◌∷◌, [], refl, ap, sym, ◌∙◌}
+use Rattle.fts_ilist.specs.Queue.{Queue, postings_behind}
 use Rattle.fts_cache.proofs.Queues.{changes, pushes, queue_found}
 use Rattle.fts_cache.proofs.words.push_word.Goals as goal
 

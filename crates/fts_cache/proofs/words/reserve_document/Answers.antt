@@ -1,5 +1,4 @@
-use Rattle.std.proofs.Common.{◌≡◌, ℕ, ◌+◌, List, arith, drop, refl, ap, sym, subst, ◌∙◌}
-use Rattle.fts_ilist.specs.Queue.{Queue, bytes_for}
+use Rattle.std.proofs.Common.{◌+◌, List, drop, refl, ap, sym, ◌∙◌}
 use Rattle.fts_cache.specs.Document.{WordPositions, bytes_in}
 use Rattle.fts_cache.specs.Words.{queue_in}
 use Rattle.fts_cache.proofs.Documents.{reserved_one, still_stays, words_at}

@@ -1,4 +1,4 @@
-use Rattle.std.proofs.Common.{◌≡◌, ◌≤◌, ◌+◌, ℕ, List, drop}
+use Rattle.std.proofs.Common.{◌≤◌, ◌+◌, ℕ, List, drop}
 use Rattle.fts_cache.specs.Document.{bytes_of}
 use Rattle.fts_cache.specs.Words.{StaysButRoom, queue_in}
 use Rattle.fts_cache.proofs.words.reserve_documents.Given as goal

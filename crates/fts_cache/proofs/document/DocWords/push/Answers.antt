@@ -1,4 +1,4 @@
-use Rattle.std.proofs.Common.{ℕ, ◌+◌, ◌*◌, ◌∙◌, [], ◌∷◌, length, map, ap}
+use Rattle.std.proofs.Common.{ℕ, ◌+◌, ◌*◌, ◌∙◌, length, map, ap}
 use Rattle.std.proofs.lemmas.List.{map-append}
 use Rattle.fts_cache.specs.declared.document.WordPlaces.{WordPlaces}
 use Rattle.fts_cache.specs.Document.{WordPositions}

@@ -1,4 +1,4 @@
-use Rattle.std.proofs.Common.{◌≤◌, ◌<◌, length, map, arith, ap, sym, subst}
+use Rattle.std.proofs.Common.{◌≤◌, ◌<◌, length, map, sym, subst}
 use Rattle.fts_ilist.specs.Spelling.{ArePositions}
 use Rattle.fts_cache.specs.declared.document.WordPlaces.{WordPlaces}
 use Rattle.fts_cache.specs.Document.{WordPositions}
