@@ -3,12 +3,10 @@
 
 mod cache;
 mod document;
-mod laws;
 mod words;
 
 pub use cache::Cache;
 pub use document::DocWords;
-pub use laws::a_cache_holds_its_documents;
 
 #[cfg(test)]
 mod tests;
