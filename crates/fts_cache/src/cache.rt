@@ -154,7 +154,9 @@ impl Cache {
     /// The documents that have the word, by ascending ids, with their positions. They are read in place.
     ///
     /// The word is found in constant time. Of its documents those that left since the queues were swept last are
-    /// passed over, all words' together at most as many as the cache has words.
+    /// passed over: at most one for each document that left since, and of all words together fewer than the cache has
+    /// words. So a look-up costs the more the fewer words a document has: of 50,000 words and documents of 200, 250
+    /// passed documents at most. A note of each document's words would spare that, for as many bytes as the lists take.
     pub fn postings(&self, word: &[u8]) -> Documents<'_>
         ensures { result ≡ postings_of self.now word.now }
     {

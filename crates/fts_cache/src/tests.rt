@@ -1,4 +1,5 @@
-ghost use Rattle.std.specs.Prelude.{◌<◌, ◌^◌};
+ghost use Rattle.std.specs.Prelude.{◌<◌, ◌^◌, OnOk};
+ghost use Rattle.fts_cache.specs.Cache.{HasRoom};
 
 use super::*;
 use std::alloc::Global;
@@ -25,9 +26,19 @@ fn document(
     Ok(made)
 }
 
+// Makes room for the documents. The cache has what it had, with or without memory.
+fn make_room(rt: &impl Abort, cache: &mut Cache, documents: &[DocWords]) -> Result<(), Fail>
+    ensures { OnOk result (HasRoom cache.new documents.now) }
+{
+    let held = (cache.size(), cache.len(), cache.last());
+    let reserved = cache.reserve(documents);
+    assert_eq!(rt; (cache.size(), cache.len(), cache.last()), held);
+    Ok(reserved?)
+}
+
 // Makes room for the documents and adds them.
 fn add_all(rt: &impl Abort, cache: &mut Cache, documents: &[DocWords]) -> Result<(), Fail> {
-    cache.reserve(documents)?;
+    make_room(rt, cache, documents)?;
     for document in documents {
         assert!(rt; cache.last() < document.id());
         cache.add(document);
@@ -61,6 +72,36 @@ fn filled(rt: &impl Abort, alloc: Global) -> Result<Cache, Fail> {
     Ok(cache)
 }
 
+// Words with positions that can't be put behind `apple`: one that stands there, one before it, and faulty positions.
+const REFUSED: [(&[u8], &[u32]); 5] = [
+    (b"apple", &[0]),
+    (b"ape", &[0]),
+    (b"pear", &[]),
+    (b"pear", &[3, 3]),
+    (b"pear", &[131_072]),
+];
+
+#[test]
+fn a_word_out_of_order_is_refused(rt: HostRuntime) -> Result<(), Fail> {
+    let made = document(&rt, rt.alloc(), 3, &[(b"apple", &[4])])?;
+    for (word, positions) in REFUSED {
+        assert!(rt; !made.can_push(word, positions));
+    }
+    assert!(rt; made.can_push(b"pear", &[131_071]));
+    Ok(())
+}
+
+#[test]
+fn a_document_has_its_words(rt: HostRuntime) -> Result<(), Fail> {
+    let alloc = rt.alloc();
+    let made = document(&rt, alloc, 3, &[(b"apple", &[4, 20]), (b"pear", &[0])])?;
+    assert_eq!(rt; (made.id(), made.len(), made.size()), (3, 2, 54));
+    assert!(rt; made.len() == 2);
+    assert_eq!(rt; made.word_at(0), (b"apple".as_slice(), [4, 20].as_slice()));
+    assert!(rt; !made.is_empty() && DocWords::new(alloc, 4).is_empty());
+    Ok(())
+}
+
 #[test]
 fn a_document_counts_16_and_its_words(rt: HostRuntime) -> Result<(), Fail> {
     let mut cache = filled(&rt, rt.alloc())?;
@@ -73,6 +114,7 @@ fn a_document_counts_16_and_its_words(rt: HostRuntime) -> Result<(), Fail> {
     assert_eq!(rt; cache.size(), 32 + (13 + 2 * 12));
     cache.drop_until(950);
     assert_eq!(rt; (cache.size(), cache.len(), cache.last()), (0, 0, 950));
+    assert!(rt; cache.is_empty());
     Ok(())
 }
 

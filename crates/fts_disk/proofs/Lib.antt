@@ -1,3 +1,4 @@
+pub mod Noting
 pub mod Contents
 pub mod Recording
 pub mod Torn

@@ -1,5 +1,5 @@
 -- How runs of device calls go on.
-use Rattle.std.proofs.Common.{◌⊎◌, inl, inr, ⊎_elim, ℕ, ◌≤◌, arith}
+use Rattle.std.proofs.Common.{inl, inr, ⊎_elim, arith}
 use Rattle.fts_disk.specs.Device.{Files}
 use Rattle.fts_disk.specs.Crash.{Images, Within, Elapses}
 use Rattle.fts_disk.specs.Moments.{LeavesOnly, LeavesAsBefore}

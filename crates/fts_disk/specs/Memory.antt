@@ -1,9 +1,9 @@
-use Rattle.std.specs.Prelude.{◌≡◌, ◌+◌, ◌-◌, ◌^◌, ◌⊎◌, ℕ, List, length, min, slice_index, slice_set, Contains, Result, IsErr, OnOk}
+use Rattle.std.specs.Prelude.{◌≡◌, ◌+◌, ◌-◌, ◌^◌, ◌⊎◌, ℕ, List, length, min, slice_index, slice_set, Contains, Bool, true, false, Result, IsErr, OnOk, OnErr}
 use Rattle.fts_faults.specs.Count.{Rose}
 use Rattle.fts_disk.specs.Device.{Files}
 use Rattle.fts_disk.specs.Contents.{contents}
 use Rattle.fts_disk.specs.Crash.{Images}
-use Rattle.fts_disk.specs.Replay.{images_now, left_after}
+use Rattle.fts_disk.specs.Replay.{images_now, left_after, Entered}
 use Rattle.fts_disk.specs.declared.memory.Call.{Call}
 use Rattle.fts_disk.specs.declared.memory.Kind.{Kind}
 use Rattle.fts_disk.specs.declared.memory.Kind.TheVariants.{Len, Read, Write, Cut, Sync}
@@ -98,3 +98,12 @@ pub record AnswersAsListed {T E : Type 0} (kind : Kind) (old new : MemDisk) (res
   pub no_fault : OnOk result (mem_faults new ≡ mem_faults old)
   pub fails : mem_fails new ≡ mem_fails old
   pub made : mem_made new ≡ one_more kind (mem_made old)
+
+-- a call that answers Ok stands at the end of the record, as done; one that fails stands there as not done, or no memory
+-- was found for it and the record has nothing more; what the files held at first stays
+pub record IsNoted {T E : Type 0} (IsCall : Bool → Call → Type 0) (old new : MemDisk) (result : Result T E) : Type 0 where
+  pub done : OnOk result (Entered (IsCall true) (mem_calls old) (mem_calls new))
+  pub failed : OnErr result (
+      (Entered (IsCall false) (mem_calls old) (mem_calls new) × (mem_refused new ≡ mem_refused old))
+      ⊎ ((mem_calls new ≡ mem_calls old) × Rose (mem_refused old) (mem_refused new)))
+  pub first : mem_first new ≡ mem_first old

@@ -62,6 +62,14 @@ IsLook call = Unit {0}
 abbrev pub IsOfFile : Call → Type 0
 IsOfFile call = file_of call < 16
 
+-- the call asks for the length
+abbrev pub IsLenOf : ℕ → Bool → Call → Type 0
+IsLenOf file done call = call ≡ Len file done
+
+-- the call is a read of so many bytes
+abbrev pub IsReadOf : ℕ → ℕ → ℕ → Bool → Call → Type 0
+IsReadOf file at count done call = call ≡ Read file at count done
+
 -- the call is a write of these bytes
 abbrev pub IsWriteOf : ℕ → ℕ → List ℕ → Bool → Call → Type 0
 IsWriteOf file at bytes done call = (noted : Vec ℕ Global) × (noted.items ≡ bytes) × (call ≡ Write file at noted done)
@@ -69,6 +77,14 @@ IsWriteOf file at bytes done call = (noted : Vec ℕ Global) × (noted.items ≡
 -- the call is a cut to this length
 abbrev pub IsCutOf : ℕ → ℕ → Bool → Call → Type 0
 IsCutOf file len done call = call ≡ Cut file len done
+
+-- the call is a sync
+abbrev pub IsSyncOf : Bool → Call → Type 0
+IsSyncOf done call = call ≡ Sync done
+
+-- the calls are the old ones, and behind them one more of which this holds
+abbrev pub Entered : (Call → Type 0) → List Call → List Call → Type 0
+Entered IsCall old new = (call : Call) × IsCall call × (new ≡ old ++ call ∷ [])
 
 -- what the files read after these calls
 abbrev pub seen_after : List Call → Files → Files

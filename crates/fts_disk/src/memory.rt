@@ -93,7 +93,8 @@ impl Counters {
         ensures counted { IsErr result → Rose self.old.faults self.new.faults }
         ensures kept { OnOk result (self.new ≡ self.old) }
         ensures never_falls { self.old.faults ≤ self.new.faults }
-        ensures refused { IsErr outcome → Rose self.old.refused self.new.refused }
+        ensures refused { OnErr outcome (Rose self.old.refused self.new.refused) }
+        ensures not_refused { OnOk outcome (self.new.refused ≡ self.old.refused) }
         ensures list { self.new.fails ≡ self.old.fails }
         ensures made { self.new.made ≡ self.old.made }
     {
@@ -179,7 +180,8 @@ impl MemDisk {
 }
 
 impl Disk for MemDisk {
-    ghost use Rattle.fts_disk.specs.Memory.{mem_files, mem_images, mem_moment, mem_left_since, mem_fails, mem_made, mem_faults, mem_refused, IsNamed, AnswersAsListed};
+    ghost use Rattle.fts_disk.specs.Memory.{mem_files, mem_images, mem_moment, mem_left_since, mem_fails, mem_made, mem_faults, mem_refused, IsNamed, AnswersAsListed, IsNoted};
+    ghost use Rattle.fts_disk.specs.Replay.{IsLenOf, IsReadOf, IsWriteOf, IsCutOf, IsSyncOf};
     ghost use Rattle.fts_disk.specs.ReplayLaws.{seen_stays, left_now, left_only_now};
 
     ghost tells = { true };
@@ -204,6 +206,7 @@ impl Disk for MemDisk {
         ensures ticks { OnOk result (mem_moment self.old < mem_moment self.new) }
         ensures cause { HasCause (mem_faults self.old) (mem_faults self.new) result }
         ensures listed { AnswersAsListed Kind.Len self.old self.new result }
+        ensures noted { IsNoted (IsLenOf file) self.old self.new result }
     {
         let named = self.counters.is_named(Kind::Len);
         let noted = self.recorded.note(Call::Len { file, done: !named });
@@ -221,6 +224,7 @@ impl Disk for MemDisk {
         ensures ticks { OnOk result (mem_moment self.old < mem_moment self.new) }
         ensures cause { HasCause (mem_faults self.old) (mem_faults self.new) result }
         ensures listed { AnswersAsListed Kind.Read self.old self.new result }
+        ensures noted { IsNoted (IsReadOf file at (length buf.old)) self.old self.new result }
     {
         let named = self.counters.is_named(Kind::Read);
         let noted = self.recorded.note(Call::Read {
@@ -246,6 +250,7 @@ impl Disk for MemDisk {
         ensures ticks { OnOk result (mem_moment self.old < mem_moment self.new) }
         ensures cause { HasCause (mem_faults self.old) (mem_faults self.new) result }
         ensures listed { AnswersAsListed Kind.Write self.old self.new result }
+        ensures noted { IsNoted (IsWriteOf file at bytes.now) self.old self.new result }
     {
         let named = self.counters.is_named(Kind::Write);
         let written = self.recorded.write(file, at, bytes, !named);
@@ -263,6 +268,7 @@ impl Disk for MemDisk {
         ensures ticks { OnOk result (mem_moment self.old < mem_moment self.new) }
         ensures cause { HasCause (mem_faults self.old) (mem_faults self.new) result }
         ensures listed { AnswersAsListed Kind.Cut self.old self.new result }
+        ensures noted { IsNoted (IsCutOf file len) self.old self.new result }
     {
         let named = self.counters.is_named(Kind::Cut);
         let shortened = self.recorded.cut(file, len, !named);
@@ -278,6 +284,7 @@ impl Disk for MemDisk {
         ensures ticks { OnOk result (mem_moment self.old < mem_moment self.new) }
         ensures cause { HasCause (mem_faults self.old) (mem_faults self.new) result }
         ensures listed { AnswersAsListed Kind.Sync self.old self.new result }
+        ensures noted { IsNoted IsSyncOf self.old self.new result }
     {
         let named = self.counters.is_named(Kind::Sync);
         let noted = self.recorded.sync(!named);

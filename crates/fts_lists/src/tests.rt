@@ -1,3 +1,6 @@
+ghost use Rattle.std.specs.Prelude.{◌<◌, OnOk};
+ghost use Rattle.fts_lists.specs.State.{room_of};
+
 use super::*;
 use fts_types::Word;
 use std::alloc::Global;
@@ -11,6 +14,29 @@ const LISTS: [DeleteList; 3] = [
     DeleteList::DeletedCache,
 ];
 
+// A list has these ids and no others.
+fn has_ids(rt: &impl Abort, lists: &Lists, list: DeleteList, plain: &BTreeSet<u64>) {
+    for id in 0..300 {
+        assert_eq!(rt; lists.contains(list, id), plain.contains(&id));
+    }
+}
+
+// Makes room for one more id. The list has its ids, with or without memory.
+fn make_room(
+    rt: &impl Abort,
+    lists: &mut Lists,
+    list: DeleteList,
+    plain: &BTreeSet<u64>,
+) -> Result<(), Fail>
+    ensures { OnOk result (0 < room_of list lists.new) }
+{
+    let reserved = lists.reserve(list, 1);
+    if reserved.is_err() {
+        has_ids(rt, lists, list, plain);
+    }
+    Ok(reserved?)
+}
+
 // Adds ids to a list, out of order and some twice, and takes some out again, beside a plain set.
 fn is_as_plain(
     rt: &impl Abort,
@@ -22,16 +48,14 @@ fn is_as_plain(
     let mut plain = BTreeSet::new(alloc);
     for n in 0..300_u64 {
         let id = n.wrapping_mul(step) % 257;
-        lists.reserve(list, 1)?;
+        make_room(rt, lists, list, &plain)?;
         lists.add(list, id);
         plain.insert(id)?;
     }
     lists.purge(list, &[256, 3, 500]);
     plain.remove(&256);
     plain.remove(&3);
-    for id in 0..300 {
-        assert_eq!(rt; lists.contains(list, id), plain.contains(&id));
-    }
+    has_ids(rt, lists, list, &plain);
     Ok(())
 }
 

@@ -3,7 +3,7 @@ ghost use Rattle.std.specs.Prelude.{◌≡◌, ◌+◌, ◌<◌, ◌≤◌, ◌+
 ghost use Rattle.fts_disk.specs.Device.{OnFile, Holds, Torn, Shortened};
 ghost use Rattle.fts_disk.specs.Crash.{Within, Follows, Only, Elapses};
 ghost use Rattle.fts_disk.specs.Contents.{contents};
-ghost use Rattle.fts_disk.specs.Replay.{seen_after, step_seen, IsLook, IsOfFile, IsWriteOf, IsCutOf};
+ghost use Rattle.fts_disk.specs.Replay.{seen_after, step_seen, IsLook, IsOfFile, IsWriteOf, IsCutOf, IsSyncOf, Entered};
 
 use super::Call;
 use std::alloc::{AllocError, Global};
@@ -70,6 +70,8 @@ impl Recorded {
         ensures not_noted { OnErr result (Within (images_of self.new) (images_of self.old)) }
         ensures files { self.new.files ≡ self.old.files }
         ensures first { self.new.first ≡ self.old.first }
+        ensures entered { OnOk result (Entered (IsSyncOf done) self.old.calls.items self.new.calls.items) }
+        ensures not_entered { OnErr result (self.new.calls.items ≡ self.old.calls.items) }
         ensures crash { Within (images_of self.old) (images_of self.new) }
         ensures time { Elapses (moment_of self.old) (moment_of self.new) (left_of self.old) (left_of self.new) (images_of self.new) }
         ensures ticks { OnOk result (moment_of self.old < moment_of self.new) }
@@ -91,6 +93,8 @@ impl Recorded {
         ensures not_done { done ≡ false → files_of self.new ≡ files_of self.old }
         ensures kept { OnErr result (files_of self.new ≡ files_of self.old) }
         ensures first { self.new.first ≡ self.old.first }
+        ensures entered { OnOk result (Entered (IsWriteOf file at bytes.now done) self.old.calls.items self.new.calls.items) }
+        ensures not_entered { OnErr result (self.new.calls.items ≡ self.old.calls.items) }
         ensures crash { Follows (OnFile file (Torn at (length bytes.now))) (images_of self.old) (images_of self.new) }
         ensures time { Elapses (moment_of self.old) (moment_of self.new) (left_of self.old) (left_of self.new) (images_of self.new) }
         ensures ticks { OnOk result (moment_of self.old < moment_of self.new) }
@@ -114,6 +118,8 @@ impl Recorded {
         ensures not_done { done ≡ false → files_of self.new ≡ files_of self.old }
         ensures kept { OnErr result (files_of self.new ≡ files_of self.old) }
         ensures first { self.new.first ≡ self.old.first }
+        ensures entered { OnOk result (Entered (IsCutOf file len done) self.old.calls.items self.new.calls.items) }
+        ensures not_entered { OnErr result (self.new.calls.items ≡ self.old.calls.items) }
         ensures crash { Follows (OnFile file (Shortened len)) (images_of self.old) (images_of self.new) }
         ensures time { Elapses (moment_of self.old) (moment_of self.new) (left_of self.old) (left_of self.new) (images_of self.new) }
         ensures ticks { OnOk result (moment_of self.old < moment_of self.new) }

@@ -1,67 +1,81 @@
 use super::*;
+use std::process::Abort;
 use std::test::Fail;
 
 fn takes_send<T: Send>(_disk: &T) {}
 
-#[test]
-fn a_device_is_written_read_and_cut(rt: HostRuntime) -> Result<(), Fail> {
-    let alloc = rt.alloc();
+// A device after two writes, a cut and a sync.
+fn changed(rt: &impl Abort, alloc: Global) -> Result<MemDisk, Fail> {
     let files = vec![in alloc; b"abcdef".to_vec(alloc)?]?;
     let mut disk = MemDisk::from_files(alloc, files, Vec::new(alloc))?;
-    takes_send(&disk);
-
     assert!(rt; disk.file(0).len() == 6);
     disk.write_at(0, 4, b"XYZ")?;
     disk.write_at(15, 0, b"new")?;
     assert!(rt; disk.file(0).len() == 7);
     disk.cut(0, 6)?;
     disk.sync()?;
-    assert_eq!(rt; disk.file(0), b"abcdXY".as_slice());
-    assert_eq!(rt; disk.file(15), b"new".as_slice());
-    assert_eq!(rt; disk.len(0)?, 6);
-    assert_eq!(rt; disk.len(7)?, 0);
+    Ok(disk)
+}
 
+// The three bytes of file 0 from place 3 on.
+fn middle(rt: &impl Abort, disk: &mut MemDisk) -> Result<[u8; 3], Fail> {
+    let mut middle = [0; 3];
     assert!(rt; disk.file(0).len() == 6);
-    let mut middle = [0u8; 3];
     disk.read_at(0, 3, &mut middle)?;
-    assert_eq!(rt; middle, *b"dXY");
-    assert_eq!(rt; disk.faults(), 0);
-    assert_eq!(rt; disk.refused(), 0);
+    Ok(middle)
+}
 
-    let calls = vec![in alloc;
-        Call::Write {
-            file: 0,
-            at: 4,
-            bytes: b"XYZ".to_vec(alloc)?,
-            done: true
-        },
-        Call::Write {
-            file: 15,
-            at: 0,
-            bytes: b"new".to_vec(alloc)?,
-            done: true
-        },
+#[test]
+fn a_device_is_written_read_and_cut(rt: HostRuntime) -> Result<(), Fail> {
+    let mut disk = changed(&rt, rt.alloc())?;
+    takes_send(&disk);
+    assert_eq!(rt;
+        (disk.file(0), disk.file(15)),
+        (b"abcdXY".as_slice(), b"new".as_slice())
+    );
+    assert_eq!(rt; (disk.len(0)?, disk.len(7)?), (6, 0));
+    assert_eq!(rt; middle(&rt, &mut disk)?, *b"dXY");
+    assert_eq!(rt; (disk.faults(), disk.refused()), (0, 0));
+    Ok(())
+}
+
+// A write that was done.
+fn write(alloc: Global, file: u32, at: u64, bytes: &[u8]) -> Result<Call, Fail> {
+    let bytes = bytes.to_vec(alloc)?;
+    Ok(Call::Write {
+        file,
+        at,
+        bytes,
+        done: true,
+    })
+}
+
+#[test]
+fn each_call_enters_the_record(rt: HostRuntime) -> Result<(), Fail> {
+    let alloc = rt.alloc();
+    let mut disk = changed(&rt, alloc)?;
+    disk.len(7)?;
+    middle(&rt, &mut disk)?;
+    let calls = [
+        write(alloc, 0, 4, b"XYZ")?,
+        write(alloc, 15, 0, b"new")?,
         Call::Cut {
             file: 0,
             len: 6,
-            done: true
+            done: true,
         },
         Call::Sync { done: true },
         Call::Len {
-            file: 0,
-            done: true
-        },
-        Call::Len {
             file: 7,
-            done: true
+            done: true,
         },
         Call::Read {
             file: 0,
             at: 3,
             length: 3,
-            done: true
+            done: true,
         },
-    ]?;
+    ];
     assert_eq!(rt; disk.calls(), calls.as_slice());
     Ok(())
 }
