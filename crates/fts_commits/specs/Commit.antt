@@ -1,10 +1,10 @@
-use Rattle.std.specs.Prelude.{ℕ, ◌+◌, ◌==◌, Bool, if◌then◌else◌, List, [], ◌∷◌, ◌++◌, fold, Result, Ok, Err, IsOk}
+use Rattle.std.specs.Prelude.{ℕ, ◌+◌, ◌==◌, Bool, not, nat_lt, if◌then◌else◌, List, [], ◌∷◌, ◌++◌, length, filter, fold, sum_by, Option, Some, None, Result, Ok, Err, IsOk}
 use Rattle.std.specs.List.{list_any}
 use Rattle.std.specs.Result.{result_unwrap_or}
-
--- one change of a commit: an INSERT has the new row's key and the texts of its columns
-pub data Change : Type 0 where
-  insert : ℕ → List (List ℕ) → Change
+use Rattle.fts_types.specs.declared.limits.Limits.{Limits}
+use Rattle.fts_types.specs.Limits.{standard_limits}
+use Rattle.fts_commits.specs.declared.change.Change.{Change}
+use Rattle.fts_commits.specs.declared.change.Change.TheVariants.{Insert, Update, Delete}
 
 -- a commit: the changes of one transaction, in their order
 abbrev pub Commit : Type 0
@@ -24,6 +24,11 @@ pub record Rows : Type 0 where
 -- why a commit is refused; its changes count from 1
 pub data Refused : Type 0 where
   duplicate_key : ℕ → ℕ → Refused
+  doc_id_order : ℕ → ℕ → Refused
+  doc_id_gap : ℕ → ℕ → Refused
+  ids_full : ℕ → Refused
+  text_too_long : ℕ → ℕ → Refused
+  rows_full : ℕ → Refused
 
 -- a database without rows
 abbrev pub no_rows : Rows
@@ -33,28 +38,97 @@ no_rows = record { list = []; largest = 0 }
 abbrev pub has_key : ℕ → List Row → Bool
 has_key key rows = list_any (λ row. row.key == key) rows
 
--- the rows with one more, whose document id is the next after the largest
-abbrev pub with_row : ℕ → List (List ℕ) → Rows → Rows
-with_row key texts rows = record {
-  list = rows.list ++ record { key = key; doc = rows.largest + 1; texts = texts } ∷ [];
-  largest = rows.largest + 1;
-}
+-- the rows without that of the key
+abbrev pub without_key : ℕ → List Row → List Row
+without_key key rows = filter (λ row. not (row.key == key)) rows
 
--- the changes from one number on, each on the rows that the earlier ones left: the first that is refused refuses all
-abbrev pub after_changes : ℕ → List Change → Rows → Result Rows Refused
-after_changes number [] rows = Ok rows
-after_changes number (insert key texts ∷ changes) rows =
+-- the rows that have the key: one or none
+abbrev pub with_key : ℕ → List Row → List Row
+with_key key rows = filter (λ row. row.key == key) rows
+
+-- the rows with one more, behind all others
+abbrev pub with_row : ℕ → ℕ → List (List ℕ) → Rows → Rows
+with_row key doc texts rows =
+    record { list = rows.list ++ record { key = key; doc = doc; texts = texts } ∷ []; largest = doc }
+
+-- the id of a new document. One that is given must be above the largest that was used, and at most 65,535 above it;
+-- else it is the next after the largest. No id is above the limit
+abbrev pub doc_within : ℕ → ℕ → ℕ → Result ℕ Refused
+doc_within limit largest doc = if nat_lt limit doc then Err (ids_full largest) else Ok doc
+
+abbrev pub doc_for : ℕ → ℕ → Option ℕ → Result ℕ Refused
+doc_for limit largest None = doc_within limit largest (largest + 1)
+doc_for limit largest (Some given) =
+    if nat_lt largest given
+    then (if nat_lt (largest + 65535) given then Err (doc_id_gap given largest) else doc_within limit largest given)
+    else Err (doc_id_order given largest)
+
+-- the rows with one more, unless its texts are longer than 65,535 bytes together
+abbrev pub with_texts : ℕ → ℕ → ℕ → List (List ℕ) → Rows → Result Rows Refused
+with_texts number key doc texts rows =
+    if nat_lt 65535 (sum_by length texts)
+    then Err (text_too_long number (sum_by length texts))
+    else Ok (with_row key doc texts rows)
+
+-- the rows with one more, or without an id for it
+abbrev pub with_document : ℕ → ℕ → Result ℕ Refused → List (List ℕ) → Rows → Result Rows Refused
+with_document number key (Ok doc) texts rows = with_texts number key doc texts rows
+with_document number key (Err refused) texts rows = Err refused
+
+-- the texts of a row whose columns are set, where they are; the others are kept
+abbrev pub updated : List (Option (List ℕ)) → List (List ℕ) → List (List ℕ)
+updated [] texts = []
+updated (new ∷ news) [] = []
+updated (Some text ∷ news) (old ∷ texts) = text ∷ updated news texts
+updated (None ∷ news) (old ∷ texts) = old ∷ updated news texts
+
+-- how many bytes the texts have that are set
+abbrev pub set_bytes : List (Option (List ℕ)) → ℕ
+set_bytes [] = 0
+set_bytes (Some text ∷ news) = length text + set_bytes news
+set_bytes (None ∷ news) = set_bytes news
+
+-- an UPDATE gives its row a new id, and puts it behind all others; without a row it changes nothing
+abbrev pub after_update : ℕ → ℕ → ℕ → List (Option (List ℕ)) → List Row → Rows → Result Rows Refused
+after_update limit number key news [] rows =
+    if nat_lt 65535 (set_bytes news) then Err (text_too_long number (set_bytes news)) else Ok rows
+after_update limit number key news (row ∷ others) rows =
+    with_document number key (doc_for limit rows.largest None) (updated news row.texts)
+    (record { list = without_key key rows.list; largest = rows.largest })
+
+-- one change of a commit, the change of this number
+abbrev pub after_change : ℕ → ℕ → Change → Rows → Result Rows Refused
+after_change limit number (Insert key doc texts) rows =
     if has_key key rows.list
     then Err (duplicate_key number key)
-    else after_changes (number + 1) changes (with_row key texts rows)
+    else with_document number key (doc_for limit rows.largest doc) texts rows
+after_change limit number (Update key news) rows = after_update limit number key news (with_key key rows.list) rows
+after_change limit number (Delete key) rows = Ok (record { list = without_key key rows.list; largest = rows.largest })
+
+-- what follows on the rows that were left, unless these were refused
+abbrev pub on_rows : Result Rows Refused → (Rows → Result Rows Refused) → Result Rows Refused
+on_rows (Ok rows) follows = follows rows
+on_rows (Err refused) follows = Err refused
+
+-- the changes from one number on, each on the rows that the earlier ones left: the first that is refused refuses all
+abbrev pub after_changes : ℕ → ℕ → List Change → Rows → Result Rows Refused
+after_changes limit number [] rows = Ok rows
+after_changes limit number (change ∷ changes) rows =
+    on_rows (after_change limit number change rows) (after_changes limit (number + 1) changes)
+
+-- not more rows than the limit
+abbrev pub within_rows : ℕ → Result Rows Refused → Result Rows Refused
+within_rows limit (Ok rows) =
+    if nat_lt limit (length rows.list) then Err (rows_full (length rows.list)) else Ok rows
+within_rows limit (Err refused) = Err refused
 
 -- a commit gives new rows, or is refused
-abbrev pub after_commit : Commit → Rows → Result Rows Refused
-after_commit commit rows = after_changes 1 commit rows
+abbrev pub after_commit : Limits → Commit → Rows → Result Rows Refused
+after_commit limits commit rows = within_rows limits.rows (after_changes limits.ids 1 commit rows)
 
 -- the rows after a commit; a refused one changes nothing
 abbrev pub rows_after : Rows → Commit → Rows
-rows_after rows commit = result_unwrap_or (after_commit commit rows) rows
+rows_after rows commit = result_unwrap_or (after_commit standard_limits commit rows) rows
 
 -- replay: the rows that a list of commits leaves, from none
 abbrev pub replay : List Commit → Rows
@@ -63,4 +137,5 @@ replay commits = fold rows_after no_rows commits
 -- each commit is accepted by the rows that those before it left
 abbrev pub AreAccepted : Rows → List Commit → Type 0
 AreAccepted rows [] = Unit {0}
-AreAccepted rows (commit ∷ commits) = IsOk (after_commit commit rows) × AreAccepted (rows_after rows commit) commits
+AreAccepted rows (commit ∷ commits) =
+    IsOk (after_commit standard_limits commit rows) × AreAccepted (rows_after rows commit) commits

@@ -1,4 +1,6 @@
 pub mod Word
-pub mod Settings
+pub mod Text
 pub mod Commit
+pub mod NewText
+pub mod Fits
 pub mod Scan

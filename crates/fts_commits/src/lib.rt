@@ -1,10 +1,12 @@
 //! Rows and commits, and what a search finds: the definitions that each layer above is proved against.
 #![tactic(auto)]
 
-mod settings;
+mod change;
+mod changes;
 mod text;
 mod words;
 
-pub use settings::{is_column_name, is_text_byte};
-pub use text::Text;
+pub use change::{Change, NewTexts};
+pub use changes::Changes;
+pub use text::{Text, is_text_byte};
 pub use words::{Words, query_word, words_are_runs};

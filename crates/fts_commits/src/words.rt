@@ -1,8 +1,9 @@
 ghost use Rattle.std.specs.Prelude.{◌≡◌, ◌↔◌, ℕ, List, Contains, ◌&&◌, ◌==◌, if◌then◌else◌, not, [], ◌++◌, ◌∷◌, length, IfOk, OnOk};
-ghost use Rattle.std.specs.List.{list_all};
+ghost use Rattle.std.specs.List.{list_all, flat_map};
 ghost use Rattle.fts_commits.specs.Word.{IsWordOf, is_word_byte, words_of, is_among, query_word};
 
 use crate::text::Text;
+use fts_types::RowTexts;
 use std::alloc::{AllocError, Global};
 use std::marker::Model;
 
@@ -55,6 +56,18 @@ impl Words {
         }
         push_word(&mut words, word)?;
         Ok(Words { words })
+    }
+
+    /// The words of a row: those of each text, one text after another.
+    pub fn of_row(alloc: Global, texts: &RowTexts) -> Result<Self, AllocError>
+        ensures { IfOk result (λ words. words ≡ flat_map words_of texts.now) }
+    {
+        let mut all = Vec::new(alloc);
+        for column in 0..texts.len() {
+            let Words { words: mut more } = Words::of(alloc, texts.text(column))?;
+            all.append(&mut more)?;
+        }
+        Ok(Words { words: all })
     }
 
     /// Whether the word is one of these, byte for byte.

@@ -1,4 +1,5 @@
-pub mod Replaying
+pub mod Entries
+pub mod Accepting
 pub mod Committing
 pub mod Loading
 pub mod Gates

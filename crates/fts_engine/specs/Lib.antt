@@ -1,4 +1,6 @@
 pub mod Kept
+pub mod Bounds
+pub mod Refusing
 pub mod Stands
 pub mod Opening
 pub mod Loading

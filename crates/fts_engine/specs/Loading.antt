@@ -1,18 +1,27 @@
-use Rattle.std.specs.Prelude.{◌≡◌, ℕ, ◌+◌, List, [], ◌∷◌, length, map, take}
+use Rattle.std.specs.Prelude.{◌≡◌, ℕ, ◌+◌, List, [], ◌∷◌, length, take}
+use Rattle.fts_types.specs.declared.settings.Settings.{Settings}
+use Rattle.fts_types.specs.Settings.{AreSettings}
+use Rattle.fts_types.specs.Limits.{standard_limits}
 use Rattle.fts_commits.specs.Commit.{replay}
+use Rattle.fts_rowcodec.specs.Payload.{settings_payload}
 use Rattle.fts_steps.specs.State.{State, payloads, IsSound}
-use Rattle.fts_engine.specs.declared.entry.Entry.{Entry}
-use Rattle.fts_engine.specs.Kept.{entry_of}
+use Rattle.fts_engine.specs.declared.kept.Kept.{Kept}
+use Rattle.fts_engine.specs.Kept.{KeptAs, kept_limits}
 
--- the first k entries of a log were loaded: they are a sound state's, and the words of its rows are kept
-pub record IsLoaded (all : List (List ℕ)) (column : List ℕ) (k : ℕ) (kept : List Entry) : Type 0 where
+-- the first entry of a log is the payload of these settings
+pub record BeginsWith (settings : Settings) (all : List (List ℕ)) : Type 0 where
+  pub right : AreSettings settings
+  pub first : settings_payload settings ∷ [] ≡ take 1 all
+
+-- the first k entries of a log were loaded: they are a sound state's, and its rows are kept
+pub record IsLoaded (all : List (List ℕ)) (settings : Settings) (k : ℕ) (kept : Kept) : Type 0 where
   pub state : State
   pub sound : IsSound state
-  pub columns : state.settings.columns ≡ column ∷ []
+  pub same : state.settings ≡ settings
   pub loaded : payloads state ≡ take k all
   pub count : length state.commits + 1 ≡ k
-  pub entries : kept ≡ map entry_of (replay state.commits).list
-  pub largest : (replay state.commits).largest ≡ length state.commits
+  pub rows : KeptAs (replay state.commits) kept
+  pub limits : kept_limits kept ≡ standard_limits
 
 -- the entries of a log are no sound state's
 abbrev pub AreNoState : List (List ℕ) → Type 0

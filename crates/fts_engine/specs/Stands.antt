@@ -1,4 +1,4 @@
-use Rattle.std.specs.Prelude.{◌≡◌, ℕ, List, [], ◌∷◌, length, map}
+use Rattle.std.specs.Prelude.{◌≡◌, ℕ, List}
 use Rattle.fts_disk.specs.declared.disk.Disk.{Ghosts}
 use Rattle.fts_commits.specs.Commit.{replay}
 use Rattle.std.proofs.Common.{subst}
@@ -6,11 +6,14 @@ use Rattle.fts_log.specs.Record.{IsLog}
 use Rattle.fts_log.specs.Log.{StandsFor, device_of, magic_of, limit_of}
 use Rattle.fts_steps.specs.State.{State, payloads, rows_magic, IsSound, IsDatabase}
 use Rattle.fts_engine.specs.declared.engine.Engine.{Engine}
-use Rattle.fts_engine.specs.Kept.{entry_of}
+use Rattle.fts_types.specs.declared.limits.Limits.{Limits}
+use Rattle.fts_types.specs.Limits.{standard_limits}
+use Rattle.fts_engine.specs.Bounds.{AreWithin}
+use Rattle.fts_engine.specs.Kept.{KeptAs, kept_limits}
 
--- the largest end of the rows log
-abbrev pub engine_limit : {D : Type 0} {disk : Ghosts D} → Engine D disk → ℕ
-engine_limit engine = limit_of engine.log
+-- the limits of its commits
+abbrev pub engine_limits : {D : Type 0} {disk : Ghosts D} → Engine D disk → Limits
+engine_limits engine = kept_limits engine.kept
 
 -- the device on which the rows log stands
 abbrev pub engine_device : {D : Type 0} {disk : Ghosts D} → Engine D disk → D
@@ -20,12 +23,13 @@ engine_device engine = device_of engine.log
 abbrev pub engine_faults : {D : Type 0} {disk : Ghosts D} → Engine D disk → ℕ
 engine_faults {disk} engine = disk.faults (device_of engine.log)
 
--- the engine stands for the state: its log has the state's entries, and it keeps the words of the state's rows
+-- the engine stands for the state: its log has the state's entries, and it keeps the state's rows
 pub record Stands {D : Type 0} {disk : Ghosts D} (state : State) (engine : Engine D disk) : Type 0 where
   pub sound : IsSound state
-  pub column : state.settings.columns ≡ engine.column ∷ []
-  pub kept : engine.entries.items ≡ map entry_of (replay state.commits).list
-  pub largest : (replay state.commits).largest ≡ length state.commits
+  pub settings : state.settings ≡ engine.settings
+  pub rows : KeptAs (replay state.commits) engine.kept
+  pub within : AreWithin standard_limits (engine_limits engine)
+  pub limit : limit_of engine.log ≡ (engine_limits engine).log_bytes
   pub magic : magic_of engine.log ≡ rows_magic
   pub log : StandsFor (payloads state) engine.log
 

@@ -1,15 +1,17 @@
 ghost use Rattle.std.specs.Prelude.{◌≡◌, ◌≤◌, [], ℕ, List, true, length, IsTrue, IfOk, IfErr};
 ghost use Rattle.fts_faults.specs.Count.{Rose};
-ghost use Rattle.fts_commits.specs.Settings.{is_column_name as is_name};
+ghost use Rattle.fts_types.specs.declared.settings.Settings.{Settings};
+ghost use Rattle.fts_types.specs.Settings.{AreSettings};
 ghost use Rattle.fts_log.specs.Device.{LooksOnly};
 ghost use Rattle.fts_log.specs.Frame.{payload_of};
-ghost use Rattle.fts_rowcodec.specs.Payload.{one_column, settings_payload};
+ghost use Rattle.fts_rowcodec.specs.Payload.{settings_payload};
 ghost use Rattle.fts_steps.specs.State.{IsCreated, IsDatabase, created_with};
 
 use crate::created::{MAGIC, is_created};
 use fts_disk::Disk;
 use fts_log::{AppendError, Framed, create_log};
 use fts_rowcodec::encode_settings;
+use fts_types::Settings;
 use std::alloc::{AllocError, Global};
 use std::error::Error;
 use std::fmt;
@@ -41,10 +43,14 @@ impl fmt::Display for CreateError {
 impl Error for CreateError {}
 
 /// Makes a database without commits on a device, and hands the device back.
-pub fn create_engine<D: Disk>(alloc: Global, column: &[u8], rows: D) -> Result<D, (CreateError, D)>
-    requires { is_name column.now ≡ true }
+pub fn create_engine<D: Disk>(
+    alloc: Global,
+    settings: &Settings,
+    rows: D,
+) -> Result<D, (CreateError, D)>
+    requires { AreSettings settings.now }
 
-    ensures created { IfOk result (λ device. IsTrue D.tells → IsDatabase (created_with (one_column column.now)) (D.seen device 0)) }
+    ensures created { IfOk result (λ device. IsTrue D.tells → IsDatabase (created_with settings.now) (D.seen device 0)) }
     ensures fresh { IfOk result (λ device. IsTrue D.tells → IsCreated (D.seen rows 0) → ⊥) }
     ensures never_falls { IfOk result (λ device. D.faults rows ≤ D.faults device) }
 
@@ -54,7 +60,7 @@ pub fn create_engine<D: Disk>(alloc: Global, column: &[u8], rows: D) -> Result<D
     ensures failed { IfErr result (λ e. e.0 ≡ CreateError.DiskFault → Rose (D.faults rows) (D.faults e.1)) }
     ensures never_falls_err { IfErr result (λ e. D.faults rows ≤ D.faults e.1) }
 {
-    let framed = match framed_settings(alloc, column) {
+    let framed = match framed_settings(alloc, settings) {
         Ok(framed) => framed,
         Err(_) => return Err((CreateError::NoMemory, rows)),
     };
@@ -67,21 +73,21 @@ pub fn create_engine<D: Disk>(alloc: Global, column: &[u8], rows: D) -> Result<D
 }
 
 // The settings, framed for the log.
-fn framed_settings(alloc: Global, column: &[u8]) -> Result<Framed, AllocError>
-    requires { is_name column.now ≡ true }
-    ensures { IfOk result (λ framed. payload_of framed ≡ settings_payload (one_column column.now)) }
+fn framed_settings(alloc: Global, settings: &Settings) -> Result<Framed, AllocError>
+    requires { AreSettings settings.now }
+    ensures { IfOk result (λ framed. payload_of framed ≡ settings_payload settings.now) }
 {
-    let payload = encode_settings(alloc, column)?;
+    let payload = encode_settings(alloc, settings)?;
     let mut framed = Framed::with_room(alloc, payload.len() as u32)?;
     framed.put(&payload);
     Ok(framed)
 }
 
 // Makes the rows log, with the settings as its only entry.
-fn make<D: Disk>(rows: D, settings: &Framed) -> Result<D, (CreateError, D)>
-    requires { length (payload_of settings.now) ≤ 64 }
-    ensures made { IfOk result (λ device. IsTrue D.tells → (column : List ℕ) → is_name column ≡ true → payload_of settings.now ≡ settings_payload (one_column column)
-        → IsDatabase (created_with (one_column column)) (D.seen device 0)) }
+fn make<D: Disk>(rows: D, framed: &Framed) -> Result<D, (CreateError, D)>
+    requires { length (payload_of framed.now) ≤ 300 }
+    ensures made { IfOk result (λ device. IsTrue D.tells → (settings : Settings) → AreSettings settings → payload_of framed.now ≡ settings_payload settings
+        → IsDatabase (created_with settings) (D.seen device 0)) }
     ensures never_falls { IfOk result (λ device. D.faults rows ≤ D.faults device) }
     ensures failed { IfErr result (λ e. (e.0 ≡ CreateError.DiskFault) × Rose (D.faults rows) (D.faults e.1)) }
     ensures never_falls_err { IfErr result (λ e. D.faults rows ≤ D.faults e.1) }
@@ -90,7 +96,7 @@ fn make<D: Disk>(rows: D, settings: &Framed) -> Result<D, (CreateError, D)>
         Ok(log) => log,
         Err((_, device)) => return Err((CreateError::DiskFault, device)),
     };
-    match log.append(settings) {
+    match log.append(framed) {
         Ok(_) => Ok(log.close()),
         Err(AppendError::DiskFault) => Err((CreateError::DiskFault, log.close())),
         Err(AppendError::LogFull { end: _ }) => unreachable!(),

@@ -1,55 +1,65 @@
-ghost use Rattle.std.specs.Prelude.{false, length, ◌≡◌, ◌≤◌, ◌⊎◌, ℕ, List, [], ◌∷◌, IsTrue, IsErrOf, IfOk};
+ghost use Rattle.std.specs.Prelude.{false, length, ◌≡◌, ◌≤◌, ◌⊎◌, ℕ, List, [], ◌∷◌, IsTrue, IsErrOf, IfOk, Err};
+ghost use Rattle.fts_engine.specs.Refusing.{refusal_answer};
 ghost use Rattle.fts_faults.specs.Count.{Rose};
 ghost use Rattle.fts_log.specs.Frame.{payload_of};
-ghost use Rattle.fts_rowcodec.specs.Payload.{IsText, one_insert, commit_payload};
+ghost use Rattle.fts_commits.specs.Fits.{CanCommit};
+ghost use Rattle.fts_rowcodec.specs.Payload.{IsWritten, commit_payload};
 ghost use Rattle.fts_steps.specs.State.{State, IsDatabase, with_commits};
 ghost use Rattle.fts_steps.specs.Step.{to_commit, to_find, after, MayAnswer, is_disk_fault};
 ghost use Rattle.fts_steps.specs.Answers.{commit_answer_of, view_answer_of};
 
-use crate::entry::{Entry, find, has_key};
-use fts_commits::{Text, Words};
+use crate::kept::Kept;
+use fts_commits::Change;
 use fts_disk::Disk;
 use fts_log::{AppendError, Framed, Log};
-use fts_rowcodec::encode_insert;
+use fts_rowcodec::encode_commit;
+use fts_rows::PlanError;
 use fts_steps::{CommitError, View};
+use fts_types::{Names, Settings};
 use std::alloc::{AllocError, Global};
 
-/// A database that is open: its rows log, and the words of its rows in memory.
+/// A database that is open: its rows log, and its rows and their words in memory.
 #[derive(Drop)]
 pub struct Engine<D: Disk> {
     pub(crate) alloc: Global,
     pub(crate) log: Log<D>,
-    pub(crate) column: Text,
-    pub(crate) entries: Vec<Entry>,
+    pub(crate) settings: Settings,
+    pub(crate) kept: Kept,
+    ghost few: { length settings.columns ≤ 8 },
 }
 
 impl<D: Disk> Engine<D> {
-    ghost use Rattle.fts_engine.specs.Stands.{Stands, Reads, engine_limit, engine_faults, engine_device};
+    ghost use Rattle.fts_engine.specs.Stands.{Stands, Reads, engine_limits, engine_faults, engine_device};
 
-    /// Makes a commit of one INSERT, and returns its number, from 1.
-    pub fn commit(&mut self, key: u64, text: &[u8]) -> Result<u64, CommitError>
-        requires text { IsText text.now }
-        requires ready { IsTrue D.tells → (state : State) × Stands state self.old }
-        ensures answers { IsTrue D.tells → (state : State) → Stands state self.old
-            → MayAnswer (engine_limit self.old) state (to_commit (one_insert key text.now)) (commit_answer_of result) }
-        ensures stands { IsTrue D.tells → (state : State) → Stands state self.old → is_disk_fault (commit_answer_of result) ≡ false
-            → Stands (after state (to_commit (one_insert key text.now)) (commit_answer_of result)) self.new }
-        ensures doubt { IsTrue D.tells → (state : State) → Stands state self.old → IsErrOf result CommitError.DiskFault
-            → Reads state self.new ⊎ Reads (with_commits state (one_insert key text.now ∷ [])) self.new }
-        ensures limit { engine_limit self.new ≡ engine_limit self.old }
+    /// Makes a commit of these changes, and returns its number, from 1. The changes fit the table: each INSERT has a text
+    /// for each column.
+    pub fn commit(&mut self, changes: &[Change]) -> Result<u64, CommitError>
+        requires commit { (columns : ℕ) × CanCommit columns changes.now }
+        requires ready { IsTrue D.tells → (state : State) × Stands state self.old × CanCommit (length state.settings.columns) changes.now }
+        ensures answers { IsTrue D.tells → (state : State) → Stands state self.old → CanCommit (length state.settings.columns) changes.now
+            → MayAnswer (engine_limits self.old) state (to_commit changes.now) (commit_answer_of result) }
+        ensures stands { IsTrue D.tells → (state : State) → Stands state self.old → CanCommit (length state.settings.columns) changes.now
+            → is_disk_fault (commit_answer_of result) ≡ false
+            → Stands (after state (to_commit changes.now) (commit_answer_of result)) self.new }
+        ensures doubt { IsTrue D.tells → (state : State) → Stands state self.old → CanCommit (length state.settings.columns) changes.now
+            → IsErrOf result CommitError.DiskFault
+            → Reads state self.new ⊎ Reads (with_commits state (changes.now ∷ [])) self.new }
+        ensures limits { engine_limits self.new ≡ engine_limits self.old }
         ensures failed { IsErrOf result CommitError.DiskFault → Rose (engine_faults self.old) (engine_faults self.new) }
         ensures never_falls { engine_faults self.old ≤ engine_faults self.new }
     {
-        if has_key(&self.entries, key) {
-            return Err(CommitError::DuplicateKey { change: 1, key });
-        }
-        let words = Words::of(self.alloc, text)?;
-        let framed = framed_insert(self.alloc, key, text)?;
-        self.entries.reserve(1)?;
+        let next = match self.kept.plan(changes) {
+            Ok(next) => next,
+            Err(error) => return Err(refusal_of(error)),
+        };
+        let framed = match framed_commit(self.alloc, changes) {
+            Ok(framed) => framed,
+            Err(AllocError) => return Err(CommitError::NoMemory),
+        };
         match self.log.append(&framed) {
-            Ok(doc) => {
-                self.entries.push(Entry { key, doc, words }).unwrap();
-                Ok(doc)
+            Ok(number) => {
+                self.kept.install(next);
+                Ok(number)
             }
             Err(AppendError::LogFull { end }) => Err(CommitError::LogFull { end }),
             Err(AppendError::DiskFault) => Err(CommitError::DiskFault),
@@ -59,9 +69,9 @@ impl<D: Disk> Engine<D> {
     /// Looks for the rows that have the word.
     pub fn view(&self, word: &[u8]) -> Result<View, AllocError>
         ensures { IsTrue D.tells → (state : State) → Stands state self.now
-            → MayAnswer (engine_limit self.now) state (to_find word.now) (view_answer_of result) }
+            → MayAnswer (engine_limits self.now) state (to_find word.now) (view_answer_of result) }
     {
-        let docs = find(self.alloc, &self.entries, word)?;
+        let docs = self.kept.find(word)?;
         Ok(View {
             number: self.commits(),
             docs,
@@ -75,11 +85,12 @@ impl<D: Disk> Engine<D> {
         self.log.count().saturating_sub(1)
     }
 
-    /// The name of the text column.
-    pub fn column(&self) -> &[u8]
-        ensures { (state : State) → Stands state self.now → state.settings.columns ≡ result.now ∷ [] }
+    /// The settings with which the database was created.
+    pub fn settings(&self) -> &Settings
+        ensures few { length result.now.columns ≤ 8 }
+        ensures settings { (state : State) → Stands state self.now → state.settings ≡ result.now }
     {
-        self.column.as_slice()
+        &self.settings
     }
 
     /// The device, which reads as the database of what the engine stood for.
@@ -91,19 +102,34 @@ impl<D: Disk> Engine<D> {
         let Engine {
             alloc: _,
             log,
-            column: _,
-            entries: _,
+            settings: _,
+            kept: _,
         } = self;
         log.close()
     }
 }
 
-// The commit of one INSERT, framed for the log.
-fn framed_insert(alloc: Global, key: u64, text: &[u8]) -> Result<Framed, AllocError>
-    requires { length text.now ≤ 65535 }
-    ensures { IfOk result (λ framed. payload_of framed ≡ commit_payload (one_insert key text.now)) }
+// Why a commit was refused, as the rows tell it.
+fn refusal_of(error: PlanError) -> CommitError
+    ensures { commit_answer_of (Err result) ≡ refusal_answer error }
 {
-    let payload = encode_insert(alloc, key, text)?;
+    match error {
+        PlanError::NoMemory => CommitError::NoMemory,
+        PlanError::DuplicateKey { change, key } => CommitError::DuplicateKey { change, key },
+        PlanError::DocIdOrder { given, largest } => CommitError::DocIdOrder { given, largest },
+        PlanError::DocIdGap { given, largest } => CommitError::DocIdGap { given, largest },
+        PlanError::IdsFull { largest } => CommitError::IdsFull { largest },
+        PlanError::TextTooLong { change, length } => CommitError::TextTooLong { change, length },
+        PlanError::RowsFull { rows } => CommitError::RowsFull { rows },
+    }
+}
+
+// A commit, framed for the log.
+fn framed_commit(alloc: Global, changes: &[Change]) -> Result<Framed, AllocError>
+    requires { (columns : ℕ) × (columns ≤ 8) × IsWritten columns changes.now }
+    ensures { IfOk result (λ framed. payload_of framed ≡ commit_payload changes.now) }
+{
+    let payload = encode_commit(alloc, changes)?;
     let mut framed = Framed::with_room(alloc, payload.len() as u32)?;
     framed.put(&payload);
     Ok(framed)

@@ -1,24 +1,32 @@
-ghost use Rattle.std.specs.Prelude.{◌≡◌, ◌==◌, ℕ, List, map, filter, IfOk};
-ghost use Rattle.std.specs.List.{list_any};
+ghost use Rattle.std.specs.Prelude.{◌≡◌, ◌++◌, ℕ, List, map, filter, IfOk, OnOk};
 ghost use Rattle.fts_commits.specs.Word.{is_among};
+ghost use Rattle.fts_engine.specs.Kept.{birth_entry};
 
 use fts_commits::Words;
+use fts_rows::Row;
 use fts_schema::DocIds;
 use std::alloc::{AllocError, Global};
 
-/// What the engine keeps of a row: its key, its document id, and the words of its text.
+/// What a search looks at: a row's document id, and the words of its texts.
 #[derive(Debug, Drop)]
 pub struct Entry {
-    pub key: u64,
     pub doc: u64,
     pub words: Words,
 }
 
-/// Whether an entry has the key.
-pub fn has_key(entries: &[Entry], key: u64) -> bool
-    ensures { result ≡ list_any (λ entry. entry.key == key) entries.now }
+/// The entries of new rows, in their order.
+pub fn entries_of(alloc: Global, births: &[Row]) -> Result<Vec<Entry>, AllocError>
+    ensures { IfOk result (λ entries. entries.items ≡ map birth_entry births.now) }
 {
-    entries.iter().any(|entry| entry.key == key)
+    let mut entries = Vec::new(alloc);
+    for birth in births {
+        let words = Words::of_row(alloc, &birth.texts)?;
+        entries.push(Entry {
+            doc: birth.doc,
+            words,
+        })?;
+    }
+    Ok(entries)
 }
 
 /// The document ids of the entries that have the word, in their order.

@@ -6,6 +6,7 @@ mod created;
 mod engine;
 mod entry;
 mod error;
+mod kept;
 mod load;
 mod open;
 
@@ -14,3 +15,6 @@ pub use created::{MAGIC, is_created};
 pub use engine::Engine;
 pub use error::OpenError;
 pub use open::open_engine;
+
+#[cfg(test)]
+mod tests;

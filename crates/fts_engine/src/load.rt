@@ -2,14 +2,16 @@ ghost use Rattle.std.specs.Prelude.{◌≡◌, ◌+◌, ◌<◌, ◌≤◌, ◌^
 ghost use Rattle.fts_faults.specs.Count.{Rose};
 ghost use Rattle.fts_log.specs.Device.{LooksOnly};
 ghost use Rattle.fts_log.specs.Log.{StandsFor, IsReady, KeepsMaking, device_of, found_count, count_of, end_of};
-ghost use Rattle.fts_engine.specs.Loading.{IsLoaded, AreNoState};
+ghost use Rattle.fts_types.specs.declared.settings.Settings.{Settings};
+ghost use Rattle.fts_engine.specs.Loading.{BeginsWith, IsLoaded, AreNoState};
 
 use crate::OpenError;
-use crate::entry::{Entry, has_key};
-use fts_commits::{Text, Words};
+use crate::kept::Kept;
 use fts_disk::Disk;
 use fts_log::Log;
-use fts_rowcodec::{DecodeError, Insert, decode_insert, decode_settings};
+use fts_rowcodec::{DecodeError, decode_commit, decode_settings};
+use fts_rows::PlanError;
+use fts_types::{Limits, Settings};
 use std::alloc::Global;
 
 /// Where the gate of the first record stands.
@@ -18,12 +20,13 @@ const FIRST_RECORD: u64 = 8;
 /// How many bytes of a record stand before its payload: the gate and the length.
 const RECORD_HEAD: u64 = 5;
 
-/// Reads the entries of a log that has some: the name of the column, and what is kept of each row.
-pub fn load<D: Disk>(alloc: Global, log: &mut Log<D>) -> Result<(Text, Vec<Entry>), OpenError>
+/// Reads the entries of a log that has some: the settings, and what is kept of the rows.
+pub fn load<D: Disk>(alloc: Global, log: &mut Log<D>) -> Result<(Settings, Kept), OpenError>
     requires found { found_count log.old ≡ count_of log.old }
     requires some { 0 < count_of log.old }
     requires ready { IsTrue D.tells → IsReady log.old }
-    ensures loaded { IfOk result (λ r. IsTrue D.tells → (all : List (List ℕ)) → StandsFor all log.old → IsLoaded all r.0 (length all) r.1.items) }
+    ensures few { IfOk result (λ r. length r.0.columns ≤ 8) }
+    ensures loaded { IfOk result (λ r. IsTrue D.tells → (all : List (List ℕ)) → StandsFor all log.old → IsLoaded all r.0 (length all) r.1) }
     ensures damaged { (at : ℕ) → IsErrOf result (OpenError.Damaged at) → IsTrue D.tells → (all : List (List ℕ)) → StandsFor all log.old → AreNoState all }
     ensures created { IsErrOf result OpenError.NotCreated → ⊥ }
     ensures stays { IsTrue D.tells → (all : List (List ℕ)) → StandsFor all log.old → StandsFor all log.new }
@@ -32,22 +35,28 @@ pub fn load<D: Disk>(alloc: Global, log: &mut Log<D>) -> Result<(Text, Vec<Entry
     ensures failed { IsErrOf result OpenError.DiskFault → Rose (D.faults (device_of log.old)) (D.faults (device_of log.new)) }
     ensures never_falls { D.faults (device_of log.old) ≤ D.faults (device_of log.new) }
 {
-    let (column, at) = load_settings(alloc, log)?;
-    match load_commits(alloc, log, at) {
-        Ok(entries) => Ok((column, entries)),
+    let (settings, at) = load_settings(alloc, log)?;
+    match load_commits(alloc, log, settings.columns.len(), at) {
+        Ok(kept) => Ok((settings, kept)),
         Err(error) => Err(error),
     }
 }
 
-// Reads all entries behind the first, whose next record's gate stands at `at`, and gives what is kept of each row.
-fn load_commits<D: Disk>(alloc: Global, log: &mut Log<D>, at: u64) -> Result<Vec<Entry>, OpenError>
+// Reads all entries behind the first, whose next record's gate stands at `at`, and gives what is kept of the rows.
+fn load_commits<D: Disk>(
+    alloc: Global,
+    log: &mut Log<D>,
+    columns: usize,
+    at: u64,
+) -> Result<Kept, OpenError>
+    requires few { columns ≤ 8 }
     requires found { found_count log.old ≡ count_of log.old }
     requires some { 0 < count_of log.old }
     requires ready { IsTrue D.tells → IsReady log.old }
-    ensures loaded { IfOk result (λ entries. IsTrue D.tells → (all : List (List ℕ)) (column : List ℕ) → StandsFor all log.old
-        → IsLoaded all column 1 [] → IsLoaded all column (length all) entries.items) }
-    ensures damaged { (place : ℕ) → IsErrOf result (OpenError.Damaged place) → IsTrue D.tells → (all : List (List ℕ)) (column : List ℕ) → StandsFor all log.old
-        → IsLoaded all column 1 [] → AreNoState all }
+    ensures loaded { IfOk result (λ kept. IsTrue D.tells → (all : List (List ℕ)) (settings : Settings) → StandsFor all log.old
+        → columns ≡ length settings.columns → BeginsWith settings all → IsLoaded all settings (length all) kept) }
+    ensures damaged { (place : ℕ) → IsErrOf result (OpenError.Damaged place) → IsTrue D.tells → (all : List (List ℕ)) (settings : Settings) → StandsFor all log.old
+        → columns ≡ length settings.columns → BeginsWith settings all → AreNoState all }
     ensures created { IsErrOf result OpenError.NotCreated → ⊥ }
     ensures stays { IsTrue D.tells → (all : List (List ℕ)) → StandsFor all log.old → StandsFor all log.new }
     ensures looks { IsTrue D.tells → LooksOnly D.Disk (device_of log.old) (device_of log.new) }
@@ -56,22 +65,23 @@ fn load_commits<D: Disk>(alloc: Global, log: &mut Log<D>, at: u64) -> Result<Vec
     ensures never_falls { D.faults (device_of log.old) ≤ D.faults (device_of log.new) }
 {
     let mut at = at;
-    let mut entries = Vec::new(alloc);
+    let mut kept = Kept::new(alloc, Limits::standard());
     let count = log.count();
     for k in 1..count {
-        match load_commit(alloc, log, k, at, &mut entries) {
+        match load_commit(alloc, log, columns, k, at, &mut kept) {
             Ok(next) => at = next,
             Err(error) => return Err(error),
         }
     }
-    Ok(entries)
+    Ok(kept)
 }
 
-// Reads the settings, the first entry, and gives the column's name and the place of the next record.
-fn load_settings<D: Disk>(alloc: Global, log: &mut Log<D>) -> Result<(Text, u64), OpenError>
+// Reads the settings, the first entry, and gives them and the place of the next record.
+fn load_settings<D: Disk>(alloc: Global, log: &mut Log<D>) -> Result<(Settings, u64), OpenError>
     requires found { 0 < found_count log.old }
     requires ready { IsTrue D.tells → IsReady log.old }
-    ensures loaded { IfOk result (λ r. IsTrue D.tells → (all : List (List ℕ)) → StandsFor all log.old → 0 < length all → IsLoaded all r.0 1 []) }
+    ensures few { IfOk result (λ r. length r.0.columns ≤ 8) }
+    ensures loaded { IfOk result (λ r. IsTrue D.tells → (all : List (List ℕ)) → StandsFor all log.old → 0 < length all → BeginsWith r.0 all) }
     ensures damaged { (at : ℕ) → IsErrOf result (OpenError.Damaged at) → IsTrue D.tells → (all : List (List ℕ)) → StandsFor all log.old → AreNoState all }
     ensures created { IsErrOf result OpenError.NotCreated → ⊥ }
     ensures stays { IsTrue D.tells → (all : List (List ℕ)) → StandsFor all log.old → StandsFor all log.new }
@@ -83,7 +93,7 @@ fn load_settings<D: Disk>(alloc: Global, log: &mut Log<D>) -> Result<(Text, u64)
 {
     let payload = log.entry_at(0)?;
     match decode_settings(alloc, &payload) {
-        Ok(column) => Ok((column, next_record(FIRST_RECORD, payload.len()))),
+        Ok(settings) => Ok((settings, next_record(FIRST_RECORD, payload.len()))),
         Err(DecodeError::NoMemory) => Err(OpenError::NoMemory),
         Err(DecodeError::Bad) => Err(OpenError::Damaged { at: FIRST_RECORD }),
     }
@@ -93,16 +103,18 @@ fn load_settings<D: Disk>(alloc: Global, log: &mut Log<D>) -> Result<(Text, u64)
 fn load_commit<D: Disk>(
     alloc: Global,
     log: &mut Log<D>,
+    columns: usize,
     k: u64,
     at: u64,
-    entries: &mut Vec<Entry>,
+    kept: &mut Kept,
 ) -> Result<u64, OpenError>
+    requires few { columns ≤ 8 }
     requires found { k < found_count log.old }
     requires ready { IsTrue D.tells → IsReady log.old }
-    ensures loaded { OnOk result (IsTrue D.tells → (all : List (List ℕ)) (column : List ℕ) → StandsFor all log.old → k < length all
-        → IsLoaded all column k entries.old.items → IsLoaded all column (k + 1) entries.new.items) }
-    ensures damaged { (place : ℕ) → IsErrOf result (OpenError.Damaged place) → IsTrue D.tells → (all : List (List ℕ)) (column : List ℕ) → StandsFor all log.old → k < length all
-        → IsLoaded all column k entries.old.items → AreNoState all }
+    ensures loaded { OnOk result (IsTrue D.tells → (all : List (List ℕ)) (settings : Settings) → StandsFor all log.old → k < length all
+        → columns ≡ length settings.columns → IsLoaded all settings k kept.old → IsLoaded all settings (k + 1) kept.new) }
+    ensures damaged { (place : ℕ) → IsErrOf result (OpenError.Damaged place) → IsTrue D.tells → (all : List (List ℕ)) (settings : Settings) → StandsFor all log.old → k < length all
+        → columns ≡ length settings.columns → IsLoaded all settings k kept.old → AreNoState all }
     ensures created { IsErrOf result OpenError.NotCreated → ⊥ }
     ensures stays { IsTrue D.tells → (all : List (List ℕ)) → StandsFor all log.old → StandsFor all log.new }
     ensures looks { IsTrue D.tells → LooksOnly D.Disk (device_of log.old) (device_of log.new) }
@@ -112,17 +124,27 @@ fn load_commit<D: Disk>(
     ensures never_falls { D.faults (device_of log.old) ≤ D.faults (device_of log.new) }
 {
     let payload = log.entry_at(k)?;
-    let Insert { key, text } = match decode_insert(alloc, &payload) {
-        Ok(insert) => insert,
+    let changes = match decode_commit(alloc, columns, &payload) {
+        Ok(changes) => changes,
         Err(DecodeError::NoMemory) => return Err(OpenError::NoMemory),
         Err(DecodeError::Bad) => return Err(OpenError::Damaged { at }),
     };
-    if has_key(entries, key) {
-        return Err(OpenError::Damaged { at });
+    match kept.replay(changes.as_slice()) {
+        Ok(()) => Ok(next_record(at, payload.len())),
+        Err(error) => Err(refusal_at(error, at)),
     }
-    let words = Words::of(alloc, text.as_slice())?;
-    entries.push(Entry { key, doc: k, words })?;
-    Ok(next_record(at, payload.len()))
+}
+
+// A commit of the log that the rows refuse is damage at its gate.
+fn refusal_at(error: PlanError, at: u64) -> OpenError
+    ensures damaged { (place : ℕ) → result ≡ OpenError.Damaged place → error ≡ PlanError.NoMemory → ⊥ }
+    ensures created { result ≡ OpenError.NotCreated → ⊥ }
+    ensures failed { result ≡ OpenError.DiskFault → ⊥ }
+{
+    match error {
+        PlanError::NoMemory => OpenError::NoMemory,
+        _ => OpenError::Damaged { at },
+    }
 }
 
 // The place behind a record.

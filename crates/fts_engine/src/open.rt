@@ -4,7 +4,9 @@ ghost use Rattle.fts_log.specs.Device.{LooksOnly};
 ghost use Rattle.fts_log.specs.Record.{IsDamagedAt};
 ghost use Rattle.fts_log.specs.Log.{StandsFor, IsReady, device_of, magic_of, limit_of, count_of, found_count};
 ghost use Rattle.fts_steps.specs.State.{State, IsCreated, IsDatabase, rows_magic};
-ghost use Rattle.fts_engine.specs.Stands.{Stands, engine_limit, engine_device};
+ghost use Rattle.fts_types.specs.Limits.{standard_limits};
+ghost use Rattle.fts_engine.specs.Bounds.{AreWithin};
+ghost use Rattle.fts_engine.specs.Stands.{Stands, engine_limits, engine_device};
 ghost use Rattle.fts_engine.specs.Opening.{IsNoDatabase};
 
 use crate::created::{MAGIC, is_created};
@@ -12,15 +14,20 @@ use crate::load::load;
 use crate::{Engine, OpenError};
 use fts_disk::Disk;
 use fts_log::{Log, open_log};
+use fts_types::Limits;
 use std::alloc::Global;
 
-/// Opens the database on a device: reads its rows log, and writes nothing. `limit` is the largest end that the
-/// rows log may have.
-pub fn open_engine<D: Disk>(alloc: Global, rows: D, limit: u64) -> Result<Engine<D>, (OpenError, D)>
-    requires { limit ≤ 2 ^ 32 }
+/// Opens the database on a device: reads its rows log, and writes nothing. `limits` are
+/// those of later commits; what was committed before need only be within the standard ones.
+pub fn open_engine<D: Disk>(
+    alloc: Global,
+    rows: D,
+    limits: Limits,
+) -> Result<Engine<D>, (OpenError, D)>
+    requires { AreWithin standard_limits limits }
 
     ensures opened { IfOk result (λ engine. IsTrue D.tells → (state : State) × Stands state engine) }
-    ensures limit { IfOk result (λ engine. engine_limit engine ≡ limit) }
+    ensures limits { IfOk result (λ engine. engine_limits engine ≡ limits) }
     ensures looks { IfOk result (λ engine. IsTrue D.tells → LooksOnly D.Disk rows (engine_device engine)) }
     ensures never_falls { IfOk result (λ engine. D.faults rows ≤ D.faults (engine_device engine)) }
 
@@ -30,8 +37,8 @@ pub fn open_engine<D: Disk>(alloc: Global, rows: D, limit: u64) -> Result<Engine
     ensures failed { IfErr result (λ e. e.0 ≡ OpenError.DiskFault → Rose (D.faults rows) (D.faults e.1)) }
     ensures never_falls_err { IfErr result (λ e. D.faults rows ≤ D.faults e.1) }
 {
-    match open_log(alloc, rows, MAGIC, limit) {
-        Ok(log) => open_rows(alloc, log),
+    match open_log(alloc, rows, MAGIC, limits.log_bytes) {
+        Ok(log) => open_rows(alloc, log, limits),
         Err((fts_log::OpenError::Damaged { at }, device)) => tell_damage(device, at),
         Err((fts_log::OpenError::NoMemory, device)) => Err((OpenError::NoMemory, device)),
         Err((fts_log::OpenError::DiskFault, device)) => Err((OpenError::DiskFault, device)),
@@ -39,12 +46,18 @@ pub fn open_engine<D: Disk>(alloc: Global, rows: D, limit: u64) -> Result<Engine
 }
 
 // Reads the entries of an open log. One without entries was never made a database.
-fn open_rows<D: Disk>(alloc: Global, log: Log<D>) -> Result<Engine<D>, (OpenError, D)>
+fn open_rows<D: Disk>(
+    alloc: Global,
+    log: Log<D>,
+    limits: Limits,
+) -> Result<Engine<D>, (OpenError, D)>
     requires found { found_count log ≡ count_of log }
     requires magic { magic_of log ≡ rows_magic }
+    requires limit { limit_of log ≡ limits.log_bytes }
+    requires within { AreWithin standard_limits limits }
     requires ready { IsTrue D.tells → IsReady log }
     ensures opened { IfOk result (λ engine. IsTrue D.tells → (state : State) × Stands state engine) }
-    ensures limit { IfOk result (λ engine. engine_limit engine ≡ limit_of log) }
+    ensures limits { IfOk result (λ engine. engine_limits engine ≡ limits) }
     ensures looks { IfOk result (λ engine. IsTrue D.tells → LooksOnly D.Disk (device_of log) (engine_device engine)) }
     ensures never_falls { IfOk result (λ engine. D.faults (device_of log) ≤ D.faults (engine_device engine)) }
     ensures not_created { IfErr result (λ e. e.0 ≡ OpenError.NotCreated → IsTrue D.tells → IsCreated (D.seen (device_of log) 0) → ⊥) }
@@ -58,12 +71,15 @@ fn open_rows<D: Disk>(alloc: Global, log: Log<D>) -> Result<Engine<D>, (OpenErro
         return Err((OpenError::NotCreated, log.close()));
     }
     match load(alloc, &mut log) {
-        Ok((column, entries)) => Ok(Engine {
-            alloc,
-            log,
-            column,
-            entries,
-        }),
+        Ok((settings, mut kept)) => {
+            kept.set_limits(limits);
+            Ok(Engine {
+                alloc,
+                log,
+                settings,
+                kept,
+            })
+        }
         Err(error) => Err((error, log.close())),
     }
 }

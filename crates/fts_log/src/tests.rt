@@ -4,6 +4,8 @@ ghost use Rattle.fts_log.specs.Log.{StandsFor, IsReady};
 use super::*;
 use fts_disk::{Call, Disk, Kind, MemDisk};
 use std::alloc::Global;
+use std::fmt::Display;
+use std::process::Abort;
 use std::test::Fail;
 
 const MAGIC: [u8; 8] = *b"FTSROWS1";
@@ -277,4 +279,36 @@ fn an_append_makes_four_calls_and_an_opening_writes_nothing(rt: HostRuntime) -> 
     assert!(rt; matches!(calls[8], Call::Len { .. }));
     assert!(rt; matches!(calls[9], Call::Read { .. }));
     Ok(())
+}
+
+// The error prints this.
+fn tells<E: Display>(rt: &impl Abort, alloc: Global, error: &E, text: &str) -> Result<(), Fail> {
+    let printed = format!(in alloc; "{error}")?;
+    assert_eq!(rt; printed.as_str(), text);
+    Ok(())
+}
+
+#[test]
+fn an_opening_tells_why_it_failed(rt: HostRuntime) -> Result<(), Fail> {
+    for (error, text) in [
+        (OpenError::NoMemory, "out of memory"),
+        (OpenError::Damaged { at: 33 }, "damaged at 33"),
+        (OpenError::DiskFault, "disk fault"),
+    ] {
+        tells(&rt, rt.alloc(), &error, text)?;
+    }
+    Ok(())
+}
+
+#[test]
+fn a_call_of_a_log_tells_why_it_failed(rt: HostRuntime) -> Result<(), Fail> {
+    tells(
+        &rt,
+        rt.alloc(),
+        &AppendError::LogFull { end: 84 },
+        "log full at 84",
+    )?;
+    tells(&rt, rt.alloc(), &AppendError::DiskFault, "disk fault")?;
+    tells(&rt, rt.alloc(), &EntryError::NoMemory, "out of memory")?;
+    tells(&rt, rt.alloc(), &EntryError::DiskFault, "disk fault")
 }

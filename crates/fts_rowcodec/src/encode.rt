@@ -1,27 +1,61 @@
-ghost use Rattle.std.specs.Prelude.{◌≡◌, ◌≤◌, ◌+◌, ◌++◌, length, IfOk, OnOk};
-ghost use Rattle.fts_rowcodec.specs.Payload.{one_column, one_insert, text_payload, settings_payload, commit_payload};
+ghost use Rattle.std.specs.Prelude.{◌≡◌, ◌<◌, ◌≤◌, ◌++◌, ◌∷◌, All, None, slice_index_or, length, IfOk, OnOk};
+ghost use Rattle.std.specs.List.{flat_map};
+ghost use Rattle.std.specs.Int.{w64, to_be_bytes};
+ghost use Rattle.fts_commits.specs.declared.change.Change.TheVariants.{Insert, Update};
+ghost use Rattle.fts_types.specs.Settings.{AreSettings};
+ghost use Rattle.fts_rowcodec.specs.Payload.{FitsBytes, FitsText, FitsNewText, new_payload, text_payload, doc_payload, change_payload, commit_payload, column_payload, numbers_payload, settings_payload};
 
+use fts_commits::{Change, NewTexts};
+use fts_types::{Names, RowTexts, Settings};
 use std::alloc::{AllocError, Global};
 
-/// The numbers of the settings behind their columns, as the standard has them: `min` 3, `max` 84 and `stopwords` 1 in
-/// one byte each, `optimize_words` 2,000 in two bytes, `cache_bytes` 8,000,000 and `batch_docs` 1,000 in four each.
-pub(crate) const STANDARD_NUMBERS: [u8; 13] = [3, 84, 1, 7, 208, 0, 122, 18, 0, 0, 0, 3, 232];
+/// Puts a column's name behind the others: its length in one byte, and its bytes.
+fn put_column(bytes: &mut Vec<u8>, name: &[u8]) -> Result<(), AllocError>
+    requires { length name.now ≤ 32 }
+    ensures { OnOk result (bytes.new.items ≡ bytes.old.items ++ column_payload name.now) }
+{
+    bytes.push(name.len() as u8)?;
+    bytes.extend_from_slice(name)?;
+    Ok(())
+}
 
-/// The payload of the settings with one column of this name.
-pub fn encode_settings(alloc: Global, column: &[u8]) -> Result<Vec<u8>, AllocError>
-    requires { length column.now ≤ 32 }
-    ensures { IfOk result (λ bytes. bytes.items ≡ settings_payload (one_column column.now)) }
+/// Puts the names of columns behind the others.
+fn put_columns(bytes: &mut Vec<u8>, names: &Names) -> Result<(), AllocError>
+    requires { All (λ name. length name ≤ 32) names.now }
+    ensures { OnOk result (bytes.new.items ≡ bytes.old.items ++ flat_map column_payload names.now) }
+{
+    for place in 0..names.len() {
+        put_column(bytes, names.text(place))?;
+    }
+    Ok(())
+}
+
+/// Puts the numbers of the settings behind the others.
+fn put_numbers(bytes: &mut Vec<u8>, settings: &Settings) -> Result<(), AllocError>
+    ensures { OnOk result (bytes.new.items ≡ bytes.old.items ++ numbers_payload settings.now) }
+{
+    bytes.extend_from_slice(&[settings.min, settings.max, u8::from(settings.stopword)])?;
+    bytes.extend_from_slice(&settings.optimize_words.to_be_bytes())?;
+    bytes.extend_from_slice(&settings.cache_bytes.to_be_bytes())?;
+    bytes.extend_from_slice(&settings.batch_docs.to_be_bytes())?;
+    Ok(())
+}
+
+/// The payload of settings.
+pub fn encode_settings(alloc: Global, settings: &Settings) -> Result<Vec<u8>, AllocError>
+    requires { AreSettings settings.now }
+    ensures { IfOk result (λ bytes. bytes.items ≡ settings_payload settings.now) }
 {
     let mut bytes = Vec::new(alloc);
-    bytes.extend_from_slice(&[0, 1, column.len() as u8])?;
-    bytes.extend_from_slice(column)?;
-    bytes.extend_from_slice(&STANDARD_NUMBERS)?;
+    bytes.extend_from_slice(&[0, settings.columns.len() as u8])?;
+    put_columns(&mut bytes, &settings.columns)?;
+    put_numbers(&mut bytes, settings)?;
     Ok(bytes)
 }
 
-/// Puts a text's length, in two bytes, and its bytes behind the others.
+/// Puts a text behind the others: its length in two bytes, and its bytes.
 fn put_text(bytes: &mut Vec<u8>, text: &[u8]) -> Result<(), AllocError>
-    requires { length text.now ≤ 65535 }
+    requires { FitsText text.now }
     ensures { OnOk result (bytes.new.items ≡ bytes.old.items ++ text_payload text.now) }
 {
     bytes.extend_from_slice(&(text.len() as u16).to_be_bytes())?;
@@ -29,17 +63,114 @@ fn put_text(bytes: &mut Vec<u8>, text: &[u8]) -> Result<(), AllocError>
     Ok(())
 }
 
-/// The payload of the commit of one INSERT: of the row with this key, whose one column has this text. It is 15 bytes
-/// longer than the text.
-pub fn encode_insert(alloc: Global, key: u64, text: &[u8]) -> Result<Vec<u8>, AllocError>
-    requires { length text.now ≤ 65535 }
-    ensures payload { IfOk result (λ bytes. bytes.items ≡ commit_payload (one_insert key text.now)) }
-    ensures len { IfOk result (λ bytes. length bytes.items ≡ length text.now + 15) }
+/// Puts the texts of a row behind the others.
+fn put_texts(bytes: &mut Vec<u8>, texts: &RowTexts) -> Result<(), AllocError>
+    requires { All FitsText texts.now }
+    ensures { OnOk result (bytes.new.items ≡ bytes.old.items ++ flat_map text_payload texts.now) }
+{
+    for place in 0..texts.len() {
+        put_text(bytes, texts.text(place))?;
+    }
+    Ok(())
+}
+
+/// Puts a document id behind the others, if one is given.
+fn put_doc(bytes: &mut Vec<u8>, doc: Option<u64>) -> Result<(), AllocError>
+    ensures { OnOk result (bytes.new.items ≡ bytes.old.items ++ doc_payload doc) }
+{
+    match doc {
+        None => bytes.push(0)?,
+        Some(doc) => {
+            bytes.push(1)?;
+            bytes.extend_from_slice(&doc.to_be_bytes())?;
+        }
+    }
+    Ok(())
+}
+
+/// Puts a change's kind and key behind the others.
+fn put_key(bytes: &mut Vec<u8>, kind: u8, key: u64) -> Result<(), AllocError>
+    ensures { OnOk result (bytes.new.items ≡ bytes.old.items ++ kind ∷ to_be_bytes w64 key) }
+{
+    bytes.push(kind)?;
+    bytes.extend_from_slice(&key.to_be_bytes())?;
+    Ok(())
+}
+
+/// Puts an INSERT behind the others.
+fn put_insert(
+    bytes: &mut Vec<u8>,
+    key: u64,
+    doc: Option<u64>,
+    texts: &RowTexts,
+) -> Result<(), AllocError>
+    requires { All FitsText texts.now }
+    ensures { OnOk result (bytes.new.items ≡ bytes.old.items ++ change_payload (Insert key doc texts.now)) }
+{
+    put_key(bytes, 1, key)?;
+    put_doc(bytes, doc)?;
+    put_texts(bytes, texts)
+}
+
+/// Puts the text of a column that an UPDATE sets behind the others, or that the old one is kept.
+fn put_new_text(bytes: &mut Vec<u8>, texts: &NewTexts, place: usize) -> Result<(), AllocError>
+    requires in_place { place < length texts.now }
+    requires fits { FitsNewText (slice_index_or texts.now place None) }
+    ensures { OnOk result (bytes.new.items ≡ bytes.old.items ++ new_payload (slice_index_or texts.now place None)) }
+{
+    match texts.text(place) {
+        None => bytes.push(0)?,
+        Some(text) => {
+            bytes.push(1)?;
+            put_text(bytes, text)?;
+        }
+    }
+    Ok(())
+}
+
+/// Puts the texts that an UPDATE sets behind the others.
+fn put_new_texts(bytes: &mut Vec<u8>, texts: &NewTexts) -> Result<(), AllocError>
+    requires { All FitsNewText texts.now }
+    ensures { OnOk result (bytes.new.items ≡ bytes.old.items ++ flat_map new_payload texts.now) }
+{
+    for place in 0..texts.len() {
+        put_new_text(bytes, texts, place)?;
+    }
+    Ok(())
+}
+
+/// Puts an UPDATE behind the others.
+fn put_update(bytes: &mut Vec<u8>, key: u64, texts: &NewTexts) -> Result<(), AllocError>
+    requires { All FitsNewText texts.now }
+    ensures { OnOk result (bytes.new.items ≡ bytes.old.items ++ change_payload (Update key texts.now)) }
+{
+    put_key(bytes, 2, key)?;
+    put_new_texts(bytes, texts)
+}
+
+/// Puts a change behind the others.
+fn put_change(bytes: &mut Vec<u8>, change: &Change) -> Result<(), AllocError>
+    requires { FitsBytes change.now }
+    ensures { OnOk result (bytes.new.items ≡ bytes.old.items ++ change_payload change.now) }
+{
+    match change {
+        Change::Insert { key, doc, texts } => put_insert(bytes, *key, *doc, texts),
+        Change::Update { key, texts } => put_update(bytes, *key, texts),
+        Change::Delete { key } => put_key(bytes, 3, *key),
+    }
+}
+
+/// The payload of a commit.
+pub fn encode_commit(alloc: Global, changes: &[Change]) -> Result<Vec<u8>, AllocError>
+    requires few { length changes.now ≤ 1000 }
+    requires fits { All FitsBytes changes.now }
+    ensures { IfOk result (λ bytes. bytes.items ≡ commit_payload changes.now) }
 {
     let mut bytes = Vec::new(alloc);
-    bytes.extend_from_slice(&[1, 0, 1, 1])?;
-    bytes.extend_from_slice(&key.to_be_bytes())?;
-    bytes.push(0)?;
-    put_text(&mut bytes, text)?;
+    bytes.push(1)?;
+    bytes.extend_from_slice(&(changes.len() as u16).to_be_bytes())?;
+    for change in changes {
+        put_change(&mut bytes, change)?;
+    }
     Ok(bytes)
 }

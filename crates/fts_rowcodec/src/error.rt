@@ -2,7 +2,7 @@ ghost use Rattle.std.specs.Prelude.{◌≡◌, Some};
 ghost use Rattle.fts_rowcodec.specs.DecodeError.{message};
 ghost use Rattle.fts_rowcodec.specs.declared.error.DecodeError.TheVariants.{NoMemory};
 
-use std::alloc::AllocError;
+use std::alloc::{AllocError, AllocFailed};
 use std::error::Error;
 use std::fmt;
 
@@ -32,6 +32,14 @@ impl From<AllocError> for DecodeError {
     ghost from_gives = { λ _ e. e ≡ NoMemory };
 
     fn from(_e: AllocError) -> DecodeError {
+        DecodeError::NoMemory
+    }
+}
+
+impl<T: Drop> From<AllocFailed<T>> for DecodeError {
+    ghost from_gives = { λ _ e. e ≡ NoMemory };
+
+    fn from(_e: AllocFailed<T>) -> DecodeError {
         DecodeError::NoMemory
     }
 }

@@ -1,86 +1,102 @@
-use Rattle.std.proofs.Common.{◌≡◌, ℕ, List, [], ◌∷◌, refl, ap, subst, sym, inl, inr}
-use Rattle.std.specs.Prelude.{Option, Some, None, Result, Ok, Err}
+-- A statement's steps are those of its line.
+use Rattle.std.proofs.Common.{◌≡◌, ℕ, List, [], ◌∷◌, refl, ap, subst, sym, ◌∙◌, inl, inr}
+use Rattle.std.specs.Prelude.{Bool, true, false, Option, Some, None, Result, Ok, Err}
+use Rattle.fts_types.specs.declared.settings.Settings.{Settings}
+use Rattle.fts_commits.specs.declared.change.Change.{Change}
 use Rattle.fts_commits.specs.Word.{query_word}
 use Rattle.fts_io.specs.Text.{whole}
-use Rattle.fts_rowcodec.specs.Payload.{one_insert, IsText}
 use Rattle.fts_schema.specs.declared.reply.Reply.{Reply}
-use Rattle.fts_schema.specs.declared.reply.Reply.TheVariants.{QuerySyntax, Syntax}
+use Rattle.fts_schema.specs.declared.reply.Reply.TheVariants.{WrongColumns, Nothing, Syntax, QuerySyntax}
+use Rattle.fts_sql.specs.Line.{IsBlank}
 use Rattle.fts_sql.specs.Statement.{IsStatement}
+use Rattle.fts_sql.specs.Fault.{IsFaultAt}
+use Rattle.fts_sql.specs.declared.value.Value.{Value}
 use Rattle.fts_sql.specs.declared.statement.Statement.{Statement}
 use Rattle.fts_sql.specs.declared.statement.Statement.TheVariants.{Insert, Match}
 use Rattle.fts_steps.specs.State.{State}
-use Rattle.fts_steps.specs.Step.{to_commit, to_find}
 use Rattle.fts_sessions.specs.declared.ended.Ended.{Ended}
 use Rattle.fts_sessions.specs.declared.ended.Ended.TheVariants.{NoMemory}
 use Rattle.fts_sessions.specs.declared.steps.EngineSteps.{Ghosts}
-use Rattle.fts_sessions.specs.Request.{column_of, makes, unknown}
-use Rattle.fts_sessions.specs.Conversation.{ends, search_for}
-use Rattle.fts_sessions.specs.Execute.{Executes, Makes, Searches}
+use Rattle.fts_sessions.specs.Request.{makes, blank, unknown}
+use Rattle.fts_sessions.specs.Table.{are_names, change_of}
+use Rattle.fts_sessions.specs.Conversation.{Next, asks, ends, search_for, unknown_name, insert_begins, match_begins, unless_unknown, begins}
+use Rattle.fts_sessions.specs.Execute.{Executes, Does}
 
-module _ {S : Type 0} (steps : Ghosts S) (state : State) (line name : List ℕ) (columns : state.settings.columns ≡ name ∷ []) where
-  -- the column of the settings is the engine's
-  column_is : (statement : Statement) → IsStatement name line statement → IsStatement (column_of state.settings.columns) line statement
-  column_is statement is = subst (λ (names : List (List ℕ)). IsStatement (column_of names) line statement) (sym columns) is
+-- a statement that ends without a step has a reply
+record IsReply (told : Result Reply Ended) : Type 0 where
+  reply : Reply
+  is : told ≡ Ok reply
 
-  -- an INSERT makes its one step
-  pub inserts : (key : ℕ) (text : List ℕ) (old : S) (outcome : Result Reply Ended) (new : S) → IsStatement name line (Insert key text)
-      → Makes steps state (to_commit (one_insert key text)) old outcome new → Executes steps state (whole line) old outcome new
-  inserts key text old outcome new is made = record {
-    calls = record { ask = to_commit (one_insert key text); answer = made.answer } ∷ [];
-    says = inl (makes (Insert key text), column_is (Insert key text) is, (refl, ap ends made.told));
-    follows = (made.may, tt);
-    leaves = made.leaves;
-  }
+searched_reply : (word : Option (List ℕ)) (told : Result Reply Ended) → search_for word ≡ ends told → IsReply told
+searched_reply (Some word) told is = absurd cc
+searched_reply None told is = record { reply = QuerySyntax 1; is = cc }
 
-  -- a search for one word makes its one step
-  finds : (query word : List ℕ) (here : S) (outcome : Result Reply Ended) → IsStatement name line (Match query)
-      → query_word query ≡ Some word → Makes steps state (to_find word) here outcome here → Executes steps state (whole line) here outcome here
-  finds query word here outcome is one made = record {
-    calls = record { ask = to_find word; answer = made.answer } ∷ [];
-    says = inl (makes (Match query), column_is (Match query) is, (ap search_for one, ap ends made.told));
-    follows = (made.may, tt);
-    leaves = made.leaves;
-  }
+match_reply : (named : Bool) (word : Option (List ℕ)) (told : Result Reply Ended) → match_begins named word ≡ ends told → IsReply told
+match_reply false word told is = record { reply = WrongColumns; is = cc }
+match_reply true word told is = searched_reply word told is
 
-  -- a search whose query isn't one word makes no step
-  refuses : (query : List ℕ) (here : S) (outcome : Result Reply Ended) → IsStatement name line (Match query) → steps.stands state here
-      → query_word query ≡ None → outcome ≡ Ok (QuerySyntax 1) → Executes steps state (whole line) here outcome here
-  refuses query here outcome is stands none told = subst (λ (o : Result Reply Ended). Executes steps state (whole line) here o here) (sym told)
-      (record {
-        calls = [];
-        says = inl (makes (Match query), column_is (Match query) is, ap search_for none);
-        follows = tt;
-        leaves = stands;
-      })
+insert_reply : (change : Option Change) (told : Result Reply Ended) → insert_begins change ≡ ends told → IsReply told
+insert_reply None told is = record { reply = WrongColumns; is = cc }
+insert_reply (Some change) told is = absurd cc
 
+known_reply : (unknown : Option Reply) (follows : Next) (told : Result Reply Ended) → ((t : Result Reply Ended) → follows ≡ ends t → IsReply t)
+    → unless_unknown unknown follows ≡ ends told → IsReply told
+known_reply None follows told more is = more told is
+known_reply (Some reply) follows told more is = record { reply = reply; is = cc }
+
+has_reply : (settings : Settings) (statement : Statement) (told : Result Reply Ended) → begins settings statement ≡ ends told → IsReply told
+has_reply settings (Insert table names values) told is =
+    known_reply (unknown_name settings.columns table names) (insert_begins (change_of settings.columns names values)) told (insert_reply (change_of settings.columns names values)) is
+has_reply settings (Match table names query) told is =
+    known_reply (unknown_name settings.columns table names) (match_begins (are_names settings.columns names) (query_word query)) told
+    (match_reply (are_names settings.columns names) (query_word query)) is
+
+module _ {S : Type 0} (steps : Ghosts S) (state : State) (line : List ℕ) where
   -- memory ran out before the first step
-  pub gives_up : (here : S) (outcome : Result Reply Ended) → steps.stands state here → outcome ≡ Err NoMemory → Executes steps state (whole line) here outcome here
-  gives_up here outcome stands told = subst (λ (o : Result Reply Ended). Executes steps state (whole line) here o here) (sym told)
-      (record { calls = []; says = inr (refl, refl); follows = tt; leaves = stands })
+  pub gives_up : (old new : S) (outcome : Result Reply Ended) → steps.stands state old → outcome ≡ Err NoMemory → new ≡ old → Executes steps state (whole line) old outcome new
+  gives_up old new outcome stands told same = subst (λ (o : Result Reply Ended). Executes steps state (whole line) old o new) (sym told)
+      (subst (λ (s : S). Executes steps state (whole line) old (Err NoMemory) s) (sym same)
+      (record { calls = []; says = inr (refl, refl); follows = tt; leaves = stands }))
 
-  -- a line that is no statement makes no step
-  pub unknown_line : (here : S) (at : ℕ) → steps.stands state here → at ≡ 1 → ((statement : Statement) → IsStatement name line statement → ⊥)
-      → Executes steps state (whole line) here (Ok (Syntax at)) here
-  unknown_line here at stands place none = subst (λ (n : ℕ). Executes steps state (whole line) here (Ok (Syntax n)) here) (sym place)
-      (record {
-        calls = [];
-        says = inl (unknown, λ statement is. none statement (subst (λ (names : List (List ℕ)). IsStatement (column_of names) line statement) columns is), refl);
-        follows = tt;
-        leaves = stands;
-      })
+  -- a line that makes no step has its reply
+  pub blank_line : (here : S) → steps.stands state here → IsBlank line → Executes steps state (whole line) here (Ok Nothing) here
+  blank_line here stands is = record { calls = []; says = inl (blank, is, refl); follows = tt; leaves = stands }
 
-  searched : (query : List ℕ) (here : S) (outcome : Result Reply Ended) (word : Option (List ℕ)) → query_word query ≡ word → IsStatement name line (Match query)
-      → steps.stands state here → Searches steps state word here outcome → Executes steps state (whole line) here outcome here
-  searched query here outcome (Some word) one is stands (inl made) = finds query word here outcome is one made
-  searched query here outcome (Some word) one is stands (inr told) = gives_up here outcome stands told
-  searched query here outcome None one is stands (inl told) = refuses query here outcome is stands one told
-  searched query here outcome None one is stands (inr told) = gives_up here outcome stands told
+  pub unknown_line : (here : S) (at : ℕ) → steps.stands state here → IsFaultAt line at → Executes steps state (whole line) here (Ok (Syntax at)) here
+  unknown_line here at stands is = record { calls = []; says = inl (unknown at, is, refl); follows = tt; leaves = stands }
 
-  -- a search makes its step, or has its refusal
-  pub searches : (query : List ℕ) (here : S) (outcome : Result Reply Ended) → IsStatement name line (Match query)
-      → steps.stands state here → Searches steps state (query_word query) here outcome → Executes steps state (whole line) here outcome here
-  searches query here outcome is stands done = searched query here outcome (query_word query) refl is stands done
+  module _ (statement : Statement) (is : IsStatement line statement) where
+    ended : (old new : S) (told outcome : Result Reply Ended) → begins state.settings statement ≡ ends told → IsReply told → steps.stands state old → outcome ≡ told → new ≡ old
+        → Executes steps state (whole line) old outcome new
+    ended old new told outcome e reply stands out same =
+        subst (λ (o : Result Reply Ended). Executes steps state (whole line) old o new) (sym (out ∙ reply.is))
+        (subst (λ (s : S). Executes steps state (whole line) old (Ok reply.reply) s) (sym same)
+        (record { calls = []; says = inl (makes statement, is, e ∙ ap ends reply.is); follows = tt; leaves = stands }))
 
--- the text of an INSERT is one that a log can hold
-pub text_is : (column line : List ℕ) (key : ℕ) (text : List ℕ) → IsStatement column line (Insert key text) → IsText text
-text_is column line key text is = record { fits = is.1; bytes = is.0.1.2.2.2.2.2.2.2.2.2.2.2.2.1.spelled.1 }
+    next_done : (old new : S) (outcome : Result Reply Ended) (next : Next) → begins state.settings statement ≡ next → steps.stands state old → Does steps state next old outcome new
+        → Executes steps state (whole line) old outcome new
+    next_done old new outcome (asks ask) e stands (inl made) = record {
+      calls = record { ask = ask; answer = made.answer } ∷ [];
+      says = inl (makes statement, is, (e, ap ends made.told));
+      follows = (made.may, tt);
+      leaves = made.leaves;
+    }
+    next_done old new outcome (asks ask) e stands (inr gave) = gives_up old new outcome stands gave.0 gave.1
+    next_done old new outcome (ends told) e stands (inl out, same) = ended old new told outcome e (has_reply state.settings statement told e) stands out same
+    next_done old new outcome (ends told) e stands (inr gave, same) = gives_up old new outcome stands gave same
+
+    -- what a statement does is what its line does
+    pub done : (old new : S) (outcome : Result Reply Ended) → steps.stands state old → Does steps state (begins state.settings statement) old outcome new
+        → Executes steps state (whole line) old outcome new
+    done old new outcome stands does = next_done old new outcome (begins state.settings statement) refl stands does
+
+-- what follows the names of an INSERT and of a search
+pub insert_next : (settings here : Settings) (table : List ℕ) (names : List (List ℕ)) (values : List Value) (missing : Option Reply) (change : Option Change) → settings ≡ here
+    → missing ≡ unknown_name here.columns table names → change ≡ change_of here.columns names values
+    → unless_unknown missing (insert_begins change) ≡ begins settings (Insert table names values)
+insert_next settings here table names values missing change same is is' = rw (is, is', same) refl
+
+pub match_next : (settings here : Settings) (table : List ℕ) (names : List (List ℕ)) (query : List ℕ) (missing : Option Reply) (named : Bool) (word : Option (List ℕ)) → settings ≡ here
+    → missing ≡ unknown_name here.columns table names → named ≡ are_names here.columns names → word ≡ query_word query
+    → unless_unknown missing (match_begins named word) ≡ begins settings (Match table names query)
+match_next settings here table names query missing named word same is is' is'' = rw (is, is', is'', same) refl

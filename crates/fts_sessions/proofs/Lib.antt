@@ -1,1 +1,3 @@
+pub mod Naming
 pub mod Executing
+pub mod Values

@@ -1,24 +1,37 @@
-use Rattle.std.specs.Prelude.{◌≡◌, ℕ, List, [], ◌∷◌, ◌++◌, Option, Some, None, Result, Ok, Err}
-use Rattle.fts_commits.specs.Commit.{insert}
+use Rattle.std.specs.Prelude.{◌≡◌, ℕ, Bool, true, false, if◌then◌else◌, codes, List, [], ◌∷◌, ◌++◌, Option, Some, None, Result, Ok, Err}
+use Rattle.std.specs.Str.{str_eq_ignore_ascii_case}
+use Rattle.fts_types.specs.declared.settings.Settings.{Settings}
+use Rattle.fts_commits.specs.Commit.{Refused, duplicate_key, doc_id_order, doc_id_gap, ids_full, text_too_long, rows_full}
+use Rattle.fts_commits.specs.declared.change.Change.{Change}
 use Rattle.fts_commits.specs.Word.{query_word}
 use Rattle.fts_schema.specs.declared.reply.Reply.{Reply}
-use Rattle.fts_schema.specs.declared.reply.Reply.TheVariants.{Committed, Found, DuplicateKey, LogFull, Syntax, QuerySyntax, LineTooLong}
+use Rattle.fts_schema.specs.declared.reply.Reply.TheVariants.{Committed, Found, DuplicateKey, DocIdOrder, DocIdGap, IdsFull, TextTooLong, RowsFull, NoSuchTable, NoSuchColumn, WrongColumns, LogFull, Nothing, Syntax, QuerySyntax, LineTooLong}
 use Rattle.fts_sql.specs.declared.statement.Statement.{Statement}
 use Rattle.fts_sql.specs.declared.statement.Statement.TheVariants.{Insert, Match}
-use Rattle.fts_steps.specs.Step.{Ask, to_commit, to_find, Answer, committed, duplicate, full, found, disk_fault, no_memory, Call}
+use Rattle.fts_steps.specs.Step.{Ask, to_commit, to_find, Answer, committed, refused, full, found, disk_fault, no_memory, Call}
 use Rattle.fts_sessions.specs.declared.ended.Ended.{Ended}
 use Rattle.fts_sessions.specs.declared.ended.Ended.TheVariants.{NoMemory, DiskFault}
-use Rattle.fts_sessions.specs.Request.{Request, makes, unknown, unread}
+use Rattle.fts_sessions.specs.Request.{Request, makes, blank, unknown, unread}
+use Rattle.fts_sessions.specs.Table.{first_unknown, are_names, change_of}
 
 -- what comes next in a statement: one more step, or its end, with a reply or with what ended the run
 pub data Next : Type 0 where
   asks : Ask → Next
   ends : Result Reply Ended → Next
 
+-- the reply that tells why the rows refuse a commit
+abbrev pub refusal_reply : Refused → Reply
+refusal_reply (duplicate_key change key) = DuplicateKey change key
+refusal_reply (doc_id_order given largest) = DocIdOrder given largest
+refusal_reply (doc_id_gap given largest) = DocIdGap given largest
+refusal_reply (ids_full largest) = IdsFull largest
+refusal_reply (text_too_long change long) = TextTooLong change long
+refusal_reply (rows_full rows) = RowsFull rows
+
 -- the reply that tells an answer; a fault or want of memory has none, and ends the run
 abbrev pub reply_to : Answer → Result Reply Ended
 reply_to (committed number) = Ok (Committed number)
-reply_to (duplicate change key) = Ok (DuplicateKey change key)
+reply_to (refused why) = Ok (refusal_reply why)
 reply_to (full end) = Ok (LogFull end)
 reply_to (found number docs) = Ok (Found number docs)
 reply_to disk_fault = Err DiskFault
@@ -29,20 +42,48 @@ abbrev pub search_for : Option (List ℕ) → Next
 search_for (Some word) = asks (to_find word)
 search_for None = ends (Ok (QuerySyntax 1))
 
+-- a table that isn't `docs` is refused first, and then the first name that no column has
+abbrev pub unknown_column : Option (List ℕ) → Option Reply
+unknown_column None = None
+unknown_column (Some name) = Some (NoSuchColumn name)
+
+abbrev pub unknown_name : List (List ℕ) → List ℕ → List (List ℕ) → Option Reply
+unknown_name columns table names =
+    if str_eq_ignore_ascii_case table (codes "docs") then unknown_column (first_unknown columns names)
+    else Some (NoSuchTable table)
+
+-- an INSERT asks for its commit, unless its names or values do not fit
+abbrev pub insert_begins : Option Change → Next
+insert_begins None = ends (Ok WrongColumns)
+insert_begins (Some change) = asks (to_commit (change ∷ []))
+
+-- a search names all text columns, and asks for its word
+abbrev pub match_begins : Bool → Option (List ℕ) → Next
+match_begins false word = ends (Ok WrongColumns)
+match_begins true word = search_for word
+
+-- what follows where all names are known
+abbrev pub unless_unknown : Option Reply → Next → Next
+unless_unknown None follows = follows
+unless_unknown (Some reply) follows = ends (Ok reply)
+
 -- a statement's first step
-abbrev pub begins : Statement → Next
-begins (Insert key text) = asks (to_commit (insert key (text ∷ []) ∷ []))
-begins (Match query) = search_for (query_word query)
+abbrev pub begins : Settings → Statement → Next
+begins settings (Insert table names values) =
+    unless_unknown (unknown_name settings.columns table names) (insert_begins (change_of settings.columns names values))
+begins settings (Match table names query) =
+    unless_unknown (unknown_name settings.columns table names) (match_begins (are_names settings.columns names) (query_word query))
 
 -- what comes next, after the answers so far
-abbrev pub next : Request → List Answer → Next
-next (makes statement) [] = begins statement
-next (makes statement) (answer ∷ answers) = ends (reply_to answer)
-next unknown answers = ends (Ok (Syntax 1))
-next unread answers = ends (Ok LineTooLong)
+abbrev pub next : Settings → Request → List Answer → Next
+next settings (makes statement) [] = begins settings statement
+next settings (makes statement) (answer ∷ answers) = ends (reply_to answer)
+next settings blank answers = ends (Ok Nothing)
+next settings (unknown at) answers = ends (Ok (Syntax at))
+next settings unread answers = ends (Ok LineTooLong)
 
 -- behind these answers the request makes these steps, and then ends so
-abbrev pub Converses : Request → List Answer → List Call → Result Reply Ended → Type 0
-Converses request answers [] outcome = next request answers ≡ ends outcome
-Converses request answers (call ∷ calls) outcome =
-    (next request answers ≡ asks call.ask) × Converses request (answers ++ call.answer ∷ []) calls outcome
+abbrev pub Converses : Settings → Request → List Answer → List Call → Result Reply Ended → Type 0
+Converses settings request answers [] outcome = next settings request answers ≡ ends outcome
+Converses settings request answers (call ∷ calls) outcome =
+    (next settings request answers ≡ asks call.ask) × Converses settings request (answers ++ call.answer ∷ []) calls outcome

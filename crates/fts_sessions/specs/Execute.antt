@@ -1,15 +1,14 @@
-use Rattle.std.specs.Prelude.{◌≡◌, ◌⊎◌, ℕ, List, [], ◌∷◌, Result, Ok, Err, Option, Some, None}
+use Rattle.std.specs.Prelude.{◌≡◌, ◌⊎◌, List, [], ◌∷◌, Result, Ok, Err}
 use Rattle.fts_io.specs.Text.{Line}
-use Rattle.fts_commits.specs.Settings.{Settings}
+use Rattle.fts_types.specs.declared.settings.Settings.{Settings}
 use Rattle.fts_schema.specs.declared.reply.Reply.{Reply}
-use Rattle.fts_schema.specs.declared.reply.Reply.TheVariants.{QuerySyntax}
 use Rattle.fts_steps.specs.State.{State, with_commits}
-use Rattle.fts_steps.specs.Step.{Ask, to_find, Answer, Call, MayAnswer, Follows, after, after_all, in_doubt}
+use Rattle.fts_steps.specs.Step.{Ask, Answer, Call, MayAnswer, Follows, after, after_all, in_doubt}
 use Rattle.fts_sessions.specs.declared.ended.Ended.{Ended}
 use Rattle.fts_sessions.specs.declared.ended.Ended.TheVariants.{NoMemory, DiskFault}
 use Rattle.fts_sessions.specs.declared.steps.EngineSteps.{Ghosts}
 use Rattle.fts_sessions.specs.Request.{Request, IsRequest}
-use Rattle.fts_sessions.specs.Conversation.{Converses, reply_to}
+use Rattle.fts_sessions.specs.Conversation.{Next, asks, ends, Converses, reply_to}
 
 -- what stands after a line: the engine stands for the state; after a disk fault its device reads as the state's
 -- database, or as one that has the commit in doubt too
@@ -21,24 +20,25 @@ Leaves steps (Err DiskFault) state calls new = steps.reads state new ⊎ steps.r
 -- the line's steps and its outcome are those of the request that it is; or memory ran out before the first step
 abbrev pub Says : Settings → Line → List Call → Result Reply Ended → Type 0
 Says settings line calls outcome =
-    ((request : Request) × IsRequest settings line request × Converses request [] calls outcome)
+    ((request : Request) × IsRequest line request × Converses settings request [] calls outcome)
     ⊎ ((calls ≡ []) × (outcome ≡ Err NoMemory))
 
 -- a line is executed: the steps that it made, on the state that it found, with its outcome
 pub record Executes {S : Type 0} (steps : Ghosts S) (state : State) (line : Line) (old : S) (outcome : Result Reply Ended) (new : S) : Type 0 where
   pub calls : List Call
   pub says : Says state.settings line calls outcome
-  pub follows : Follows (steps.limit old) state calls
+  pub follows : Follows (steps.limits old) state calls
   pub leaves : Leaves steps outcome (after_all state calls) calls new
 
 -- one step is made: its answer, and the outcome that tells it
 pub record Makes {S : Type 0} (steps : Ghosts S) (state : State) (ask : Ask) (old : S) (outcome : Result Reply Ended) (new : S) : Type 0 where
   pub answer : Answer
-  pub may : MayAnswer (steps.limit old) state ask answer
+  pub may : MayAnswer (steps.limits old) state ask answer
   pub told : reply_to answer ≡ outcome
   pub leaves : Leaves steps outcome (after state ask answer) (record { ask = ask; answer = answer } ∷ []) new
 
--- a search makes its one step; a query that isn't one word has its refusal, and no step
-abbrev pub Searches : {S : Type 0} → Ghosts S → State → Option (List ℕ) → S → Result Reply Ended → Type 0
-Searches steps state (Some word) here outcome = Makes steps state (to_find word) here outcome here ⊎ (outcome ≡ Err NoMemory)
-Searches steps state None here outcome = (outcome ≡ Ok (QuerySyntax 1)) ⊎ (outcome ≡ Err NoMemory)
+-- a statement is done: it makes its one step, or ends without one; or memory ran out before
+abbrev pub Does : {S : Type 0} → Ghosts S → State → Next → S → Result Reply Ended → S → Type 0
+Does steps state (asks ask) old outcome new =
+    Makes steps state ask old outcome new ⊎ ((outcome ≡ Err NoMemory) × (new ≡ old))
+Does steps state (ends told) old outcome new = ((outcome ≡ told) ⊎ (outcome ≡ Err NoMemory)) × (new ≡ old)

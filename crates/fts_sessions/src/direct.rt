@@ -1,9 +1,11 @@
 ghost use Rattle.std.specs.Prelude.{◌≡◌, ℕ, List};
 
 use crate::EngineSteps;
+use fts_commits::Change;
 use fts_disk::Disk;
 use fts_engine::Engine;
 use fts_steps::{CommitError, View};
+use fts_types::Settings;
 use std::alloc::AllocError;
 
 /// The steps of an engine that one thread owns: each is a call of the engine.
@@ -13,7 +15,7 @@ pub struct Direct<D: Disk> {
 }
 
 impl<D: Disk> EngineSteps for Direct<D> {
-    ghost use Rattle.fts_engine.specs.Stands.{Stands, Reads, engine_limit, engine_faults, Stands-reads};
+    ghost use Rattle.fts_engine.specs.Stands.{Stands, Reads, engine_limits, engine_faults, Stands-reads};
 
     ghost tells = { D.tells };
 
@@ -21,21 +23,21 @@ impl<D: Disk> EngineSteps for Direct<D> {
 
     ghost reads = { λ state steps. Reads state steps.engine };
 
-    ghost limit = { λ steps. engine_limit steps.engine };
+    ghost limits = { λ steps. engine_limits steps.engine };
 
     ghost faults = { λ steps. engine_faults steps.engine };
 
     ghost is_read = { λ steps state stands. Stands-reads state steps.engine stands };
 
-    fn commit(&mut self, key: u64, text: &[u8]) -> Result<u64, CommitError> {
-        self.engine.commit(key, text)
+    fn commit(&mut self, changes: &[Change]) -> Result<u64, CommitError> {
+        self.engine.commit(changes)
     }
 
     fn view(&self, word: &[u8]) -> Result<View, AllocError> {
         self.engine.view(word)
     }
 
-    fn column(&self) -> &[u8] {
-        self.engine.column()
+    fn settings(&self) -> &Settings {
+        self.engine.settings()
     }
 }

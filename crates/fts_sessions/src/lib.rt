@@ -3,6 +3,8 @@
 
 mod direct;
 mod ended;
+mod insert;
+mod names;
 mod session;
 mod steps;
 
@@ -10,3 +12,6 @@ pub use direct::Direct;
 pub use ended::Ended;
 pub use session::Session;
 pub use steps::EngineSteps;
+
+#[cfg(test)]
+mod tests;

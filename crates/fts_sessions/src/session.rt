@@ -1,18 +1,24 @@
-ghost use Rattle.std.specs.Prelude.{◌≡◌, ◌≤◌, IsTrue, Err};
-ghost use Rattle.fts_commits.specs.Word.{query_word};
+ghost use Rattle.std.specs.Prelude.{◌≡◌, ◌≤◌, ℕ, ◌∷◌, [], length, IsTrue, IfOk, Err};
 ghost use Rattle.fts_faults.specs.Count.{Rose};
 ghost use Rattle.fts_io.specs.Text.{whole};
 ghost use Rattle.fts_steps.specs.State.{State};
 ghost use Rattle.fts_steps.specs.Step.{to_commit, to_find};
-ghost use Rattle.fts_rowcodec.specs.Payload.{IsText, one_insert};
-ghost use Rattle.fts_sessions.specs.Execute.{Executes, Makes, Searches};
+ghost use Rattle.fts_commits.specs.Fits.{CanCommit};
+ghost use Rattle.fts_sql.specs.declared.statement.Statement.TheVariants.{Insert, Match};
+ghost use Rattle.fts_sessions.specs.Execute.{Executes, Makes, Does};
+ghost use Rattle.fts_steps.specs.Answers.{commit_answer_of};
+ghost use Rattle.fts_sessions.specs.Texts.{AreFit};
+ghost use Rattle.fts_sessions.specs.Conversation.{begins, reply_to, unknown_name as the_unknown_name};
 
+use crate::insert::change_of;
+use crate::names::{are_text_columns, first_unknown, is_same};
 use crate::{Ended, EngineSteps};
-use fts_commits::query_word;
+use fts_commits::{Change, Text, query_word};
 use fts_io::{Gate, Point};
 use fts_schema::Reply;
-use fts_sql::{ParseError, Statement, parse_statement};
+use fts_sql::{ParseError, Statement, Values, parse_statement};
 use fts_steps::{CommitError, View};
+use fts_types::Names;
 use std::alloc::{AllocError, Global};
 
 /// A session: who sends statements one after another.
@@ -38,7 +44,7 @@ impl Session {
         requires { IsTrue S.tells → (state : State) × S.stands state steps.old }
         ensures executes { IsTrue S.tells → (state : State) → S.stands state steps.old
             → Executes S.EngineSteps state (whole line.now) steps.old result steps.new }
-        ensures limit { S.limit steps.new ≡ S.limit steps.old }
+        ensures limits { S.limits steps.new ≡ S.limits steps.old }
         ensures failed { result ≡ Err Ended.DiskFault → Rose (S.faults steps.old) (S.faults steps.new) }
         ensures never_falls { S.faults steps.old ≤ S.faults steps.new }
     {
@@ -58,57 +64,153 @@ impl Session {
         requires { IsTrue S.tells → (state : State) × S.stands state steps.old }
         ensures executes { IsTrue S.tells → (state : State) → S.stands state steps.old
             → Executes S.EngineSteps state (whole line.now) steps.old result steps.new }
-        ensures limit { S.limit steps.new ≡ S.limit steps.old }
+        ensures limits { S.limits steps.new ≡ S.limits steps.old }
         ensures failed { result ≡ Err Ended.DiskFault → Rose (S.faults steps.old) (S.faults steps.new) }
         ensures never_falls { S.faults steps.old ≤ S.faults steps.new }
     {
-        match parse_statement(self.alloc, steps.column(), line) {
-            Ok(Statement::Insert { key, text }) => insert(steps, key, text.as_slice()),
-            Ok(Statement::Match { query }) => search(
+        match parse_statement(self.alloc, line) {
+            Ok(
+                Some(
+                    Statement::Insert {
+                        table,
+                        columns,
+                        values,
+                    },
+                ),
+            ) => insert(self.alloc, steps, table, &columns, &values),
+            Ok(
+                Some(
+                    Statement::Match {
+                        table,
+                        columns,
+                        query,
+                    },
+                ),
+            ) => search(
                 self.alloc,
                 steps,
                 gate,
                 self.number,
+                table,
+                &columns,
                 query.as_slice(),
             ),
+            Ok(None) => Ok(Reply::Nothing),
             Err(ParseError::Syntax { at }) => Ok(Reply::Syntax { at }),
             Err(ParseError::NoMemory) => Err(Ended::NoMemory),
         }
     }
 }
 
-// The step of an INSERT, and what tells its answer.
-fn insert<S: EngineSteps>(steps: &mut S, key: u64, text: &[u8]) -> Result<Reply, Ended>
-    requires text { IsText text.now }
+// The step of an INSERT, and what tells its answer. One that does not fit the table makes no step.
+fn insert<S: EngineSteps>(
+    alloc: Global,
+    steps: &mut S,
+    table: Text,
+    names: &Names,
+    values: &Values,
+) -> Result<Reply, Ended>
+    requires fit { AreFit values.now }
     requires ready { IsTrue S.tells → (state : State) × S.stands state steps.old }
-    ensures makes { IsTrue S.tells → (state : State) → S.stands state steps.old
-        → Makes S.EngineSteps state (to_commit (one_insert key text.now)) steps.old result steps.new }
-    ensures limit { S.limit steps.new ≡ S.limit steps.old }
+    ensures does { IsTrue S.tells → (state : State) → S.stands state steps.old
+        → Does S.EngineSteps state (begins state.settings (Insert table names.now values.now)) steps.old result steps.new }
+    ensures limits { S.limits steps.new ≡ S.limits steps.old }
     ensures failed { result ≡ Err Ended.DiskFault → Rose (S.faults steps.old) (S.faults steps.new) }
     ensures never_falls { S.faults steps.old ≤ S.faults steps.new }
 {
-    match steps.commit(key, text) {
-        Ok(number) => Ok(Reply::Committed { number }),
-        Err(CommitError::DuplicateKey { change, key }) => Ok(Reply::DuplicateKey { change, key }),
-        Err(CommitError::LogFull { end }) => Ok(Reply::LogFull { end }),
-        Err(CommitError::NoMemory) => Err(Ended::NoMemory),
-        Err(CommitError::DiskFault) => Err(Ended::DiskFault),
+    let columns = &steps.settings().columns;
+    match unknown_name(alloc, columns, table, names) {
+        Ok(None) => {}
+        Ok(Some(reply)) => return Ok(reply),
+        Err(AllocError) => return Err(Ended::NoMemory),
+    }
+    match change_of(alloc, columns, names, values) {
+        Ok(Some(change)) => commit(steps, change),
+        Ok(None) => Ok(Reply::WrongColumns),
+        Err(AllocError) => Err(Ended::NoMemory),
     }
 }
 
-// The step of a search, and what tells its answer; a query that isn't one word makes no step.
+// The step of a commit of one change, and what tells its answer.
+fn commit<S: EngineSteps>(steps: &mut S, change: Change) -> Result<Reply, Ended>
+    requires commit { (columns : ℕ) × CanCommit columns (change ∷ []) }
+    requires ready { IsTrue S.tells → (state : State) × S.stands state steps.old × CanCommit (length state.settings.columns) (change ∷ []) }
+    ensures makes { IsTrue S.tells → (state : State) → S.stands state steps.old → CanCommit (length state.settings.columns) (change ∷ [])
+        → Makes S.EngineSteps state (to_commit (change ∷ [])) steps.old result steps.new }
+    ensures limits { S.limits steps.new ≡ S.limits steps.old }
+    ensures failed { result ≡ Err Ended.DiskFault → Rose (S.faults steps.old) (S.faults steps.new) }
+    ensures never_falls { S.faults steps.old ≤ S.faults steps.new }
+{
+    match steps.commit(&[change]) {
+        Ok(number) => Ok(Reply::Committed { number }),
+        Err(error) => told(error),
+    }
+}
+
+// What tells the refusal of a commit.
+fn told(error: CommitError) -> Result<Reply, Ended>
+    ensures reply { reply_to (commit_answer_of (Err error)) ≡ result }
+    ensures failed { result ≡ Err Ended.DiskFault → error ≡ CommitError.DiskFault }
+{
+    match error {
+        CommitError::DuplicateKey { change, key } => Ok(Reply::DuplicateKey { change, key }),
+        CommitError::DocIdOrder { given, largest } => Ok(Reply::DocIdOrder { given, largest }),
+        CommitError::DocIdGap { given, largest } => Ok(Reply::DocIdGap { given, largest }),
+        CommitError::IdsFull { largest } => Ok(Reply::IdsFull { largest }),
+        CommitError::TextTooLong { change, length } => Ok(Reply::TextTooLong { change, length }),
+        CommitError::RowsFull { rows } => Ok(Reply::RowsFull { rows }),
+        CommitError::LogFull { end } => Ok(Reply::LogFull { end }),
+        CommitError::NoMemory => Err(Ended::NoMemory),
+        CommitError::DiskFault => Err(Ended::DiskFault),
+    }
+}
+
+// The refusal of a statement whose table or a column is not there.
+fn unknown_name(
+    alloc: Global,
+    columns: &Names,
+    table: Text,
+    names: &Names,
+) -> Result<Option<Reply>, AllocError>
+    ensures { IfOk result (λ reply. reply ≡ the_unknown_name columns.now table names.now) }
+{
+    if !is_same(table.as_slice(), b"docs") {
+        return Ok(Some(Reply::NoSuchTable { name: table }));
+    }
+    match first_unknown(columns, names) {
+        None => Ok(None),
+        Some(place) => {
+            let name = Text::new(Vec::from_slice(alloc, names.text(place))?);
+            Ok(Some(Reply::NoSuchColumn { name }))
+        }
+    }
+}
+
+// The step of a search, and what tells its answer. One that does not fit the table, or whose query isn't one word, makes
+// no step.
 fn search<S: EngineSteps, G: Gate>(
     alloc: Global,
     steps: &S,
     gate: &G,
     number: u32,
+    table: Text,
+    names: &Names,
     query: &[u8],
 ) -> Result<Reply, Ended>
     requires ready { IsTrue S.tells → (state : State) × S.stands state steps.now }
-    ensures searches { IsTrue S.tells → (state : State) → S.stands state steps.now
-        → Searches S.EngineSteps state (query_word query.now) steps.now result }
+    ensures does { IsTrue S.tells → (state : State) → S.stands state steps.now
+        → Does S.EngineSteps state (begins state.settings (Match table names.now query.now)) steps.now result steps.now }
     ensures failed { result ≡ Err Ended.DiskFault → ⊥ }
 {
+    let columns = &steps.settings().columns;
+    match unknown_name(alloc, columns, table, names) {
+        Ok(None) => {}
+        Ok(Some(reply)) => return Ok(reply),
+        Err(AllocError) => return Err(Ended::NoMemory),
+    }
+    if !are_text_columns(columns, names) {
+        return Ok(Reply::WrongColumns);
+    }
     match query_word(alloc, query) {
         Ok(Some(word)) => look_for(steps, gate, number, word.as_slice()),
         Ok(None) => Ok(Reply::QuerySyntax { at: 1 }),

@@ -1,11 +1,14 @@
 ghost use Rattle.std.specs.Prelude.{◌≡◌, ℕ, ◌≤◌, Bool, List, [], ◌∷◌, ◌⊎◌, false, IsTrue, IsErrOf, Ok, length};
 ghost use Rattle.fts_faults.specs.Count.{Rose};
-ghost use Rattle.fts_rowcodec.specs.Payload.{IsText, one_insert};
+ghost use Rattle.fts_types.specs.declared.limits.Limits.{Limits};
+ghost use Rattle.fts_commits.specs.Fits.{CanCommit};
 ghost use Rattle.fts_steps.specs.State.{State, with_commits};
 ghost use Rattle.fts_steps.specs.Step.{to_commit, to_find, after, MayAnswer, is_disk_fault};
 ghost use Rattle.fts_steps.specs.Answers.{commit_answer_of, view_answer_of};
 
+use fts_commits::Change;
 use fts_steps::{CommitError, View};
+use fts_types::Settings;
 use std::alloc::AllocError;
 
 /// The steps of an engine, each at once. A contract sees the engine as the state that it stands for.
@@ -19,34 +22,37 @@ pub trait EngineSteps {
     /// Its device reads as the state's database.
     ghost reads: { State → Self → Type 0 };
 
-    /// The largest end of the rows log.
-    ghost limit: { Self → ℕ };
+    /// The limits of its commits.
+    ghost limits: { Self → Limits };
 
     /// How many faults of the device there were.
     ghost faults: { Self → ℕ };
 
-    /// Makes a commit of one INSERT, and returns its number, from 1.
-    fn commit(&mut self, key: u64, text: &[u8]) -> Result<u64, CommitError>
-        requires text { IsText text.now }
-        requires ready { IsTrue tells → (state : State) × stands state self.old }
-        ensures answers { IsTrue tells → (state : State) → stands state self.old
-            → MayAnswer (limit self.old) state (to_commit (one_insert key text.now)) (commit_answer_of result) }
-        ensures stands { IsTrue tells → (state : State) → stands state self.old → is_disk_fault (commit_answer_of result) ≡ false
-            → stands (after state (to_commit (one_insert key text.now)) (commit_answer_of result)) self.new }
-        ensures doubt { IsTrue tells → (state : State) → stands state self.old → IsErrOf result CommitError.DiskFault
-            → reads state self.new ⊎ reads (with_commits state ((one_insert key text.now) ∷ [])) self.new }
-        ensures limit { limit self.new ≡ limit self.old }
+    /// Makes a commit of these changes, and returns its number, from 1.
+    fn commit(&mut self, changes: &[Change]) -> Result<u64, CommitError>
+        requires commit { (columns : ℕ) × CanCommit columns changes.now }
+        requires ready { IsTrue tells → (state : State) × stands state self.old × CanCommit (length state.settings.columns) changes.now }
+        ensures answers { IsTrue tells → (state : State) → stands state self.old → CanCommit (length state.settings.columns) changes.now
+            → MayAnswer (limits self.old) state (to_commit changes.now) (commit_answer_of result) }
+        ensures stands { IsTrue tells → (state : State) → stands state self.old → CanCommit (length state.settings.columns) changes.now
+            → is_disk_fault (commit_answer_of result) ≡ false
+            → stands (after state (to_commit changes.now) (commit_answer_of result)) self.new }
+        ensures doubt { IsTrue tells → (state : State) → stands state self.old → CanCommit (length state.settings.columns) changes.now
+            → IsErrOf result CommitError.DiskFault
+            → reads state self.new ⊎ reads (with_commits state (changes.now ∷ [])) self.new }
+        ensures limits { limits self.new ≡ limits self.old }
         ensures failed { IsErrOf result CommitError.DiskFault → Rose (faults self.old) (faults self.new) }
         ensures never_falls { faults self.old ≤ faults self.new };
 
     /// Looks for the rows that have the word.
     fn view(&self, word: &[u8]) -> Result<View, AllocError>
         ensures { IsTrue tells → (state : State) → stands state self.now
-            → MayAnswer (limit self.now) state (to_find word.now) (view_answer_of result) };
+            → MayAnswer (limits self.now) state (to_find word.now) (view_answer_of result) };
 
-    /// The name of the text column.
-    fn column(&self) -> &[u8]
-        ensures { IsTrue tells → (state : State) → stands state self.now → state.settings.columns ≡ result.now ∷ [] };
+    /// The settings with which the database was created.
+    fn settings(&self) -> &Settings
+        ensures few { length result.now.columns ≤ 8 }
+        ensures settings { IsTrue tells → (state : State) → stands state self.now → state.settings ≡ result.now };
 
     ghost is_read: { (steps : Self) (state : State) → stands state steps → reads state steps };
 }

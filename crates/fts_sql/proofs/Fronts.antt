@@ -1,7 +1,6 @@
-use Rattle.std.proofs.Common.{◌≡◌, ℕ, ◌<◌, Bool, true, false, List, [], ◌∷◌, ◌++◌, length, drop, get_or, refl, sym, ap, ◌∙◌}
+use Rattle.std.proofs.Common.{◌≡◌, ℕ, Bool, true, false, List, [], ◌∷◌, ◌++◌, refl, sym, ap, ◌∙◌}
 use Rattle.std.specs.List.{list_all}
 use Rattle.std.proofs.lemmas.Bool.{and_parts, both_ways}
-use Rattle.std.proofs.lemmas.List.{drop_more}
 use Rattle.fts_sql.specs.Token.{begins_with, IsFront}
 
 -- two cuts of one list at the first byte that fails a test are the same
@@ -23,9 +22,3 @@ same_cut p (x ∷ a) b (y ∷ c) d pa nb pc nd e =
 pub one_front : (p : ℕ → Bool) (bytes a b c d : List ℕ)
     → IsFront p bytes a b → bytes ≡ c ++ d → list_all p c ≡ true → begins_with p d ≡ false → (a ≡ c) × (b ≡ d)
 one_front p bytes a b c d front e pc nd = same_cut p a b c d front.passes front.ends pc nd (sym front.cut ∙ e)
-
--- what begins behind a place is the byte there
-pub begins_with-drop : (p : ℕ → Bool) (bytes : List ℕ) (i : ℕ) → i < length bytes → p (get_or bytes i 0) ≡ false
-    → begins_with p (drop i bytes) ≡ false
-begins_with-drop p bytes i within fails =
-    ap (begins_with p) (drop_more bytes i 0 within) ∙ fails

@@ -1,10 +1,10 @@
-use Rattle.std.proofs.Common.{◌≡◌, ℕ, ◌==◌, true, false, ◌&&◌, List, [], ◌∷◌, ◌++◌, refl, sym, ap, ◌∙◌, subst, ◌⊎◌, inl, inr}
+use Rattle.std.proofs.Common.{◌≡◌, ℕ, ◌==◌, true, false, List, [], ◌∷◌, ◌++◌, refl, sym, ap, ◌∙◌, subst, ◌⊎◌, inl, inr}
 use Rattle.std.specs.List.{list_all}
-use Rattle.std.proofs.lemmas.Bool.{and_parts, both_ways, cases_Bool, eqb-true, eqb-false, cond-false}
-use Rattle.std.proofs.lemmas.List.{append-nil, append_assoc}
-use Rattle.std.proofs.lemmas.List.Folds.{list_all-append}
-use Rattle.fts_commits.specs.Settings.{is_text_byte}
-use Rattle.fts_sql.specs.Token.{begins_with, quoted, IsQuoted}
+use Rattle.std.proofs.lemmas.Bool.{and_parts, both_ways, cases_Bool, eqb-true, eqb-false, ne_eqb, cond-false}
+use Rattle.std.proofs.lemmas.List.{append_assoc}
+use Rattle.fts_commits.specs.Text.{is_text_byte}
+use Rattle.fts_sql.specs.Token.{begins_with, quoted}
+use Rattle.fts_sql.specs.Reading.{goes_on_text, unquoted}
 
 -- how one byte of a text is written: an apostrophe twice, another byte once
 written : (b : ℕ) (bs : List ℕ)
@@ -14,10 +14,6 @@ written b bs =
       | inl yes_it_is ↦ (let is : b ≡ 39 = eqb-true b 39 yes_it_is in inl (is, subst (λ (c : ℕ). quoted (c ∷ bs) ≡ 39 ∷ 39 ∷ quoted bs) (sym is) refl))
       | inr it_is_not ↦ inr (eqb-false b 39 it_is_not, cond-false (b == 39) (39 ∷ 39 ∷ quoted bs) (b ∷ quoted bs) it_is_not)
     ]
-
--- an apostrophe behind the closing one would belong to the string
-open_end : (rest after : List ℕ) → begins_with (λ b. b == 39) rest ≡ false → rest ≡ 39 ∷ after → ⊥
-open_end rest after ends e = both_ways true (sym (ap (begins_with (λ b. b == 39)) e) ∙ ends) refl
 
 pub quoted-append : (xs ys : List ℕ) → quoted (xs ++ ys) ≡ quoted xs ++ quoted ys
 quoted-append [] ys = refl
@@ -34,71 +30,52 @@ quoted-append (b ∷ xs) ys =
       ])
     ]
 
--- what is written of a text so far is the front of the text of any string that the bytes are
-pub quoted_front : (text rest whole after : List ℕ) → begins_with (λ b. b == 39) after ≡ false
-    → quoted text ++ rest ≡ quoted whole ++ 39 ∷ after
-    → (more : List ℕ) × (whole ≡ text ++ more) × (rest ≡ quoted more ++ 39 ∷ after)
-quoted_front [] rest whole after ends e = (whole, refl, e)
-quoted_front (b ∷ text) rest [] after ends e =
+-- a text goes on where one more of its bytes is written
+pub goes_on_quoted : (b : ℕ) (text rest : List ℕ) → is_text_byte b ≡ true → goes_on_text (quoted (b ∷ text) ++ rest) ≡ true
+goes_on_quoted b text rest printable =
     elim (written b text) [
-      | inl (_, here) ↦ absurd (open_end after (quoted text ++ rest) ends (let f : 39 ∷ 39 ∷ (quoted text ++ rest) ≡ 39 ∷ after = sym (ap (λ s. s ++ rest) here) ∙ e in cc))
-      | inr (isnt, here) ↦ absurd (isnt (let f : b ∷ (quoted text ++ rest) ≡ 39 ∷ after = sym (ap (λ s. s ++ rest) here) ∙ e in cc))
+      | inl (_, here) ↦ ap (λ s. goes_on_text (s ++ rest)) here
+      | inr (isnt, here) ↦ ap (λ s. goes_on_text (s ++ rest)) here
+          ∙ cond-false (b == 39) (begins_with (λ c. c == 39) (quoted text ++ rest)) (is_text_byte b) (ne_eqb b 39 isnt) ∙ printable
     ]
-quoted_front (b ∷ text) rest (c ∷ whole) after ends e =
+
+-- what a text is written as, as wide as it goes, and what follows it are determined
+pub one_text : (text rest other after : List ℕ) → goes_on_text rest ≡ false → goes_on_text after ≡ false
+    → list_all is_text_byte text ≡ true → list_all is_text_byte other ≡ true
+    → quoted text ++ rest ≡ quoted other ++ after → (text ≡ other) × (rest ≡ after)
+one_text [] rest [] after stops ends printable all e = (refl, e)
+one_text [] rest (c ∷ other) after stops ends printable all e =
+    absurd (both_ways (goes_on_text rest) stops
+    (ap goes_on_text e ∙ goes_on_quoted c other after (and_parts (is_text_byte c) (list_all is_text_byte other) all).0))
+one_text (b ∷ text) rest [] after stops ends printable all e =
+    absurd (both_ways (goes_on_text after) ends
+    (sym (ap goes_on_text e) ∙ goes_on_quoted b text rest (and_parts (is_text_byte b) (list_all is_text_byte text) printable).0))
+one_text (b ∷ text) rest (c ∷ other) after stops ends printable all e =
+    let p = (and_parts (is_text_byte b) (list_all is_text_byte text) printable).1 in
+    let a = (and_parts (is_text_byte c) (list_all is_text_byte other) all).1 in
     elim (written b text) [
-      | inl (is, here) ↦ (elim (written c whole) [
+      | inl (is, here) ↦ (elim (written c other) [
         | inl (is2, there) ↦ (
-            let f : 39 ∷ 39 ∷ (quoted text ++ rest) ≡ 39 ∷ 39 ∷ (quoted whole ++ 39 ∷ after) =
-            sym (ap (λ s. s ++ rest) here) ∙ e ∙ ap (λ s. s ++ 39 ∷ after) there in
-            let found = quoted_front text rest whole after ends cc in
-            (found.0, cc (is, is2, found.1), found.2))
+            let f : 39 ∷ 39 ∷ (quoted text ++ rest) ≡ 39 ∷ 39 ∷ (quoted other ++ after) =
+            sym (ap (λ s. s ++ rest) here) ∙ e ∙ ap (λ s. s ++ after) there in
+            let found = one_text text rest other after stops ends p a cc in
+            (cc (is, is2, found.0), found.1))
         | inr (isnt, there) ↦ absurd (isnt (
-            let f : 39 ∷ 39 ∷ (quoted text ++ rest) ≡ c ∷ (quoted whole ++ 39 ∷ after) =
-            sym (ap (λ s. s ++ rest) here) ∙ e ∙ ap (λ s. s ++ 39 ∷ after) there in
+            let f : 39 ∷ 39 ∷ (quoted text ++ rest) ≡ c ∷ (quoted other ++ after) =
+            sym (ap (λ s. s ++ rest) here) ∙ e ∙ ap (λ s. s ++ after) there in
             cc))
       ])
-      | inr (isnt, here) ↦ (elim (written c whole) [
+      | inr (isnt, here) ↦ (elim (written c other) [
         | inl (_, there) ↦ absurd (isnt (
-            let f : b ∷ (quoted text ++ rest) ≡ 39 ∷ 39 ∷ (quoted whole ++ 39 ∷ after) =
-            sym (ap (λ s. s ++ rest) here) ∙ e ∙ ap (λ s. s ++ 39 ∷ after) there in
+            let f : b ∷ (quoted text ++ rest) ≡ 39 ∷ 39 ∷ (quoted other ++ after) =
+            sym (ap (λ s. s ++ rest) here) ∙ e ∙ ap (λ s. s ++ after) there in
             cc))
         | inr (_, there) ↦ (
-            let f : b ∷ (quoted text ++ rest) ≡ c ∷ (quoted whole ++ 39 ∷ after) =
-            sym (ap (λ s. s ++ rest) here) ∙ e ∙ ap (λ s. s ++ 39 ∷ after) there in
-            let found = quoted_front text rest whole after ends cc in
-            (found.0, (let same : b ≡ c = cc in cc (same, found.1)), found.2))
+            let f : b ∷ (quoted text ++ rest) ≡ c ∷ (quoted other ++ after) =
+            sym (ap (λ s. s ++ rest) here) ∙ e ∙ ap (λ s. s ++ after) there in
+            let found = one_text text rest other after stops ends p a cc in
+            ((let same : b ≡ c = cc in cc (same, found.0)), found.1))
       ])
-    ]
-
--- behind the closing apostrophe no more of a text follows
-closed : (text rest more after : List ℕ) → begins_with (λ b. b == 39) rest ≡ false
-    → 39 ∷ rest ≡ quoted more ++ 39 ∷ after → (text ≡ text ++ more) × (rest ≡ after)
-closed text rest [] after unclosed e = (sym (append-nil text), cc)
-closed text rest (b ∷ more) after unclosed e =
-    elim (written b more) [
-      | inl (_, here) ↦ (
-          let f : 39 ∷ rest ≡ 39 ∷ 39 ∷ (quoted more ++ 39 ∷ after) = e ∙ ap (λ s. s ++ 39 ∷ after) here in
-          absurd (open_end rest (quoted more ++ 39 ∷ after) unclosed cc))
-      | inr (isnt, here) ↦ (
-          let f : 39 ∷ rest ≡ b ∷ (quoted more ++ 39 ∷ after) = e ∙ ap (λ s. s ++ 39 ∷ after) here in
-          absurd (isnt cc))
-    ]
-
--- a string's text and what follows it are determined
-pub same_quoted : (text rest whole after : List ℕ) → begins_with (λ b. b == 39) rest ≡ false → begins_with (λ b. b == 39) after ≡ false
-    → quoted text ++ 39 ∷ rest ≡ quoted whole ++ 39 ∷ after → (text ≡ whole) × (rest ≡ after)
-same_quoted text rest whole after unclosed ends e =
-    let found = quoted_front text (39 ∷ rest) whole after ends e in
-    let end = closed text rest found.0 after unclosed found.2 in
-    (end.0 ∙ sym found.1, end.1)
-
--- what follows the opening apostrophe of a string begins with a byte of its text or with the closing apostrophe
-pub quoted_begins : (text after : List ℕ) → list_all is_text_byte text ≡ true → begins_with is_text_byte (quoted text ++ 39 ∷ after) ≡ true
-quoted_begins [] after printable = refl
-quoted_begins (b ∷ text) after printable =
-    elim (written b text) [
-      | inl (_, here) ↦ ap (λ s. begins_with is_text_byte (s ++ 39 ∷ after)) here
-      | inr (_, here) ↦ ap (λ s. begins_with is_text_byte (s ++ 39 ∷ after)) here ∙ (and_parts (is_text_byte b) (list_all is_text_byte text) printable).0
     ]
 
 -- one byte more of a text
@@ -108,13 +85,16 @@ quoted_more bytes text rest after b cut piece =
     cut ∙ ap (λ s. quoted text ++ s) piece ∙ sym (append_assoc (quoted text) (quoted (b ∷ [])) after)
     ∙ ap (λ s. s ++ after) (sym (quoted-append text (b ∷ [])))
 
--- where no string can go on, the bytes so far begin none
-pub none_here : (bytes text rest whole after : List ℕ) → bytes ≡ quoted text ++ rest → begins_with is_text_byte rest ≡ false
-    → IsQuoted bytes whole after → ⊥
-none_here bytes text rest whole after cut fault is =
-    let found = quoted_front text rest whole after is.ends (sym cut ∙ is.cut) in
-    let all : (list_all is_text_byte text && list_all is_text_byte found.0) ≡ true =
-    sym (list_all-append is_text_byte text found.0) ∙ sym (ap (list_all is_text_byte) found.1) ∙ is.printable in
-    both_ways (begins_with is_text_byte rest) fault
-    (ap (begins_with is_text_byte) found.2
-    ∙ quoted_begins found.0 after (and_parts (list_all is_text_byte text) (list_all is_text_byte found.0) all).1)
+unquoted_plain : (b : ℕ) (bs : List ℕ) → ((b ≡ 39) → ⊥) → unquoted (b ∷ bs) ≡ b ∷ unquoted bs
+unquoted_plain b [] isnt = refl
+unquoted_plain b (c ∷ bs) isnt = cond-false (b == 39) (39 ∷ unquoted bs) (b ∷ unquoted (c ∷ bs)) (ne_eqb b 39 isnt)
+
+-- a text is what it is written as, without the doubled apostrophes
+pub unquoted-quoted : (text : List ℕ) → unquoted (quoted text) ≡ text
+unquoted-quoted [] = refl
+unquoted-quoted (b ∷ text) =
+    let more = unquoted-quoted text in
+    elim (written b text) [
+      | inl (is, here) ↦ ap unquoted here ∙ ap (λ s. 39 ∷ s) more ∙ ap (λ c. c ∷ text) (sym is)
+      | inr (isnt, here) ↦ ap unquoted here ∙ unquoted_plain b (quoted text) isnt ∙ ap (λ s. b ∷ s) more
+    ]

@@ -1,5 +1,8 @@
 pub mod Token
-pub mod Fixed
-pub mod Piece
+pub mod Line
 pub mod Statement
+pub mod Fault
+pub mod Reading
+pub mod Grammar
+pub mod Reader
 pub mod ParseError

@@ -1,10 +1,9 @@
 use Rattle.std.specs.Prelude.{◌≡◌, ℕ, ◌^◌, ◌<◌, Bool, ◌==◌, ◌||◌, true, false, if◌then◌else◌, List, [], ◌∷◌, ◌++◌, length, codes}
 use Rattle.std.specs.List.{list_all, list_any}
 use Rattle.std.specs.Char.{is_ascii_digit}
-use Rattle.std.specs.Str.{str_to_ascii_lowercase}
 use Rattle.std.specs.Str.Parse.{digits_value}
 use Rattle.fts_commits.specs.Word.{is_word_byte}
-use Rattle.fts_commits.specs.Settings.{is_text_byte}
+use Rattle.fts_commits.specs.Text.{is_text_byte}
 
 -- white space: space, tab and CR
 abbrev pub is_blank : ℕ → Bool
@@ -14,7 +13,7 @@ is_blank b = (b == 32) || (b == 9) || (b == 13)
 abbrev pub is_mark : ℕ → Bool
 is_mark b = list_any (λ mark. mark == b) (codes "(),;=*.:")
 
--- what a line is made of: a name in lower case, a number, the text of a string, or one byte
+-- what a line is made of: a name as written (a keyword is one too), a number, the text of a string, or one byte
 pub data Token : Type 0 where
   name : List ℕ → Token
   number : ℕ → Token
@@ -37,12 +36,11 @@ pub record IsFront (test : ℕ → Bool) (bytes front rest : List ℕ) : Type 0 
   pub passes : list_all test front ≡ true
   pub ends : begins_with test rest ≡ false
 
--- the bytes write the token: a name in any case, its first byte no digit; a number below 2 ^ 64 in decimal digits;
--- a string of printable bytes and tabs between apostrophes
+-- the bytes write the token: a name, its first byte no digit; a number below 2 ^ 64 in decimal digits; a string of printable
+-- bytes and tabs between apostrophes
 abbrev pub IsSpelling : Token → List ℕ → Type 0
 IsSpelling (name word) bytes =
-    (0 < length bytes) × (list_all is_word_byte bytes ≡ true) × (begins_with is_ascii_digit bytes ≡ false)
-    × (str_to_ascii_lowercase bytes ≡ word)
+    (0 < length bytes) × (list_all is_word_byte bytes ≡ true) × (begins_with is_ascii_digit bytes ≡ false) × (bytes ≡ word)
 IsSpelling (number n) bytes =
     (0 < length bytes) × (list_all is_ascii_digit bytes ≡ true) × (digits_value 10 bytes ≡ n) × (n < 2 ^ 64)
 IsSpelling (string text) bytes = (bytes ≡ 39 ∷ (quoted text ++ 39 ∷ [])) × (list_all is_text_byte text ≡ true)
@@ -55,26 +53,8 @@ goes_on (number n) b = is_ascii_digit b
 goes_on (string text) b = b == 39
 goes_on (mark c) b = false
 
--- behind blanks the bytes begin with the token, as wide as it goes, and the rest follows
-pub record Begins (token : Token) (bytes rest : List ℕ) : Type 0 where
-  pub blanks : List ℕ
-  pub spelling : List ℕ
-  pub cut : bytes ≡ blanks ++ (spelling ++ rest)
-  pub blank : list_all is_blank blanks ≡ true
+-- the bytes begin with the spelling of the token, as wide as it goes, and the rest follows
+pub record IsToken (token : Token) (bytes spelling rest : List ℕ) : Type 0 where
+  pub cut : bytes ≡ spelling ++ rest
   pub spelled : IsSpelling token spelling
   pub ends : begins_with (goes_on token) rest ≡ false
-
--- behind the opening apostrophe of a string stand its text and the closing apostrophe, and the rest follows
-pub record IsQuoted (bytes text rest : List ℕ) : Type 0 where
-  pub cut : bytes ≡ quoted text ++ 39 ∷ rest
-  pub printable : list_all is_text_byte text ≡ true
-  pub ends : begins_with (λ b. b == 39) rest ≡ false
-
--- the bytes begin with the tokens, one after another, and the rest follows
-abbrev pub BeginsAll : List Token → List ℕ → List ℕ → Type 0
-BeginsAll [] bytes rest = bytes ≡ rest
-BeginsAll (token ∷ tokens) bytes rest = (middle : List ℕ) × Begins token bytes middle × BeginsAll tokens middle rest
-
--- the bytes are the tokens, blanks between them and at the ends, and nothing else
-abbrev pub Reads : List Token → List ℕ → Type 0
-Reads tokens bytes = (rest : List ℕ) × BeginsAll tokens bytes rest × (list_all is_blank rest ≡ true)

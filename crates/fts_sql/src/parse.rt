@@ -1,94 +1,85 @@
-ghost use Rattle.std.specs.Prelude.{◌≡◌, ◌⊎◌, ℕ, List, IfOk, Ok, Err};
+ghost use Rattle.std.specs.Prelude.{◌≡◌, ◌⊎◌, ◌↔◌, ℕ, List, Ok, Err, Some, None, IsTrue, IfOk, map};
 ghost use Rattle.fts_sql.specs.declared.statement.Statement.{Statement};
+ghost use Rattle.fts_sql.specs.Line.{IsBlank};
 ghost use Rattle.fts_sql.specs.Statement.{IsStatement};
+ghost use Rattle.fts_sql.specs.Reading.{placed_of, ending_of};
+ghost use Rattle.fts_sql.specs.Fault.{IsFaultAt};
+ghost use Rattle.fts_sql.specs.Reader.{Says, SaysIn, is_comment};
 
+use crate::line::{Ending, Placed, read_line};
+use crate::place::fault_place;
+use crate::reader::read_statement;
+use crate::run::skip_blanks;
 use crate::statement::{ParseError, Statement};
-use crate::string::read_string;
-use crate::token::{Fixed, is_fixed, read_fixed, read_number};
-use std::alloc::Global;
+use std::alloc::{AllocError, Global};
 
-/// How many bytes a text that is inserted may have.
-const TEXT_BYTES: usize = 65_535;
-
-const NO_STATEMENT: ParseError = ParseError::Syntax { at: 1 };
-
-/// The statement that a line says, of a database whose one text column has the name `column`, in lower case.
+/// The statement that a line says, or `None` where the line is blank or a comment.
 ///
-/// A line that is no statement is answered `Syntax` at 1.
-pub fn parse_statement(alloc: Global, column: &[u8], line: &[u8]) -> Result<Statement, ParseError>
-    ensures statement { IfOk result (λ statement. IsStatement column.now line.now statement) }
-    ensures exact { (statement : Statement) → IsStatement column.now line.now statement → (result ≡ Ok statement) ⊎ (result ≡ Err ParseError.NoMemory) }
-    ensures place { (at : ℕ) → result ≡ Err (ParseError.Syntax at) → at ≡ 1 }
+/// A line that is neither is answered `Syntax` at its fault; `docs/LANGUAGE.md` says where that lies.
+pub fn parse_statement(alloc: Global, line: &[u8]) -> Result<Option<Statement>, ParseError>
+    ensures blank { (result ≡ Ok None) ↔ IsBlank line.now }
+    ensures statement { (statement : Statement) → result ≡ Ok (Some statement) → IsStatement line.now statement }
+    ensures exact { (statement : Statement) → IsStatement line.now statement → (result ≡ Ok (Some statement)) ⊎ (result ≡ Err ParseError.NoMemory) }
+    ensures fault { (at : ℕ) → result ≡ Err (ParseError.Syntax at) → IsFaultAt line.now at }
+    ensures exact_fault { (at : ℕ) → IsFaultAt line.now at → (result ≡ Err (ParseError.Syntax at)) ⊎ (result ≡ Err ParseError.NoMemory) }
 {
-    match parse_insert(alloc, column, line) {
-        Ok(statement) => Ok(statement),
-        Err(ParseError::NoMemory) => Err(ParseError::NoMemory),
-        Err(ParseError::Syntax { .. }) => parse_match(alloc, column, line),
+    if is_blank(line) {
+        return Ok(None);
+    }
+    match read(alloc, line) {
+        Ok(Said::Statement(statement)) => Ok(Some(statement)),
+        Ok(Said::Fault(at)) => Err(ParseError::Syntax { at }),
+        Err(_) => Err(ParseError::NoMemory),
     }
 }
 
-/// A line says at most one statement.
-pub fn one_statement()
-    ensures { (column line : List ℕ) (one other : Statement) → IsStatement column line one → IsStatement column line other → one ≡ other }
-{}
-
-fn parse_insert(alloc: Global, column: &[u8], line: &[u8]) -> Result<Statement, ParseError>
-    ensures statement { IfOk result (λ statement. IsStatement column.now line.now statement) }
-    ensures exact { (key : ℕ) (text : List ℕ) → IsStatement column.now line.now (Statement.Insert key text) → (result ≡ Ok (Statement.Insert key text)) ⊎ (result ≡ Err ParseError.NoMemory) }
-    ensures place { (at : ℕ) → result ≡ Err (ParseError.Syntax at) → at ≡ 1 }
+/// Whether the line is white space alone, or a comment.
+fn is_blank(line: &[u8]) -> bool
+    ensures { IsTrue result ↔ IsBlank line.now }
 {
-    use Fixed::{Close, Comma, Name, Open};
-    let head = [
-        Name(b"insert"),
-        Name(b"into"),
-        Name(b"docs"),
-        Open,
-        Name(b"id"),
-        Comma,
-        Name(column),
-        Close,
-        Name(b"values"),
-        Open,
-    ];
-    let rest = read_fixed(&head, line).ok_or(NO_STATEMENT)?;
-    let (key, rest) = read_number(rest).ok_or(NO_STATEMENT)?;
-    let rest = read_fixed(&[Comma], rest).ok_or(NO_STATEMENT)?;
-    let (text, rest) = read_string(alloc, rest)?;
-    if text.len() > TEXT_BYTES {
-        return Err(NO_STATEMENT);
+    let text = skip_blanks(line);
+    if text.is_empty() {
+        return true;
     }
-    if is_fixed(&[Close], rest) {
-        Ok(Statement::Insert { key, text })
-    } else {
-        Err(NO_STATEMENT)
+    is_comment(text)
+}
+
+/// Whether the bytes begin with `--`.
+fn is_comment(text: &[u8]) -> bool
+    ensures { result ≡ is_comment text.now }
+{
+    match text {
+        [first, second, ..] => *first == b'-' && *second == b'-',
+        _ => false,
     }
 }
 
-fn parse_match(alloc: Global, column: &[u8], line: &[u8]) -> Result<Statement, ParseError>
-    ensures statement { IfOk result (λ statement. IsStatement column.now line.now statement) }
-    ensures exact { (query : List ℕ) → IsStatement column.now line.now (Statement.Match query) → (result ≡ Ok (Statement.Match query)) ⊎ (result ≡ Err ParseError.NoMemory) }
-    ensures place { (at : ℕ) → result ≡ Err (ParseError.Syntax at) → at ≡ 1 }
+/// What a line says that is not blank.
+enum Said {
+    /// A statement.
+    Statement(Statement),
+    /// None, with the place of its fault, from 1.
+    Fault(u64),
+}
+
+fn read(alloc: Global, line: &[u8]) -> Result<Said, AllocError>
+    requires { IsBlank line.now → ⊥ }
+    ensures { IfOk result (λ said. Says line.now said) }
 {
-    use Fixed::{Close, Name, Open};
-    let head = [
-        Name(b"select"),
-        Name(b"fts_doc_id"),
-        Name(b"from"),
-        Name(b"docs"),
-        Name(b"where"),
-        Name(b"match"),
-        Open,
-        Name(column),
-        Close,
-        Name(b"against"),
-        Open,
-    ];
-    let rest = read_fixed(&head, line).ok_or(NO_STATEMENT)?;
-    let (query, rest) = read_string(alloc, rest)?;
-    if is_fixed(&[Name(b"in"), Name(b"boolean"), Name(b"mode"), Close], rest) {
-        Ok(Statement::Match { query })
-    } else {
-        Err(NO_STATEMENT)
+    let line = read_line(alloc, line)?;
+    read_tokens(alloc, &line.tokens, line.ending)
+}
+
+/// What the tokens of a line say, which end so.
+fn read_tokens(alloc: Global, tokens: &[Placed], ending: Ending) -> Result<Said, AllocError>
+    ensures { IfOk result (λ said. SaysIn (map placed_of tokens.now) (ending_of ending) said) }
+{
+    match ending {
+        Ending::Unreadable { .. } => Ok(Said::Fault(fault_place(tokens, ending))),
+        Ending::Whole { .. } => match read_statement(alloc, tokens)? {
+            Some(statement) => Ok(Said::Statement(statement)),
+            None => Ok(Said::Fault(fault_place(tokens, ending))),
+        },
     }
 }
 

@@ -1,7 +1,6 @@
 ghost use Rattle.std.specs.Prelude.{◌≡◌, ℕ, List};
-ghost use Rattle.std.specs.List.{list_all};
 ghost use Rattle.fts_sql.specs.Token.{IsFront, is_blank};
-ghost use Rattle.fts_sql.specs.Fixed.{is_in};
+ghost use Rattle.fts_sql.specs.Reading.{is_in};
 
 /// A class of bytes.
 #[derive(Clone, Copy)]
@@ -43,11 +42,4 @@ pub fn skip_blanks(bytes: &[u8]) -> &[u8]
     ensures { (blanks : List ℕ) × IsFront is_blank bytes.now blanks result.now }
 {
     split_run(Class::Blank, bytes).1
-}
-
-/// Whether there are only blanks.
-pub fn are_blank(bytes: &[u8]) -> bool
-    ensures { result ≡ list_all is_blank bytes.now }
-{
-    bytes.iter().all(|b| Class::Blank.has(*b))
 }

@@ -1,23 +1,33 @@
 ghost use Rattle.std.specs.Prelude.{Some};
 ghost use Rattle.fts_sql.specs.ParseError.{error_text};
 
+use crate::values::Values;
 use fts_commits::Text;
+use fts_types::Names;
 use std::error::Error;
 use std::fmt;
 
-/// A statement of one line.
+/// A statement of one line, its names as they are written there.
 #[derive(Debug, Drop)]
 pub enum Statement {
-    /// `INSERT INTO docs (id, COLUMN) VALUES (key, 'text')`
-    Insert { key: u64, text: Text },
-    /// `SELECT FTS_DOC_ID FROM docs WHERE MATCH (COLUMN) AGAINST ('query' IN BOOLEAN MODE)`
-    Match { query: Text },
+    /// `INSERT INTO table (column, ..) VALUES (value, ..)`
+    Insert {
+        table: Text,
+        columns: Names,
+        values: Values,
+    },
+    /// `SELECT FTS_DOC_ID FROM table WHERE MATCH (column, ..) AGAINST ('query' IN BOOLEAN MODE)`
+    Match {
+        table: Text,
+        columns: Names,
+        query: Text,
+    },
 }
 
 /// Why there is no statement.
 #[derive(Clone, Copy, Debug, PartialEq, Eq)]
 pub enum ParseError {
-    /// Want of memory for the statement's text.
+    /// Want of memory for the line's tokens or the statement.
     NoMemory,
     /// The line is no statement, which shows at byte `at`, from 1.
     Syntax { at: u64 },

@@ -1,118 +1,77 @@
-ghost use Rattle.std.specs.Prelude.{◌≡◌, ◌↔◌, ◌<◌, ◌^◌, ℕ, List, true, map, length, IsTrue, IfSome, IfNone, SomeIff};
+ghost use Rattle.std.specs.Prelude.{◌≡◌, ◌<◌, ◌≤◌, ◌^◌, ◌++◌, ◌∷◌, ℕ, List, true, false, not, length, IfSome, IfNone, SomeIff};
 ghost use Rattle.std.specs.List.{list_all};
+ghost use Rattle.std.specs.Option.{option_map};
 ghost use Rattle.std.specs.Char.{is_ascii_digit};
-ghost use Rattle.std.specs.Str.{str_to_ascii_lowercase};
 ghost use Rattle.std.specs.Str.Parse.{digits_value};
-ghost use Rattle.fts_sql.specs.Token.{name, number, mark, is_mark, Begins, BeginsAll, Reads};
-ghost use Rattle.fts_sql.specs.Fixed.{token_of};
+ghost use Rattle.fts_commits.specs.Word.{is_word_byte};
+ghost use Rattle.fts_sql.specs.Token.{begins_with, is_blank};
+ghost use Rattle.fts_sql.specs.Reading.{IsNext, IsText, IsPiece};
 
-use crate::run::{Class, are_blank, skip_blanks, split_run};
+use crate::run::{Class, split_run};
 
-/// A token that a statement always has at its place.
+/// A token, which holds bytes of its line.
 #[derive(Clone, Copy)]
-pub enum Fixed<'a> {
-    /// A keyword or a name, in lower case.
+pub enum Token<'a> {
+    /// A name or a keyword, as written.
     Name(&'a [u8]),
-    /// `(`
-    Open,
-    /// `,`
-    Comma,
-    /// `)`
-    Close,
+    /// A number.
+    Number(u64),
+    /// A string, as written between its apostrophes.
+    String(&'a [u8]),
+    /// One of the bytes `( ) , ; = * . :`.
+    Mark(u8),
 }
 
-impl Fixed<'_> {
-    /// What follows the token, if the bytes begin with it.
-    fn read<'b>(&self, bytes: &'b [u8]) -> Option<&'b [u8]>
-        ensures found { IfSome result (λ rest. Begins (token_of self.now) bytes.now rest.now) }
-        ensures none { IfNone result ((rest : List ℕ) → Begins (token_of self.now) bytes.now rest → ⊥) }
-    {
-        match self {
-            Fixed::Name(word) => read_name(word, bytes),
-            Fixed::Open => read_mark(b'(', bytes),
-            Fixed::Comma => read_mark(b',', bytes),
-            Fixed::Close => read_mark(b')', bytes),
-        }
+/// What stands first in some bytes.
+pub enum Next<'a> {
+    /// A token, and what follows it.
+    Token(Token<'a>, &'a [u8]),
+    /// Something that is no token, with the faulty byte so many bytes from its first.
+    Unreadable(usize),
+}
+
+/// What stands first in the bytes, which begin with no blank.
+pub fn next_token(bytes: &[u8]) -> Next
+    requires { begins_with (λ b. not (is_blank b)) bytes.now ≡ true }
+    ensures { IsNext bytes.now result }
+{
+    match bytes {
+        [b'\'', inner @ ..] => next_string(inner),
+        [b'0'..=b'9', ..] => next_number(bytes),
+        [b'a'..=b'z' | b'A'..=b'Z' | b'_', ..] => next_name(bytes),
+        [
+            b'(' | b')' | b',' | b';' | b'=' | b'*' | b'.' | b':',
+            rest @ ..,
+        ] => { Next::Token(Token::Mark(bytes[0]), rest) }
+        _ => Next::Unreadable(0),
     }
 }
 
-/// What follows the tokens, if the bytes begin with them.
-pub fn read_fixed<'b>(tokens: &[Fixed], bytes: &'b [u8]) -> Option<&'b [u8]>
-    ensures found { IfSome result (λ rest. BeginsAll (map token_of tokens.now) bytes.now rest.now) }
-    ensures none { IfNone result ((rest : List ℕ) → BeginsAll (map token_of tokens.now) bytes.now rest → ⊥) }
+fn next_name(bytes: &[u8]) -> Next
+    requires word { begins_with is_word_byte bytes.now ≡ true }
+    requires no_digit { begins_with is_ascii_digit bytes.now ≡ false }
+    ensures { IsNext bytes.now result }
 {
-    let mut rest = bytes;
-    for token in tokens {
-        rest = token.read(rest)?;
-    }
-    Some(rest)
+    let (name, rest) = split_run(Class::Word, bytes);
+    Next::Token(Token::Name(name), rest)
 }
 
-/// Whether the bytes are the tokens and nothing else.
-pub fn is_fixed(tokens: &[Fixed], bytes: &[u8]) -> bool
-    ensures { IsTrue result ↔ Reads (map token_of tokens.now) bytes.now }
+fn next_number(bytes: &[u8]) -> Next
+    requires { begins_with is_ascii_digit bytes.now ≡ true }
+    ensures { IsNext bytes.now result }
 {
-    match read_fixed(tokens, bytes) {
-        Some(rest) => are_blank(rest),
-        None => false,
+    let (digits, rest) = split_run(Class::Digit, bytes);
+    match number_of(digits) {
+        Some(value) => Next::Token(Token::Number(value), rest),
+        None => Next::Unreadable(0),
     }
 }
 
-/// The number that the bytes begin with, if it is below 2^64, and what follows it.
-pub fn read_number(bytes: &[u8]) -> Option<(u64, &[u8])>
-    ensures found { IfSome result (λ found. Begins (number found.0) bytes.now found.1.now) }
-    ensures none { IfNone result ((n : ℕ) (rest : List ℕ) → Begins (number n) bytes.now rest → ⊥) }
-{
-    let (digits, rest) = split_run(Class::Digit, skip_blanks(bytes));
-    let value = number_of(digits)?;
-    Some((value, rest))
-}
-
-fn read_name<'b>(word: &[u8], bytes: &'b [u8]) -> Option<&'b [u8]>
-    ensures found { IfSome result (λ rest. Begins (name word.now) bytes.now rest.now) }
-    ensures none { IfNone result ((rest : List ℕ) → Begins (name word.now) bytes.now rest → ⊥) }
-{
-    let (spelling, rest) = split_run(Class::Word, skip_blanks(bytes));
-    let (first, _) = spelling.split_first()?;
-    if !first.is_ascii_digit() && is_lowered(word, spelling) {
-        Some(rest)
-    } else {
-        None
-    }
-}
-
-fn read_mark(byte: u8, bytes: &[u8]) -> Option<&[u8]>
-    requires { is_mark byte ≡ true }
-    ensures found { IfSome result (λ rest. Begins (mark byte) bytes.now rest.now) }
-    ensures none { IfNone result ((rest : List ℕ) → Begins (mark byte) bytes.now rest → ⊥) }
-{
-    let (first, rest) = skip_blanks(bytes).split_first()?;
-    if *first == byte { Some(rest) } else { None }
-}
-
-/// Whether the spelling is the word but for the case of its letters; the word itself has to be in lower case.
-fn is_lowered(word: &[u8], spelling: &[u8]) -> bool
-    ensures { IsTrue result ↔ (str_to_ascii_lowercase spelling.now ≡ word.now) }
-{
-    if spelling.len() != word.len() {
-        return false;
-    }
-    for (i, b) in spelling.iter().enumerate() {
-        if b.to_ascii_lowercase() != word[i] {
-            return false;
-        }
-    }
-    true
-}
-
-/// The number that the digits write, if there are digits and it is below 2^64.
+/// The number that the digits write, if it is below 2^64.
 fn number_of(digits: &[u8]) -> Option<u64>
     requires { list_all is_ascii_digit digits.now ≡ true }
-    ensures { SomeIff result ((0 < length digits.now) × (digits_value 10 digits.now < 2 ^ 64)) (digits_value 10 digits.now) }
+    ensures { SomeIff result (digits_value 10 digits.now < 2 ^ 64) (digits_value 10 digits.now) }
 {
-    if digits.is_empty() {
-        return None;
-    }
     let mut value: u64 = 0;
     for digit in digits {
         value = value
@@ -120,4 +79,41 @@ fn number_of(digits: &[u8]) -> Option<u64>
             .checked_add(u64::from(*digit - b'0'))?;
     }
     Some(value)
+}
+
+/// What stands first where that is an apostrophe, with these bytes behind it.
+fn next_string(inner: &[u8]) -> Next
+    ensures { IsNext (39 ∷ inner.now) result }
+{
+    let (written, rest) = split_text(inner);
+    let Some((stop, after)) = rest.split_first() else {
+        return Next::Unreadable(0);
+    };
+    if *stop != b'\'' {
+        return Next::Unreadable(written.len() + 1);
+    }
+    Next::Token(Token::String(written), after)
+}
+
+/// What a string's text is written as, behind the opening apostrophe, and what follows it.
+fn split_text(inner: &[u8]) -> (&[u8], &[u8])
+    ensures { IsText inner.now result.0.now result.1.now }
+{
+    let mut rest = inner;
+    while let Some(after) = skip_piece(rest) {
+        rest = after;
+    }
+    inner.split_at(inner.len() - rest.len())
+}
+
+/// What follows the next byte of a string's text, if the text goes on.
+fn skip_piece(bytes: &[u8]) -> Option<&[u8]>
+    ensures { IsPiece bytes.now (option_map (λ rest. rest.now) result) }
+{
+    match bytes {
+        [b'\'', b'\'', after @ ..] => Some(after),
+        [b'\'', ..] => None,
+        [b'\t' | b' '..=b'~', after @ ..] => Some(after),
+        _ => None,
+    }
 }

@@ -1,5 +1,6 @@
 use Rattle.std.specs.Prelude.{◌≡◌, ℕ, ◌<◌, List, [], ◌∷◌, ◌++◌, length, map, codes, slice_index, All}
-use Rattle.fts_commits.specs.Settings.{Settings, AreSettings}
+use Rattle.fts_types.specs.declared.settings.Settings.{Settings}
+use Rattle.fts_types.specs.Settings.{AreSettings}
 use Rattle.fts_commits.specs.Commit.{Commit, no_rows, AreAccepted}
 use Rattle.fts_log.specs.Record.{IsLog, log_end}
 use Rattle.fts_rowcodec.specs.Payload.{settings_payload, commit_payload, IsWritten}
@@ -28,7 +29,7 @@ end_after state commit = log_end rows_magic (payloads state ++ commit_payload co
 -- the settings and the commits can stand: each commit is accepted by the rows that those before it left
 pub record IsSound (state : State) : Type 0 where
   pub settings : AreSettings state.settings
-  pub written : All IsWritten state.commits
+  pub written : All (IsWritten (length state.settings.columns)) state.commits
   pub accepted : AreAccepted no_rows state.commits
 
 -- the file is the rows log of the database

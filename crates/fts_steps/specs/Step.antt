@@ -1,5 +1,6 @@
 use Rattle.std.specs.Prelude.{Bool, true, false, ◌≡◌, ℕ, ◌+◌, if◌then◌else◌, nat_lt, List, [], ◌∷◌, ◌++◌, length, Result, Ok, Err}
-use Rattle.fts_commits.specs.Commit.{Commit, Rows, Refused, duplicate_key, after_commit, replay}
+use Rattle.fts_types.specs.declared.limits.Limits.{Limits}
+use Rattle.fts_commits.specs.Commit.{Commit, Rows, Refused, after_commit, replay}
 use Rattle.fts_commits.specs.Scan.{scan}
 use Rattle.fts_steps.specs.State.{State, with_commits, end_after}
 
@@ -11,7 +12,7 @@ pub data Ask : Type 0 where
 -- what it answers
 pub data Answer : Type 0 where
   committed : ℕ → Answer
-  duplicate : ℕ → ℕ → Answer
+  refused : Refused → Answer
   full : ℕ → Answer
   found : ℕ → List ℕ → Answer
   disk_fault : Answer
@@ -23,15 +24,15 @@ pub record Call : Type 0 where
   pub answer : Answer
 
 -- the answer to a commit that the rows refuse or accept: its number, unless the log would pass its limit
-abbrev pub commit_answer : ℕ → State → Commit → Result Rows Refused → Answer
-commit_answer limit state commit (Err (duplicate_key change key)) = duplicate change key
-commit_answer limit state commit (Ok rows) =
-    if nat_lt limit (end_after state commit) then full (end_after state commit) else committed (length state.commits + 1)
+abbrev pub commit_answer : Limits → State → Commit → Result Rows Refused → Answer
+commit_answer limits state commit (Err why) = refused why
+commit_answer limits state commit (Ok rows) =
+    if nat_lt limits.log_bytes (end_after state commit) then full (end_after state commit) else committed (length state.commits + 1)
 
 -- the answer of a step that nothing outside disturbs
-abbrev pub plain_answer : ℕ → State → Ask → Answer
-plain_answer limit state (to_commit commit) = commit_answer limit state commit (after_commit commit (replay state.commits))
-plain_answer limit state (to_find word) = found (length state.commits) (scan word (replay state.commits))
+abbrev pub plain_answer : Limits → State → Ask → Answer
+plain_answer limits state (to_commit commit) = commit_answer limits state commit (after_commit limits commit (replay state.commits))
+plain_answer limits state (to_find word) = found (length state.commits) (scan word (replay state.commits))
 
 -- what the state is after a step, by its answer
 abbrev pub after : State → Ask → Answer → State
@@ -39,13 +40,13 @@ after state (to_commit commit) (committed number) = with_commits state (commit �
 after state ask answer = state
 
 -- the answers that a step may give: its plain one, want of memory, and a disk fault where it would have committed
-abbrev pub MayAnswer : ℕ → State → Ask → Answer → Type 0
-MayAnswer limit state ask no_memory = Unit {0}
-MayAnswer limit state ask disk_fault = plain_answer limit state ask ≡ committed (length state.commits + 1)
-MayAnswer limit state ask (committed number) = plain_answer limit state ask ≡ committed number
-MayAnswer limit state ask (duplicate change key) = plain_answer limit state ask ≡ duplicate change key
-MayAnswer limit state ask (full end) = plain_answer limit state ask ≡ full end
-MayAnswer limit state ask (found number docs) = plain_answer limit state ask ≡ found number docs
+abbrev pub MayAnswer : Limits → State → Ask → Answer → Type 0
+MayAnswer limits state ask no_memory = Unit {0}
+MayAnswer limits state ask disk_fault = plain_answer limits state ask ≡ committed (length state.commits + 1)
+MayAnswer limits state ask (committed number) = plain_answer limits state ask ≡ committed number
+MayAnswer limits state ask (refused why) = plain_answer limits state ask ≡ refused why
+MayAnswer limits state ask (full end) = plain_answer limits state ask ≡ full end
+MayAnswer limits state ask (found number docs) = plain_answer limits state ask ≡ found number docs
 
 -- the state after a list of steps
 abbrev pub after_all : State → List Call → State
@@ -53,10 +54,10 @@ after_all state [] = state
 after_all state (call ∷ calls) = after_all (after state call.ask call.answer) calls
 
 -- each step answered as it may, on the state that those before it left
-abbrev pub Follows : ℕ → State → List Call → Type 0
-Follows limit state [] = Unit {0}
-Follows limit state (call ∷ calls) =
-    MayAnswer limit state call.ask call.answer × Follows limit (after state call.ask call.answer) calls
+abbrev pub Follows : Limits → State → List Call → Type 0
+Follows limits state [] = Unit {0}
+Follows limits state (call ∷ calls) =
+    MayAnswer limits state call.ask call.answer × Follows limits (after state call.ask call.answer) calls
 
 -- a commit that a disk fault left in doubt
 abbrev pub doubt_of : Ask → Answer → List Commit

@@ -1,6 +1,8 @@
-use Rattle.std.proofs.Common.{◌≡◌, ℕ, List, [], ◌∷◌, refl, subst, ◌∙◌, inl, inr}
+use Rattle.std.proofs.Common.{◌≡◌, ◌⊎◌, ℕ, List, [], ◌∷◌, refl, sym, subst, ◌∙◌, inl, inr}
+use Rattle.std.proofs.lemmas.List.{append-nil}
 use Rattle.std.specs.Prelude.{Result, Ok, Err}
-use Rattle.fts_io.specs.Text.{Line}
+use Rattle.fts_types.specs.declared.limits.Limits.{Limits}
+use Rattle.fts_io.specs.Text.{Line, lines_of}
 use Rattle.fts_schema.specs.declared.reply.Reply.{Reply}
 use Rattle.fts_steps.specs.State.{State, with_commits, IsDatabase}
 use Rattle.fts_steps.specs.Step.{Call, Follows, after_all, in_doubt}
@@ -11,14 +13,15 @@ use Rattle.fts_sessions.specs.Execute.{Executes, Leaves}
 use Rattle.fts_top.specs.declared.status.Status.{Status}
 use Rattle.fts_top.specs.declared.status.Status.TheVariants as status
 use Rattle.fts_top.specs.Run.{Front, Late, Broken, Stops, Outcome}
-use Rattle.fts_top.specs.Once.{files}
+use Rattle.fts_top.specs.Once.{files, Completes, Runs, Untouched}
+use Rattle.fts_top.specs.Talk.{Talks}
 
 -- what was done by the steps of an engine, seen by the file of its device
-module _ {S : Type 0} (steps : Ghosts S) (limit : ℕ) (file_of : S → List ℕ)
+module _ {S : Type 0} (steps : Ghosts S) (limits : Limits) (file_of : S → List ℕ)
     (stands : (state : State) (s : S) → steps.stands state s → IsDatabase state (file_of s))
     (reads : (state : State) (s : S) → steps.reads state s → IsDatabase state (file_of s)) where
-  abbrev front_on_file : (start : State) (script ahead : List Line) (before now : List ℕ) (old new : S) → steps.limit old ≡ limit
-      → Front steps start script ahead before now old new → Front (files limit) start script ahead before now (file_of old) (file_of new)
+  abbrev front_on_file : (start : State) (script ahead : List Line) (before now : List ℕ) (old new : S) → steps.limits old ≡ limits
+      → Front steps start script ahead before now old new → Front (files limits) start script ahead before now (file_of old) (file_of new)
   front_on_file start script ahead before now old new same front = record {
     lines = front.lines;
     calls = front.calls;
@@ -26,29 +29,29 @@ module _ {S : Type 0} (steps : Ghosts S) (limit : ℕ) (file_of : S → List ℕ
     front = front.front;
     written = front.written;
     talks = front.talks;
-    follows = subst (λ (n : ℕ). Follows n start front.calls) same front.follows;
-    limit = refl;
+    follows = subst (λ (n : Limits). Follows n start front.calls) same front.follows;
+    limits = refl;
     stands = stands (after_all start front.calls) new front.stands;
   }
 
   leaves_on_file : (outcome : Result Reply Ended) (state : State) (calls : List Call) (new : S) → Leaves steps outcome state calls new
-      → Leaves (files limit) outcome state calls (file_of new)
+      → Leaves (files limits) outcome state calls (file_of new)
   leaves_on_file (Ok reply) state calls new leaves = stands state new leaves
   leaves_on_file (Err NoMemory) state calls new leaves = stands state new leaves
   leaves_on_file (Err DiskFault) state calls new (inl leaves) = inl (reads state new leaves)
   leaves_on_file (Err DiskFault) state calls new (inr leaves) = inr (reads (with_commits state (in_doubt calls)) new leaves)
 
-  executes_on_file : (state : State) (line : Line) (old new : S) (outcome : Result Reply Ended) → steps.limit old ≡ limit
-      → Executes steps state line old outcome new → Executes (files limit) state line (file_of old) outcome (file_of new)
+  executes_on_file : (state : State) (line : Line) (old new : S) (outcome : Result Reply Ended) → steps.limits old ≡ limits
+      → Executes steps state line old outcome new → Executes (files limits) state line (file_of old) outcome (file_of new)
   executes_on_file state line old new outcome same executes = record {
     calls = executes.calls;
     says = executes.says;
-    follows = subst (λ (n : ℕ). Follows n state executes.calls) same executes.follows;
+    follows = subst (λ (n : Limits). Follows n state executes.calls) same executes.follows;
     leaves = leaves_on_file outcome (after_all state executes.calls) executes.calls new executes.leaves;
   }
 
-  late_on_file : (start : State) (script : List Line) (n : ℕ) (before now : List ℕ) (old new : S) → steps.limit old ≡ limit
-      → Late steps start script n before now old new → Late (files limit) start script n before now (file_of old) (file_of new)
+  late_on_file : (start : State) (script : List Line) (n : ℕ) (before now : List ℕ) (old new : S) → steps.limits old ≡ limits
+      → Late steps start script n before now old new → Late (files limits) start script n before now (file_of old) (file_of new)
   late_on_file start script n before now old new same late = record {
     line = late.line;
     ahead = late.ahead;
@@ -58,13 +61,13 @@ module _ {S : Type 0} (steps : Ghosts S) (limit : ℕ) (file_of : S → List ℕ
     answers = record {
       reply = late.answers.reply;
       executes = executes_on_file (after_all start late.front.calls) late.line late.middle new (Ok late.answers.reply)
-          (late.front.limit ∙ same) late.answers.executes;
+          (late.front.limits ∙ same) late.answers.executes;
       written = late.answers.written;
     };
   }
 
-  broken_on_file : (start : State) (script : List Line) (ended : Ended) (before now : List ℕ) (old new : S) → steps.limit old ≡ limit
-      → Broken steps start script ended before now old new → Broken (files limit) start script ended before now (file_of old) (file_of new)
+  broken_on_file : (start : State) (script : List Line) (ended : Ended) (before now : List ℕ) (old new : S) → steps.limits old ≡ limits
+      → Broken steps start script ended before now old new → Broken (files limits) start script ended before now (file_of old) (file_of new)
   broken_on_file start script ended before now old new same broken = record {
     line = broken.line;
     ahead = broken.ahead;
@@ -73,13 +76,13 @@ module _ {S : Type 0} (steps : Ghosts S) (limit : ℕ) (file_of : S → List ℕ
     front = front_on_file start script (broken.line ∷ broken.ahead) before broken.so_far old broken.middle same broken.front;
     breaks = record {
       executes = executes_on_file (after_all start broken.front.calls) broken.line broken.middle new (Err ended)
-          (broken.front.limit ∙ same) broken.breaks.executes;
+          (broken.front.limits ∙ same) broken.breaks.executes;
       written = broken.breaks.written;
     };
   }
 
-  abbrev stops_on_file : (start : State) (script : List Line) (n : ℕ) (left before now : List ℕ) (old new : S) → steps.limit old ≡ limit
-      → Stops steps start script n left before now old new → Stops (files limit) start script n left before now (file_of old) (file_of new)
+  abbrev stops_on_file : (start : State) (script : List Line) (n : ℕ) (left before now : List ℕ) (old new : S) → steps.limits old ≡ limits
+      → Stops steps start script n left before now old new → Stops (files limits) start script n left before now (file_of old) (file_of new)
   stops_on_file start script n left before now old new same stops = record {
     ahead = stops.ahead;
     front = front_on_file start script stops.ahead before now old new same stops.front;
@@ -87,8 +90,8 @@ module _ {S : Type 0} (steps : Ghosts S) (limit : ℕ) (file_of : S → List ℕ
   }
 
   -- the outcome of a run
-  pub outcome_on_file : (result : Status) (start : State) (script : List Line) (left before now : List ℕ) (old new : S) → steps.limit old ≡ limit
-      → Outcome steps result start script left before now old new → Outcome (files limit) result start script left before now (file_of old) (file_of new)
+  pub outcome_on_file : (result : Status) (start : State) (script : List Line) (left before now : List ℕ) (old new : S) → steps.limits old ≡ limits
+      → Outcome steps result start script left before now old new → Outcome (files limits) result start script left before now (file_of old) (file_of new)
   outcome_on_file status.Done start script left before now old new same outcome =
       (front_on_file start script [] before now old new same outcome.0, outcome.1)
   outcome_on_file status.ReadFault start script left before now old new same outcome =
@@ -109,3 +112,27 @@ module _ {S : Type 0} (steps : Ghosts S) (limit : ℕ) (file_of : S → List ℕ
   outcome_on_file status.NotCreated start script left before now old new same outcome = absurd outcome
   outcome_on_file status.AlreadyCreated start script left before now old new same outcome = absurd outcome
   outcome_on_file (status.Damaged device file at) start script left before now old new same outcome = absurd outcome
+
+-- a front of all lines completes the script
+pub completes : (limits : Limits) (start : State) (script before now old new : List ℕ) → Front (files limits) start (lines_of script) [] before now old new
+    → Completes limits start script before now new
+completes limits start script before now old new front = record {
+  calls = front.calls;
+  text = front.text;
+  talks = subst (λ (lines : List Line). Talks start.settings lines front.calls front.text) (sym (front.front ∙ append-nil front.lines)) front.talks;
+  follows = front.follows;
+  written = front.written;
+  database = front.stands;
+}
+
+completes_or : (result : Status) (limits : Limits) (start : State) (script left before now old new : List ℕ) → result ≡ status.Done
+    → Outcome (files limits) status.Done start (lines_of script) left before now old new ⊎ ((status.Done ≡ status.DiskFault) × Untouched script left before now old new)
+    → Completes limits start script before now new
+completes_or result limits start script left before now old new e (inl outcome) = completes limits start script before now old new outcome.0
+completes_or result limits start script left before now old new e (inr fault) = absurd (let f = fault.0 in cc)
+
+-- a run that is done completes the script
+pub done_completes : (result : Status) (limits : Limits) (start : State) (script left before now old new : List ℕ) → result ≡ status.Done
+    → Runs limits result start script left before now old new → Completes limits start script before now new
+done_completes result limits start script left before now old new e runs =
+    completes_or result limits start script left before now old new e (subst (λ (s : Status). Runs limits s start script left before now old new) e runs)

@@ -1,6 +1,7 @@
 use Rattle.std.proofs.Common.{◌≡◌, ℕ, ◌+◌, List, [], ◌∷◌, ◌++◌, length, refl, ap, subst, sym, ◌∙◌, append_assoc, inl, inr}
 use Rattle.std.proofs.lemmas.List.{append-nil, length_push}
 use Rattle.std.specs.Prelude.{Ok}
+use Rattle.fts_types.specs.declared.limits.Limits.{Limits}
 use Rattle.fts_io.specs.Text.{Line}
 use Rattle.fts_schema.specs.declared.reply.Reply.{Reply}
 use Rattle.fts_schema.specs.Reply.{text_of}
@@ -27,7 +28,7 @@ module _ {S : Type 0} (steps : Ghosts S) (start : State) (script : List Line) wh
     written = sym (append-nil held);
     talks = (refl, refl);
     follows = tt;
-    limit = refl;
+    limits = refl;
     stands = stands;
   }
 
@@ -42,20 +43,20 @@ module _ {S : Type 0} (steps : Ghosts S) (start : State) (script : List Line) wh
     written = same_now ∙ front.written;
     talks = front.talks;
     follows = front.follows;
-    limit = ap steps.limit same_new ∙ front.limit;
+    limits = ap steps.limits same_new ∙ front.limits;
     stands = subst (λ (s : S). steps.stands (after_all start front.calls) s) (sym same_new) front.stands;
   }
 
   -- a reply was given, so the line was a request, and no want of memory came before it
   pub said : (line : Line) (calls : List Call) (reply : Reply) (state : State) → Says state.settings line calls (Ok reply)
-      → (request : Request) × IsRequest state.settings line request × Converses request [] calls (Ok reply)
+      → (request : Request) × IsRequest line request × Converses state.settings request [] calls (Ok reply)
   said line calls reply state (inl says) = says
   said line calls reply state (inr none) = absurd (let e = none.1 in cc)
 
   -- one line more was executed, and its reply written
   abbrev pub one_more : (line : Line) (ahead : List Line) (before so_far now : List ℕ) (old middle new : S) (reply : Reply)
       (front : Front steps start script (line ∷ ahead) before so_far old middle)
-      → Executes steps (after_all start front.calls) line middle (Ok reply) new → now ≡ so_far ++ text_of reply → steps.limit new ≡ steps.limit middle
+      → Executes steps (after_all start front.calls) line middle (Ok reply) new → now ≡ so_far ++ text_of reply → steps.limits new ≡ steps.limits middle
       → Front steps start script ahead before now old new
   one_more line ahead before so_far now old middle new reply front executes written limit =
       let says = said line executes.calls reply (after_all start front.calls) executes.says in
@@ -66,17 +67,17 @@ module _ {S : Type 0} (steps : Ghosts S) (start : State) (script : List Line) wh
         front = front.front ∙ sym (append_assoc front.lines (line ∷ []) ahead);
         written = written ∙ ap (λ (t : List ℕ). t ++ text_of reply) front.written ∙ append_assoc before front.text (text_of reply);
         talks = talks_more start.settings front.lines front.calls front.text line says.0 executes.calls reply front.talks
-            (subst (λ (s : _). IsRequest s line says.0) (settings_stay start front.calls) says.1) says.2;
-        follows = follows_more (steps.limit old) start front.calls executes.calls front.follows
-            (subst (λ (n : ℕ). Follows n (after_all start front.calls) executes.calls) front.limit executes.follows);
-        limit = limit ∙ front.limit;
+            says.1 (subst (λ (s : _). Converses s says.0 [] executes.calls (Ok reply)) (settings_stay start front.calls) says.2);
+        follows = follows_more (steps.limits old) start front.calls executes.calls front.follows
+            (subst (λ (n : Limits). Follows n (after_all start front.calls) executes.calls) front.limits executes.follows);
+        limits = limit ∙ front.limits;
         stands = subst (λ (s : State). steps.stands s new) (sym (after_more start front.calls executes.calls)) executes.leaves;
       }
 
   -- a turn that goes on
   abbrev pub goes_on : (ahead after : List Line) (left before so_far now : List ℕ) (old middle new : S)
       (front : Front steps start script ahead before so_far old middle)
-      → Turns steps More (after_all start front.calls) ahead after left so_far now middle new → steps.limit new ≡ steps.limit middle
+      → Turns steps More (after_all start front.calls) ahead after left so_far now middle new → steps.limits new ≡ steps.limits middle
       → Front steps start script after before now old new
   goes_on ahead after left before so_far now old middle new front turn limit =
       one_more turn.0 after before so_far now old middle new turn.2.0
@@ -86,7 +87,7 @@ module _ {S : Type 0} (steps : Ghosts S) (start : State) (script : List Line) wh
   -- a turn that goes on executes one line more
   pub numbered : (ahead after : List Line) (left before so_far now : List ℕ) (old middle new : S)
       (front : Front steps start script ahead before so_far old middle)
-      → Turns steps More (after_all start front.calls) ahead after left so_far now middle new → steps.limit new ≡ steps.limit middle
+      → Turns steps More (after_all start front.calls) ahead after left so_far now middle new → steps.limits new ≡ steps.limits middle
       → (n m : ℕ) → length front.lines ≡ n → m ≡ n + 1
       → (more : Front steps start script after before now old new) × (length more.lines ≡ m)
   numbered ahead after left before so_far now old middle new front turn limit n m number next = (

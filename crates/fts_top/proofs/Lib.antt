@@ -3,3 +3,4 @@ pub mod Talking
 pub mod Fronts
 pub mod Finishing
 pub mod Filing
+pub mod Asking

@@ -1,7 +1,8 @@
 use Rattle.std.proofs.Common.{◌≡◌, ℕ, List, [], ◌∷◌, ◌++◌, refl, ap, sym, ◌∙◌, append_assoc}
 use Rattle.std.proofs.lemmas.List.{append-nil}
 use Rattle.std.specs.Prelude.{Ok}
-use Rattle.fts_commits.specs.Settings.{Settings}
+use Rattle.fts_types.specs.declared.limits.Limits.{Limits}
+use Rattle.fts_types.specs.declared.settings.Settings.{Settings}
 use Rattle.fts_io.specs.Text.{Line}
 use Rattle.fts_schema.specs.declared.reply.Reply.{Reply}
 use Rattle.fts_schema.specs.Reply.{text_of}
@@ -25,14 +26,14 @@ pub after_more : (state : State) (calls more : List Call) → after_all state (c
 after_more state [] more = refl
 after_more state (call ∷ calls) more = after_more (after state call.ask call.answer) calls more
 
-pub follows_more : (limit : ℕ) (state : State) (calls more : List Call) → Follows limit state calls → Follows limit (after_all state calls) more
-    → Follows limit state (calls ++ more)
-follows_more limit state [] more before behind = behind
-follows_more limit state (call ∷ calls) more before behind = (before.0, follows_more limit (after state call.ask call.answer) calls more before.1 behind)
+pub follows_more : (limits : Limits) (state : State) (calls more : List Call) → Follows limits state calls → Follows limits (after_all state calls) more
+    → Follows limits state (calls ++ more)
+follows_more limits state [] more before behind = behind
+follows_more limits state (call ∷ calls) more before behind = (before.0, follows_more limits (after state call.ask call.answer) calls more before.1 behind)
 
 -- one line more at the end of a talk
 pub talks_more : (settings : Settings) (lines : List Line) (calls : List Call) (text : List ℕ) (line : Line) (request : Request) (here : List Call) (reply : Reply)
-    → Talks settings lines calls text → IsRequest settings line request → Converses request [] here (Ok reply)
+    → Talks settings lines calls text → IsRequest line request → Converses settings request [] here (Ok reply)
     → Talks settings (lines ++ line ∷ []) (calls ++ here) (text ++ text_of reply)
 talks_more settings [] calls text line request here reply talks asked converses = record {
   request = request;

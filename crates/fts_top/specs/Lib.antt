@@ -1,5 +1,4 @@
 pub mod Talk
 pub mod Run
-pub mod Command
 pub mod Once
 pub mod Number

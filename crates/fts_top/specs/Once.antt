@@ -4,7 +4,8 @@ use Rattle.fts_top.specs.declared.status.Device.TheVariants.{Rows}
 use Rattle.std.specs.Prelude.{◌≡◌, ◌⊎◌, true, ℕ, List, ◌∷◌, [], ◌++◌, take, codes}
 use Rattle.fts_io.specs.Text.{lines_of}
 use Rattle.fts_steps.specs.State.{State, IsDatabase, IsCreated, created_with}
-use Rattle.fts_rowcodec.specs.Payload.{one_column}
+use Rattle.fts_types.specs.declared.limits.Limits.{Limits}
+use Rattle.fts_types.specs.declared.settings.Settings.{Settings}
 use Rattle.fts_steps.specs.Step.{Call, Follows, after_all}
 use Rattle.fts_sessions.specs.declared.steps.EngineSteps.{Ghosts}
 use Rattle.fts_top.specs.Talk.{Talks}
@@ -12,21 +13,21 @@ use Rattle.fts_top.specs.Run.{Outcome}
 
 -- a script was executed to its end: its lines made these steps from the state that the opening found, their replies
 -- were written, and the rows log is the database that the steps left
-pub record Completes (limit : ℕ) (start : State) (script before now file : List ℕ) : Type 0 where
+pub record Completes (limits : Limits) (start : State) (script before now file : List ℕ) : Type 0 where
   pub calls : List Call
   pub text : List ℕ
   pub talks : Talks start.settings (lines_of script) calls text
-  pub follows : Follows limit start calls
+  pub follows : Follows limits start calls
   pub written : now ≡ before ++ text
   pub database : IsDatabase (after_all start calls) file
 
 -- the steps of a run, seen by the rows log's file alone: it stands for the state whose database it is
-abbrev pub files : ℕ → Ghosts (List ℕ)
-files limit = record {
+abbrev pub files : Limits → Ghosts (List ℕ)
+files limits = record {
   tells = true;
   stands = IsDatabase;
   reads = IsDatabase;
-  limit = λ file. limit;
+  limits = λ file. limits;
   faults = λ file. 0;
 }
 
@@ -38,9 +39,9 @@ pub record Untouched (script left before now old new : List ℕ) : Type 0 where
 
 -- what `run` has done on a database, by its status: what its lines did, or nothing, where the device failed at the
 -- opening; `old` and `new` are the rows log's file
-abbrev pub Runs : ℕ → Status → State → List ℕ → List ℕ → List ℕ → List ℕ → List ℕ → List ℕ → Type 0
-Runs limit result start script left before now old new =
-    Outcome (files limit) result start (lines_of script) left before now old new
+abbrev pub Runs : Limits → Status → State → List ℕ → List ℕ → List ℕ → List ℕ → List ℕ → List ℕ → Type 0
+Runs limits result start script left before now old new =
+    Outcome (files limits) result start (lines_of script) left before now old new
     ⊎ ((result ≡ status.DiskFault) × Untouched script left before now old new)
 
 -- what `run` answers where the rows log's file is no database: NotCreated where none was created, else Damaged, unless
@@ -62,30 +63,30 @@ abbrev pub created_text : List ℕ
 created_text = codes "OK created" ++ 10 ∷ []
 
 -- a database without commits was made where none was created, and this was written
-pub record Creates (column old new before now : List ℕ) : Type 0 where
+pub record Creates (settings : Settings) (old new before now : List ℕ) : Type 0 where
   pub fresh : IsCreated old → ⊥
-  pub database : IsDatabase (created_with (one_column column)) new
+  pub database : IsDatabase (created_with settings) new
   pub written : now ≡ before ++ created_text
 
 -- a database without commits was made where none was created, and of the text a front was written
-pub record CreatesLate (column old new before now : List ℕ) : Type 0 where
+pub record CreatesLate (settings : Settings) (old new before now : List ℕ) : Type 0 where
   pub fresh : IsCreated old → ⊥
-  pub database : IsDatabase (created_with (one_column column)) new
+  pub database : IsDatabase (created_with settings) new
   pub count : ℕ
   pub written : now ≡ before ++ take count created_text
 
 -- what `create` has done, by its status; what a fault of the device leaves of the file is open
-abbrev pub CreateEnds : Status → List ℕ → List ℕ → List ℕ → List ℕ → List ℕ → Type 0
-CreateEnds status.Done column old new before now = Creates column old new before now
-CreateEnds status.WriteFault column old new before now = CreatesLate column old new before now
-CreateEnds status.DiskFault column old new before now = now ≡ before
-CreateEnds status.NoMemory column old new before now = (now ≡ before) × (new ≡ old)
-CreateEnds status.AlreadyCreated column old new before now = IsCreated old × (now ≡ before) × (new ≡ old)
-CreateEnds status.Usage column old new before now = ⊥
-CreateEnds status.ReadFault column old new before now = ⊥
-CreateEnds status.NotCreated column old new before now = ⊥
-CreateEnds (status.Damaged device file at) column old new before now = ⊥
-CreateEnds (status.ScriptTooLong lines bytes) column old new before now = ⊥
+abbrev pub CreateEnds : Status → Settings → List ℕ → List ℕ → List ℕ → List ℕ → Type 0
+CreateEnds status.Done settings old new before now = Creates settings old new before now
+CreateEnds status.WriteFault settings old new before now = CreatesLate settings old new before now
+CreateEnds status.DiskFault settings old new before now = now ≡ before
+CreateEnds status.NoMemory settings old new before now = (now ≡ before) × (new ≡ old)
+CreateEnds status.AlreadyCreated settings old new before now = IsCreated old × (now ≡ before) × (new ≡ old)
+CreateEnds status.Usage settings old new before now = ⊥
+CreateEnds status.ReadFault settings old new before now = ⊥
+CreateEnds status.NotCreated settings old new before now = ⊥
+CreateEnds (status.Damaged device file at) settings old new before now = ⊥
+CreateEnds (status.ScriptTooLong lines bytes) settings old new before now = ⊥
 
 -- the statuses with which `create` ends
 abbrev pub IsOfCreate : Status → Type 0

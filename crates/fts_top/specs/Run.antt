@@ -23,8 +23,8 @@ pub record Front {S : Type 0} (steps : Ghosts S) (start : State) (script ahead :
   pub front : script ≡ lines ++ ahead
   pub written : now ≡ before ++ text
   pub talks : Talks start.settings lines calls text
-  pub follows : Follows (steps.limit old) start calls
-  pub limit : steps.limit new ≡ steps.limit old
+  pub follows : Follows (steps.limits old) start calls
+  pub limits : steps.limits new ≡ steps.limits old
   pub stands : steps.stands (after_all start calls) new
 
 -- a line was executed, and of its reply the first n bytes were written

@@ -1,5 +1,5 @@
 use Rattle.std.specs.Prelude.{◌≡◌, ℕ, List, [], ◌∷◌, ◌++◌, Ok}
-use Rattle.fts_commits.specs.Settings.{Settings}
+use Rattle.fts_types.specs.declared.settings.Settings.{Settings}
 use Rattle.fts_io.specs.Text.{Line}
 use Rattle.fts_schema.specs.declared.reply.Reply.{Reply}
 use Rattle.fts_schema.specs.Reply.{text_of}
@@ -14,8 +14,8 @@ pub record First (settings : Settings) (line : Line) (Rest : List Call → List 
   pub more : List Call
   pub reply : Reply
   pub rest : List ℕ
-  pub asked : IsRequest settings line request
-  pub converses : Converses request [] here (Ok reply)
+  pub asked : IsRequest line request
+  pub converses : Converses settings request [] here (Ok reply)
   pub calls_are : calls ≡ here ++ more
   pub text_is : text ≡ text_of reply ++ rest
   pub goes_on : Rest more rest

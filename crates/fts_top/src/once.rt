@@ -1,41 +1,44 @@
-ghost use Rattle.std.specs.Prelude.{◌≡◌, ◌++◌, ◌↔◌, ◌≤◌, ◌^◌, length, ℕ, List, [], true, map, slice_index_or, Some, None, IsTrue};
+ghost use Rattle.std.specs.Prelude.{◌≡◌, ◌≤◌, ◌^◌, length, ℕ, map, ◌⊎◌, IsTrue};
 ghost use Rattle.std.specs.String.{string_bytes};
 ghost use Rattle.fts_faults.specs.Count.{Rose};
-ghost use Rattle.fts_commits.specs.Settings.{is_column_name as is_name};
-ghost use Rattle.fts_rowcodec.specs.Payload.{one_column};
+ghost use Rattle.fts_types.specs.declared.settings.Settings.{Settings};
+ghost use Rattle.fts_types.specs.Settings.{AreSettings};
+ghost use Rattle.fts_types.specs.Limits.{standard_limits};
+ghost use Rattle.fts_args.specs.Asked.{Asks};
+ghost use Rattle.fts_args.specs.declared.command.Command.{Command};
+ghost use Rattle.fts_engine.specs.Bounds.{AreWithin};
 ghost use Rattle.fts_steps.specs.State.{State, IsCreated, IsDatabase, created_with};
 ghost use Rattle.fts_engine.specs.Opening.{IsNoDatabase};
-ghost use Rattle.fts_engine.specs.declared.create.TheConstants.{LARGEST_LOG};
-ghost use Rattle.fts_top.specs.Command.{command_of as the_command};
 ghost use Rattle.fts_top.specs.Run.{PassesLimit};
 ghost use Rattle.fts_top.specs.Once.{Completes, CreateEnds, Creates, Finishes, IsOfCreate, Refuses, Runs};
 
-use crate::command::{Command, command_of};
 use crate::script::run;
 use crate::{Device, Status};
+use fts_args::{Command, command_of};
 use fts_disk::Disk;
-use fts_engine::{CreateError, LARGEST_LOG as LIMIT, OpenError, create_engine, open_engine};
+use fts_engine::{CreateError, OpenError, create_engine, open_engine};
 use fts_io::{Gate, Sink, Source, write_whole};
 use fts_schema::created_text;
 use fts_sessions::Direct;
-use std::alloc::Global;
+use fts_types::{Limits, Settings};
+use std::alloc::{AllocError, Global};
 
-// Opens the database and executes the script. `limit` is the largest end that the rows log may have.
+// Opens the database and executes the script. `limits` are those of its commits.
 pub(crate) fn run_script<I: Source, O: Sink, D: Disk, G: Gate>(
     alloc: Global,
     input: &mut I,
     out: &mut O,
     rows: D,
-    limit: u64,
+    limits: Limits,
     gate: &G,
 ) -> (Status, D)
-    requires { limit ≤ 2 ^ 32 }
+    requires { AreWithin standard_limits limits }
     ensures runs { IsTrue I.tells → IsTrue O.tells → IsTrue D.tells → (start : State) → IsDatabase start (D.seen rows 0)
-        → Runs limit result.0 start (I.left input.old) (I.left input.new) (O.holds out.old) (O.holds out.new) (D.seen rows 0) (D.seen result.1 0) }
+        → Runs limits result.0 start (I.left input.old) (I.left input.new) (O.holds out.old) (O.holds out.new) (D.seen rows 0) (D.seen result.1 0) }
     ensures no_database { IsTrue D.tells → IsNoDatabase (D.seen rows 0)
         → Refuses result.0 (D.seen rows 0) × (input.new ≡ input.old) × (out.new ≡ out.old) × (D.seen result.1 ≡ D.seen rows) }
     ensures done { result.0 ≡ Status.Done → IsTrue I.tells → IsTrue O.tells → IsTrue D.tells
-        → (start : State) × IsDatabase start (D.seen rows 0) × Completes limit start (I.left input.old) (O.holds out.old) (O.holds out.new) (D.seen result.1 0) }
+        → (start : State) × IsDatabase start (D.seen rows 0) × Completes limits start (I.left input.old) (O.holds out.old) (O.holds out.new) (D.seen result.1 0) }
     ensures complete { IsTrue I.tells → IsTrue D.tells → (state : State) → IsDatabase state (D.seen rows 0) → length (I.left input.old) ≤ 2 ^ 40
         → (Rose (I.faults input.old) (I.faults input.new) → ⊥) → (Rose (O.faults out.old) (O.faults out.new) → ⊥) → (Rose (D.faults rows) (D.faults result.1) → ⊥)
         → Finishes result.0 }
@@ -51,7 +54,7 @@ pub(crate) fn run_script<I: Source, O: Sink, D: Disk, G: Gate>(
     ensures disk { result.0 ≡ Status.DiskFault → Rose (D.faults rows) (D.faults result.1) }
     ensures too_long { (lines bytes : ℕ) → result.0 ≡ Status.ScriptTooLong lines bytes → IsTrue I.tells → PassesLimit bytes (I.left input.old) (I.left input.new) }
 {
-    match open_engine(alloc, rows, limit) {
+    match open_engine(alloc, rows, limits) {
         Ok(engine) => {
             let mut steps = Direct { engine };
             let status = run(alloc, input, out, &mut steps, gate);
@@ -73,11 +76,11 @@ pub(crate) fn run_script<I: Source, O: Sink, D: Disk, G: Gate>(
 }
 
 // Makes a database, and says so.
-fn create<O: Sink, D: Disk>(alloc: Global, column: &[u8], out: &mut O, rows: D) -> (Status, D)
-    requires { is_name column.now ≡ true }
-    ensures ends { IsTrue O.tells → IsTrue D.tells → CreateEnds result.0 column.now (D.seen rows 0) (D.seen result.1 0) (O.holds out.old) (O.holds out.new) }
+fn create<O: Sink, D: Disk>(alloc: Global, settings: &Settings, out: &mut O, rows: D) -> (Status, D)
+    requires { AreSettings settings.now }
+    ensures ends { IsTrue O.tells → IsTrue D.tells → CreateEnds result.0 settings.now (D.seen rows 0) (D.seen result.1 0) (O.holds out.old) (O.holds out.new) }
     ensures done { result.0 ≡ Status.Done → IsTrue O.tells → IsTrue D.tells
-        → Creates column.now (D.seen rows 0) (D.seen result.1 0) (O.holds out.old) (O.holds out.new) }
+        → Creates settings.now (D.seen rows 0) (D.seen result.1 0) (O.holds out.old) (O.holds out.new) }
     ensures write { result.0 ≡ Status.WriteFault → Rose (O.faults out.old) (O.faults out.new) }
     ensures already { result.0 ≡ Status.AlreadyCreated → (out.new ≡ out.old) × (IsTrue D.tells → IsCreated (D.seen rows 0) × (D.seen result.1 ≡ D.seen rows)) }
     ensures disk { result.0 ≡ Status.DiskFault → Rose (D.faults rows) (D.faults result.1) }
@@ -86,7 +89,7 @@ fn create<O: Sink, D: Disk>(alloc: Global, column: &[u8], out: &mut O, rows: D) 
     ensures complete { IsTrue D.tells → (IsCreated (D.seen rows 0) → ⊥)
         → (Rose (O.faults out.old) (O.faults out.new) → ⊥) → (Rose (D.faults rows) (D.faults result.1) → ⊥) → Finishes result.0 }
 {
-    match create_engine(alloc, column, rows) {
+    match create_engine(alloc, settings, rows) {
         Ok(device) => match write_whole(out, created_text().as_bytes()) {
             Ok(()) => (Status::Done, device),
             Err(_) => (Status::WriteFault, device),
@@ -111,23 +114,25 @@ pub fn fts_once<I: Source, O: Sink, D: Disk, E: Disk, G: Gate>(
     index: E,
     gate: &G,
 ) -> (Status, D, E)
-    ensures usage { (result.0 ≡ Status.Usage) ↔ (the_command (map string_bytes words.now) ≡ None) }
+    ensures usage { result.0 ≡ Status.Usage → (command : Command) → Asks (map string_bytes words.now) command → ⊥ }
+    ensures no_command { ((command : Command) → Asks (map string_bytes words.now) command → ⊥) → (result.0 ≡ Status.Usage) ⊎ (result.0 ≡ Status.NoMemory) }
+    ensures unasked { ((command : Command) → Asks (map string_bytes words.now) command → ⊥) → (input.new ≡ input.old) × (out.new ≡ out.old) × (result.1 ≡ rows) }
     ensures refused { result.0 ≡ Status.Usage → (input.new ≡ input.old) × (out.new ≡ out.old) × (result.1 ≡ rows) }
 
     // What each command has done, by its status.
-    ensures creates { the_command (map string_bytes words.now) ≡ Some Command.Create → (input.new ≡ input.old) × (IsTrue O.tells → IsTrue D.tells
-        → CreateEnds result.0 (slice_index_or (map string_bytes words.now) 3 []) (D.seen rows 0) (D.seen result.1 0) (O.holds out.old) (O.holds out.new)) }
-    ensures runs { the_command (map string_bytes words.now) ≡ Some Command.Run → IsTrue I.tells → IsTrue O.tells → IsTrue D.tells
+    ensures creates { (settings : Settings) → Asks (map string_bytes words.now) (Command.Create settings) → (input.new ≡ input.old) × (IsTrue O.tells → IsTrue D.tells
+        → CreateEnds result.0 settings (D.seen rows 0) (D.seen result.1 0) (O.holds out.old) (O.holds out.new)) }
+    ensures runs { Asks (map string_bytes words.now) Command.Run → IsTrue I.tells → IsTrue O.tells → IsTrue D.tells
         → (start : State) → IsDatabase start (D.seen rows 0)
-        → Runs LARGEST_LOG result.0 start (I.left input.old) (I.left input.new) (O.holds out.old) (O.holds out.new) (D.seen rows 0) (D.seen result.1 0) }
-    ensures no_database { the_command (map string_bytes words.now) ≡ Some Command.Run → IsTrue D.tells → IsNoDatabase (D.seen rows 0)
+        → Runs standard_limits result.0 start (I.left input.old) (I.left input.new) (O.holds out.old) (O.holds out.new) (D.seen rows 0) (D.seen result.1 0) }
+    ensures no_database { Asks (map string_bytes words.now) Command.Run → IsTrue D.tells → IsNoDatabase (D.seen rows 0)
         → Refuses result.0 (D.seen rows 0) × (input.new ≡ input.old) × (out.new ≡ out.old) × (D.seen result.1 ≡ D.seen rows) }
 
     // Where it is Done.
-    ensures create_done { the_command (map string_bytes words.now) ≡ Some Command.Create → result.0 ≡ Status.Done → IsTrue O.tells → IsTrue D.tells
-        → Creates (slice_index_or (map string_bytes words.now) 3 []) (D.seen rows 0) (D.seen result.1 0) (O.holds out.old) (O.holds out.new) }
-    ensures run_done { the_command (map string_bytes words.now) ≡ Some Command.Run → result.0 ≡ Status.Done → IsTrue I.tells → IsTrue O.tells → IsTrue D.tells
-        → (start : State) × IsDatabase start (D.seen rows 0) × Completes LARGEST_LOG start (I.left input.old) (O.holds out.old) (O.holds out.new) (D.seen result.1 0) }
+    ensures create_done { (settings : Settings) → Asks (map string_bytes words.now) (Command.Create settings) → result.0 ≡ Status.Done → IsTrue O.tells → IsTrue D.tells
+        → Creates settings (D.seen rows 0) (D.seen result.1 0) (O.holds out.old) (O.holds out.new) }
+    ensures run_done { Asks (map string_bytes words.now) Command.Run → result.0 ≡ Status.Done → IsTrue I.tells → IsTrue O.tells → IsTrue D.tells
+        → (start : State) × IsDatabase start (D.seen rows 0) × Completes standard_limits start (I.left input.old) (O.holds out.old) (O.holds out.new) (D.seen result.1 0) }
 
     // When each other status comes.
     ensures already { result.0 ≡ Status.AlreadyCreated → (input.new ≡ input.old) × (out.new ≡ out.old) × (IsTrue D.tells → IsCreated (D.seen rows 0) × (D.seen result.1 ≡ D.seen rows)) }
@@ -142,24 +147,25 @@ pub fn fts_once<I: Source, O: Sink, D: Disk, E: Disk, G: Gate>(
     ensures too_long { (lines bytes : ℕ) → result.0 ≡ Status.ScriptTooLong lines bytes → IsTrue I.tells → PassesLimit bytes (I.left input.old) (I.left input.new) }
 
     // Without a fault a command that fits the devices ends as Done, or for want of memory.
-    ensures create_complete { the_command (map string_bytes words.now) ≡ Some Command.Create → IsTrue D.tells → (IsCreated (D.seen rows 0) → ⊥)
+    ensures create_complete { (settings : Settings) → Asks (map string_bytes words.now) (Command.Create settings) → IsTrue D.tells → (IsCreated (D.seen rows 0) → ⊥)
         → (Rose (O.faults out.old) (O.faults out.new) → ⊥) → (Rose (D.faults rows) (D.faults result.1) → ⊥) → Finishes result.0 }
-    ensures run_complete { the_command (map string_bytes words.now) ≡ Some Command.Run → IsTrue I.tells → IsTrue D.tells → (state : State) → IsDatabase state (D.seen rows 0)
+    ensures run_complete { Asks (map string_bytes words.now) Command.Run → IsTrue I.tells → IsTrue D.tells → (state : State) → IsDatabase state (D.seen rows 0)
         → length (I.left input.old) ≤ 2 ^ 40
         → (Rose (I.faults input.old) (I.faults input.new) → ⊥) → (Rose (O.faults out.old) (O.faults out.new) → ⊥) → (Rose (D.faults rows) (D.faults result.1) → ⊥)
         → Finishes result.0 }
 
     ensures index { result.2 ≡ index }
 {
-    match command_of(words) {
-        None => (Status::Usage, rows, index),
-        Some(Command::Create) => {
-            let (status, rows) = create(alloc, words[3].as_bytes(), out, rows);
+    match command_of(alloc, words) {
+        Ok(None) => (Status::Usage, rows, index),
+        Ok(Some(Command::Create { settings })) => {
+            let (status, rows) = create(alloc, &settings, out, rows);
             (status, rows, index)
         }
-        Some(Command::Run) => {
-            let (status, rows) = run_script(alloc, input, out, rows, LIMIT, gate);
+        Ok(Some(Command::Run)) => {
+            let (status, rows) = run_script(alloc, input, out, rows, Limits::standard(), gate);
             (status, rows, index)
         }
+        Err(AllocError) => (Status::NoMemory, rows, index),
     }
 }

@@ -64,7 +64,7 @@ fn one_line<I: Source, O: Sink, S: EngineSteps, G: Gate>(
         (O.holds out.old) (O.holds out.new) steps.old steps.new }
     ensures ends { GoesOnOrEnds result }
     ensures ready { IsTrue S.tells → (state : State) → S.stands state steps.old → result ≡ Turn.More → (after : State) × S.stands after steps.new }
-    ensures limit { S.limit steps.new ≡ S.limit steps.old }
+    ensures limits { S.limits steps.new ≡ S.limits steps.old }
     ensures progress { result ≡ Turn.More → work_left lines.new < work_left lines.old }
     ensures counts { IsTrue I.tells → taken_by lines.new + length (I.left input.new) ≡ taken_by lines.old + length (I.left input.old) }
     ensures read { result ≡ Turn.Over Status.ReadFault → Rose (I.faults input.old) (I.faults input.new) }
@@ -125,7 +125,7 @@ fn send<O: Sink>(alloc: Global, out: &mut O, reply: &Reply) -> Turn
         Ok(text) => text,
         Err(_) => return Turn::Over(Status::NoMemory),
     };
-    match write_whole(out, text.as_bytes()) {
+    match write_whole(out, &text) {
         Ok(()) => Turn::More,
         Err(_) => Turn::Over(Status::WriteFault),
     }

@@ -1,13 +1,19 @@
 //! The plain data that the other crates share: ids, texts and settings.
 #![tactic(auto)]
 
+mod check;
+mod columns;
 mod ids;
+mod limits;
 mod settings;
 mod table;
 mod texts;
 mod word;
 
+pub use check::{BadSettings, Field};
+pub use columns::is_column_name;
 pub use ids::{DocId, Key};
+pub use limits::Limits;
 pub use settings::Settings;
 pub use table::partition_of;
 pub use texts::{Names, RowTexts, Texts};

@@ -1,6 +1,6 @@
-ghost use Rattle.std.specs.Prelude.{◌≡◌, ℕ, ◌<◌, ◌↔◌, List, [], ◌∷◌, ◌++◌, ◌≤◌, length, map, sum_by, IsTrue, OnOk, OnErr, IfErr, slice_index_or};
+ghost use Rattle.std.specs.Prelude.{◌≡◌, ℕ, ◌<◌, ◌↔◌, List, [], ◌∷◌, ◌++◌, ◌≤◌, length, map, sum_by, IsTrue, OnOk, OnErr, IfOk, IfErr, IfSome, IfNone, ◌^◌, slice_index_or};
 
-use std::alloc::{AllocFailed, Global};
+use std::alloc::{AllocError, AllocFailed, Global};
 use std::marker::Model;
 
 /// A list of texts, each a row of bytes. Contracts see it as the list of their bytes.
@@ -48,6 +48,13 @@ impl Texts {
         texts
     }
 
+    /// The texts.
+    pub fn as_slice(&self) -> &[Vec<u8>]
+        ensures { self.now ≡ map (λ v. v.items) result.now }
+    {
+        &self.texts
+    }
+
     /// How many texts there are.
     pub fn len(&self) -> usize
         ensures { result ≡ length self.now }
@@ -68,6 +75,29 @@ impl Texts {
         ensures { result.now ≡ slice_index_or self.now place [] }
     {
         self.texts[place].as_slice()
+    }
+
+    /// How many bytes they have together, where a `usize` holds the number.
+    pub fn size(&self) -> Option<usize>
+        ensures size { IfSome result (λ size. size ≡ sum_by length self.now) }
+        ensures none { IfNone result (2 ^ 64 ≤ sum_by length self.now) }
+    {
+        let mut size: usize = 0;
+        for place in 0..self.len() {
+            size = size.checked_add(self.text(place).len())?;
+        }
+        Some(size)
+    }
+
+    /// A copy of the texts, in the allocator's memory.
+    pub fn copied(&self, alloc: Global) -> Result<Self, AllocError>
+        ensures { IfOk result (λ texts. texts ≡ self.now) }
+    {
+        let mut texts = Texts::new(alloc);
+        for place in 0..self.len() {
+            texts.push(self.text(place).to_vec(alloc)?)?;
+        }
+        Ok(texts)
     }
 
     /// Whether these can be the texts of a row: 1 to 8 columns, of at most 65,535 bytes together.
@@ -119,6 +149,18 @@ mod tests {
         let texts = Texts::from_vec(texts.into_vec());
         assert_eq!(rt; texts.len(), 2);
         assert_eq!(rt; texts.text(1), b"phrase b".as_slice());
+        Ok(())
+    }
+
+    #[test]
+    fn texts_are_copied(rt: HostRuntime) -> Result<(), Fail> {
+        let alloc = rt.alloc();
+        let mut texts = Texts::new(alloc);
+        texts.push(b"pear".to_vec(alloc)?)?;
+        texts.push(b"an apple".to_vec(alloc)?)?;
+        let copy = texts.copied(alloc)?;
+        assert_eq!(rt; copy.size(), Some(12));
+        assert_eq!(rt; copy.text(1), b"an apple".as_slice());
         Ok(())
     }
 }

@@ -1,32 +1,30 @@
 use super::*;
+use std::process::Abort;
 use std::test::Fail;
 
+fn tells(rt: &impl Abort, alloc: Global, reply: Reply, wanted: &str) -> Result<(), Fail> {
+    assert_eq!(rt; reply_text(alloc, &reply)?.as_slice(), wanted.as_bytes());
+    Ok(())
+}
+
+fn found(rt: &impl Abort, alloc: Global, docs: &[u64], wanted: &str) -> Result<(), Fail> {
+    let docs = DocIds::new(Vec::from_slice(alloc, docs)?);
+    tells(rt, alloc, Reply::Found { number: 3, docs }, wanted)
+}
+
 #[test]
-fn replies_have_their_texts(rt: HostRuntime) -> Result<(), Fail> {
+fn a_search_is_told(rt: HostRuntime) -> Result<(), Fail> {
+    let alloc = rt.alloc();
+    found(&rt, alloc, &[], "OK as of 3: none\n")?;
+    found(&rt, alloc, &[1], "OK as of 3: 1\n")?;
+    found(&rt, alloc, &[1, 2, 30], "OK as of 3: 1 2 30\n")
+}
+
+#[test]
+fn numbers_are_told(rt: HostRuntime) -> Result<(), Fail> {
     let alloc = rt.alloc();
     for (reply, wanted) in [
         (Reply::Committed { number: 1 }, "OK commit 1\n"),
-        (
-            Reply::Found {
-                number: 1,
-                docs: DocIds::new(vec![in alloc]?),
-            },
-            "OK as of 1: none\n",
-        ),
-        (
-            Reply::Found {
-                number: 2,
-                docs: DocIds::new(vec![in alloc; 1]?),
-            },
-            "OK as of 2: 1\n",
-        ),
-        (
-            Reply::Found {
-                number: 3,
-                docs: DocIds::new(vec![in alloc; 1, 2, 30]?),
-            },
-            "OK as of 3: 1 2 30\n",
-        ),
         (
             Reply::DuplicateKey {
                 change: 1,
@@ -38,9 +36,70 @@ fn replies_have_their_texts(rt: HostRuntime) -> Result<(), Fail> {
         (Reply::Syntax { at: 1 }, "ERROR syntax at 1\n"),
         (Reply::QuerySyntax { at: 1 }, "ERROR query syntax at 1\n"),
         (Reply::LineTooLong, "ERROR line too long\n"),
+        (Reply::Nothing, ""),
+        (Reply::WrongColumns, "ERROR columns and values do not fit\n"),
     ] {
-        assert_eq!(rt; reply_text(alloc, &reply)?.as_str(), wanted);
+        tells(&rt, alloc, reply, wanted)?;
     }
-    assert_eq!(rt; created_text(), "OK created\n");
     Ok(())
+}
+
+#[test]
+fn limits_of_rows_are_told(rt: HostRuntime) -> Result<(), Fail> {
+    let alloc = rt.alloc();
+    for (reply, wanted) in [
+        (
+            Reply::DocIdOrder {
+                given: 5,
+                largest: 7,
+            },
+            "ERROR document id 5 not above 7\n",
+        ),
+        (
+            Reply::DocIdGap {
+                given: 131071,
+                largest: 65535,
+            },
+            "ERROR document id 131071 more than 65535 above 65535\n",
+        ),
+        (
+            Reply::IdsFull { largest: 2 },
+            "ERROR document ids full at 2\n",
+        ),
+        (
+            Reply::TextTooLong {
+                change: 1,
+                length: 65536,
+            },
+            "ERROR text too long 65536 in change 1\n",
+        ),
+        (Reply::RowsFull { rows: 3 }, "ERROR rows full at 3\n"),
+    ] {
+        tells(&rt, alloc, reply, wanted)?;
+    }
+    Ok(())
+}
+
+#[test]
+fn a_name_is_told_as_it_is_written(rt: HostRuntime) -> Result<(), Fail> {
+    let alloc = rt.alloc();
+    let name = Text::new(Vec::from_slice(alloc, b"Books")?);
+    tells(
+        &rt,
+        alloc,
+        Reply::NoSuchTable { name },
+        "ERROR no such table Books\n",
+    )?;
+    let name = Text::new(Vec::from_slice(alloc, b"nope")?);
+    tells(
+        &rt,
+        alloc,
+        Reply::NoSuchColumn { name },
+        "ERROR no such column nope\n",
+    )
+}
+
+#[test]
+fn the_making_is_told(rt: HostRuntime) {
+    assert_eq!(rt; created_text(), "OK created\n");
 }

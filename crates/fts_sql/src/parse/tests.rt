@@ -1,113 +1,225 @@
 use super::*;
+use crate::value::Value;
 use std::test::Fail;
 
-#[test]
-fn inserts_are_read(rt: HostRuntime) -> Result<(), Fail> {
-    for (line, wanted_key, wanted) in [
-        (
-            "INSERT INTO docs (id, body) VALUES (1, 'apple pie')",
-            1,
-            "apple pie",
-        ),
-        (
-            "insert into DOCS ( ID , Body ) values(1,'it''s')",
-            1,
-            "it's",
-        ),
-        (
-            "\tINSERT\tINTO docs(id,body)VALUES(18446744073709551615,'')\r",
-            u64::MAX,
-            "",
-        ),
-        (
-            "INSERT INTO docs (id, body) VALUES (007, '\t~''''')  ",
-            7,
-            "\t~''",
-        ),
-    ] {
-        match parse_statement(rt.alloc(), b"body", line.as_bytes())? {
-            Statement::Insert { key, text } => {
-                assert_eq!(rt; key, wanted_key, "in {line}");
-                assert_eq!(rt; text.as_slice(), wanted.as_bytes(), "in {line}");
-            }
-            Statement::Match { .. } => assert!(rt; false, "in {line}"),
-        }
-    }
-    Ok(())
-}
-
-#[test]
-fn searches_are_read(rt: HostRuntime) -> Result<(), Fail> {
-    for (line, wanted) in [
-        (
-            "SELECT FTS_DOC_ID FROM docs WHERE MATCH (body) AGAINST ('pie' IN BOOLEAN MODE)",
-            "pie",
-        ),
-        (
-            "select fts_doc_id from docs where match(BODY)against('+pie'in boolean mode)",
-            "+pie",
-        ),
-        (
-            "SELECT FTS_DOC_ID FROM docs WHERE MATCH ( body ) AGAINST ( '' IN BOOLEAN MODE ) \t\r",
-            "",
-        ),
-    ] {
-        match parse_statement(rt.alloc(), b"body", line.as_bytes())? {
-            Statement::Match { query } => assert_eq!(rt;
-                query.as_slice(),
-                wanted.as_bytes(),
-                "in {line}"
-            ),
-            Statement::Insert { .. } => assert!(rt; false, "in {line}"),
-        }
-    }
-    Ok(())
-}
-
-#[test]
-fn other_lines_are_refused(rt: HostRuntime) {
-    for line in [
-        "",
-        " \t\r",
-        "SELEC",
-        "INSERT INTO docs (id, body) VALUES (1, 'apple'",
-        "INSERT INTO docs (id, body) VALUES (1, 'apple') x",
-        "INSERT INTO docs (id, body) VALUES (1, 'apple');",
-        "INSERT INTO docs (id, body) VALUES (1a, 'apple')",
-        "INSERT INTO docs (id, body) VALUES (18446744073709551616, 'apple')",
-        "INSERT INTO docs (id, body) VALUES (1, 'apple\x7f')",
-        "INSERT INTO docs (id, body) VALUES (1, 'apple\n')",
-        "INSERT INTO docs (id, body) VALUES (1, 'apple)",
-        "INSERT INTO docs (id, body) VALUES (, 'apple')",
-        "INSERT INTO docs (id, title) VALUES (1, 'apple')",
-        "INSERTINTO docs (id, body) VALUES (1, 'apple')",
-        "SELECT FTS_DOC_ID FROM docs WHERE MATCH (body) AGAINST ('pie' IN BOOLEAN MODE",
-        "SELECT FTS_DOC_ID FROM docs WHERE MATCH (body) AGAINST ('pie' IN NATURAL LANGUAGE MODE)",
-    ] {
-        assert!(rt; is_refused(rt.alloc(), line.as_bytes()), "in {line}");
+/// What a line is answered: its place of fault, 0 for a statement, or `NONE` for a blank line.
+fn place(alloc: Global, line: &[u8]) -> u64 {
+    match parse_statement(alloc, line) {
+        Ok(Some(_)) => 0,
+        Ok(None) => NONE,
+        Err(ParseError::Syntax { at }) => at,
+        Err(ParseError::NoMemory) => NO_MEMORY,
     }
 }
 
+/// The first bytes of a line, or all of it.
+fn front(line: &str, length: usize) -> &[u8] {
+    let bytes = line.as_bytes();
+    if length < bytes.len() {
+        return &bytes[..length];
+    }
+    bytes
+}
+
+const NONE: u64 = 1_000_000;
+
+const NO_MEMORY: u64 = 2_000_000;
+
+const INSERT: &str = "INSERT INTO t (a,b) VALUES (1,'x''');";
+
+/// The answer to each front of `INSERT`, by its length.
+const INSERT_PLACES: [u64; 38] = [
+    NONE, 1, 1, 1, 1, 1, 7, 8, 8, 8, 8, 12, 13, 14, 15, 16, 17, 18, 19, 20, 21, 21, 21, 21, 21, 21,
+    27, 28, 29, 30, 31, 31, 31, 34, 31, 36, 0, 0,
+];
+
 #[test]
-fn a_text_has_at_most_65535_bytes(rt: HostRuntime) -> Result<(), Fail> {
-    for (bytes, wanted) in [(65_535, false), (65_536, true)] {
-        let mut line = String::from_str(rt.alloc(), "INSERT INTO docs (id, body) VALUES (1, '")?;
-        for _ in 0..bytes {
-            line.push('a')?;
-        }
-        line.push_str("')")?;
+fn fronts_of_an_insert(rt: HostRuntime) {
+    for (length, wanted) in INSERT_PLACES.iter().enumerate() {
         assert_eq!(rt;
-            is_refused(rt.alloc(), line.as_bytes()),
-            wanted,
-            "at {bytes}"
+            place(rt.alloc(), front(INSERT, length)),
+            *wanted,
+            "at {length}"
         );
     }
+}
+
+const MATCH: &str = "SELECT FTS_DOC_ID FROM t WHERE MATCH (a) AGAINST ('x' IN BOOLEAN MODE);";
+
+/// The answer to each front of `MATCH`, by its length.
+const MATCH_PLACES: [u64; 72] = [
+    NONE, 1, 1, 1, 1, 1, 7, 8, 8, 8, 8, 8, 8, 8, 8, 8, 8, 18, 19, 19, 19, 19, 23, 24, 25, 26, 26,
+    26, 26, 26, 31, 32, 32, 32, 32, 32, 37, 38, 39, 40, 41, 42, 42, 42, 42, 42, 42, 42, 49, 50, 51,
+    51, 51, 54, 55, 55, 57, 58, 58, 58, 58, 58, 58, 58, 65, 66, 66, 66, 66, 70, 0, 0,
+];
+
+#[test]
+fn fronts_of_a_match(rt: HostRuntime) {
+    for (length, wanted) in MATCH_PLACES.iter().enumerate() {
+        assert_eq!(rt;
+            place(rt.alloc(), front(MATCH, length)),
+            *wanted,
+            "at {length}"
+        );
+    }
+}
+
+const TAKEN: [&str; 8] = [
+    "insert into DOCS (ID, Body) values (1, 'it''s'); ",
+    "INSERT INTO docs (id) VALUES (1)",
+    "\tINSERT\tINTO docs(id,body)VALUES(18446744073709551615,'')\r",
+    "INSERT INTO docs (id, body) VALUES (007, '\t~''''') ; ",
+    "INSERT INTO _1 (id, id, x9) VALUES ('a', 2)",
+    "insert into insert (values) values ('values')",
+    "select fts_doc_id from docs where match(BODY)against('+pie'in boolean mode)",
+    "Select FTS_doc_id From d Where Match ( a , b ) Against ( '' In Boolean Mode ) ; \t\r",
+];
+
+#[test]
+fn statements_are_taken(rt: HostRuntime) {
+    for line in TAKEN {
+        assert_eq!(rt; place(rt.alloc(), line.as_bytes()), 0, "in {line}");
+    }
+}
+
+const BLANK: [&str; 7] = ["", " ", " \t\r", "-- note", "  --", "\t\r-- INSERT", "---"];
+
+#[test]
+fn blank_lines_say_nothing(rt: HostRuntime) {
+    for line in BLANK {
+        assert_eq!(rt; place(rt.alloc(), line.as_bytes()), NONE, "in {line}");
+    }
+}
+
+/// Lines with a token that no statement can have at its place, and the place.
+const MISPLACED: [(&str, u64); 16] = [
+    ("SELEC", 1),
+    ("DELETE FROM docs WHERE id = 1", 1),
+    ("BEGIN", 1),
+    ("SELECT * FROM docs", 8),
+    ("7: INSERT INTO docs (id) VALUES (1)", 1),
+    (";", 1),
+    ("INSERTINTO docs (id) VALUES (1)", 1),
+    ("INSERT INTO docs () VALUES (1)", 19),
+    ("INSERT INTO docs (id,) VALUES (1)", 22),
+    ("INSERT INTO docs (id) VALUES ()", 31),
+    ("INSERT INTO docs (id) VALUES (1a)", 32),
+    ("INSERT INTO 'docs' (id) VALUES (1)", 13),
+    ("INSERT INTO docs (id) VALUES (1) x", 34),
+    ("INSERT INTO docs (id) VALUES (1);;", 34),
+    (
+        "INSERT INTO docs (id) VALUES (1); INSERT INTO docs (id) VALUES (2)",
+        35,
+    ),
+    ("INSERT INTO docs (id) VALUES (1); -- note", 35),
+];
+
+#[test]
+fn misplaced_tokens_are_faults(rt: HostRuntime) {
+    for (line, wanted) in MISPLACED {
+        assert_eq!(rt; place(rt.alloc(), line.as_bytes()), wanted, "in {line}");
+    }
+}
+
+/// Lines with something that is no token, and the place of its fault; and lines that end too early.
+const UNREADABLE: [(&str, u64); 14] = [
+    ("INSERT INTO docs (id) VALUES (18446744073709551616)", 31),
+    ("INSERT INTO docs (id) VALUES (18446744073709551616a)", 31),
+    ("18446744073709551616", 1),
+    ("INSERT INTO docs (id, body) VALUES (1, 'x", 40),
+    ("INSERT INTO docs (id, body) VALUES (1, 'x'')", 40),
+    ("INSERT INTO docs (id, body) VALUES (1, 'x\x7f')", 42),
+    ("INSERT INTO docs (id, body) VALUES (1, 'x\ny')", 42),
+    ("INSERT INTO docs (id, body) VALUES (1, '''\n", 43),
+    ("INSERT 'a\n", 10),
+    ("INSERT 'a", 8),
+    ("SELECT - FROM docs", 8),
+    ("INSERT INTO docs (id) VALUES (-1)", 31),
+    ("INSERT INTO docs  \r", 20),
+    ("SELECT\t", 8),
+];
+
+#[test]
+fn unreadable_pieces_are_faults(rt: HostRuntime) {
+    for (line, wanted) in UNREADABLE {
+        assert_eq!(rt; place(rt.alloc(), line.as_bytes()), wanted, "in {line}");
+    }
+}
+
+#[test]
+fn an_insert_has_its_parts(rt: HostRuntime) -> Result<(), Fail> {
+    let line = b"insert into DOCS (ID, Body) values (1, 'it''s'); ";
+    let Some(
+        Statement::Insert {
+            table,
+            columns,
+            values,
+        },
+    ) = parse_statement(rt.alloc(), line)?
+    else {
+        assert!(rt; false);
+        return Ok(());
+    };
+    assert_eq!(rt; table.as_slice(), b"DOCS".as_slice());
+    assert!(rt;
+        columns.len() == 2
+            && columns.text(0) == b"ID".as_slice()
+            && columns.text(1) == b"Body".as_slice()
+    );
+    match values.as_slice() {
+        [Value::Number(1), Value::Text(text)] => assert_eq!(rt;
+            text.as_slice(),
+            b"it's".as_slice()
+        ),
+        _ => assert!(rt; false),
+    }
     Ok(())
 }
 
-fn is_refused(alloc: Global, line: &[u8]) -> bool {
-    match parse_statement(alloc, b"body", line) {
-        Err(ParseError::Syntax { at }) => at == 1,
-        _ => false,
+#[test]
+fn a_match_has_its_parts(rt: HostRuntime) -> Result<(), Fail> {
+    let line = b"SELECT FTS_DOC_ID FROM Docs WHERE MATCH (A, b) AGAINST ('+pie' IN BOOLEAN MODE)";
+    let Some(
+        Statement::Match {
+            table,
+            columns,
+            query,
+        },
+    ) = parse_statement(rt.alloc(), line)?
+    else {
+        assert!(rt; false);
+        return Ok(());
+    };
+    assert_eq!(rt; table.as_slice(), b"Docs".as_slice());
+    assert!(rt;
+        columns.len() == 2
+            && columns.text(0) == b"A".as_slice()
+            && columns.text(1) == b"b".as_slice()
+    );
+    assert_eq!(rt; query.as_slice(), b"+pie".as_slice());
+    Ok(())
+}
+
+#[test]
+fn errors_are_printed(rt: HostRuntime) -> Result<(), Fail> {
+    assert_eq!(rt;
+        format!(in rt.alloc(); "{}", ParseError::Syntax { at: 40 })?.as_str(),
+        "syntax at 40"
+    );
+    assert_eq!(rt;
+        format!(in rt.alloc(); "{}", ParseError::NoMemory)?.as_str(),
+        "no memory"
+    );
+    Ok(())
+}
+
+#[test]
+fn a_long_text_is_taken(rt: HostRuntime) -> Result<(), Fail> {
+    let mut line = String::from_str(rt.alloc(), "INSERT INTO docs (id) VALUES ('")?;
+    for _ in 0..70_000 {
+        line.push_str("''")?;
     }
+    line.push_str("')")?;
+    assert_eq!(rt; place(rt.alloc(), line.as_bytes()), 0);
+    Ok(())
 }

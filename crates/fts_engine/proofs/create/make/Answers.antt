@@ -1,15 +1,15 @@
 use Rattle.std.proofs.Common.{◌≡◌, ℕ, List, [], ◌∷◌, ap, sym, subst, ◌∙◌, rules, arith}
 use Rattle.std.specs.Prelude.{Err}
 use Rattle.fts_log.specs.Frame.{payload_of}
-use Rattle.fts_log.specs.Log.{device_of, magic_of}
+use Rattle.fts_log.specs.Log.{device_of}
 use Rattle.fts_log.specs.Record.{IsLog}
 use Rattle.fts_steps.specs.State.{rows_magic}
 use Rattle.fts_engine.proofs.create.make.Goals as goal
 
 pub returns-in-Ok-append-clause-made : goal.returns-in-Ok-append-clause-made
-returns-in-Ok-append-clause-made g c told column name same =
+returns-in-Ok-append-clause-made g c told settings right same =
     let log = c.append.new.self in
-    let payload = payload_of c.args.settings.now in
+    let payload = payload_of c.args.framed.now in
     let stands = c.in-Ok-append.ensures.acknowledged told [] (c.in-Ok.ensures.created told) in
     let file : g.D.Disk.seen (device_of log) 0 ≡ g.D.Disk.seen c.close.result 0 = ap (λ device. g.D.Disk.seen device 0) (sym c.close.ensures) in
     let magic : IsLog rows_magic (payload ∷ []) (g.D.Disk.seen (device_of log) 0) =

@@ -6,12 +6,12 @@ use Rattle.fts_engine.proofs.load.load.Goals as goal
 handed_on : {T E : Type 0} (result : Result T E) (x y : E) → IsErrAnd result (λ e. e ≡ x) → IsErrOf result y → x ≡ y
 handed_on result x y gives is = sym (subst (λ result. IsErrAnd result (λ e. e ≡ x)) is gives)
 
-pub returns-in_err-column-clause-damaged : goal.returns-in_err-column-clause-damaged
-returns-in_err-column-clause-damaged g c place e told all stands =
-    let same : c.in_err-column.field-0.0 ≡ Damaged place = handed_on c.from_residual.result c.in_err-column.field-0.0 (Damaged place) c.from_residual.ensures.1 e in
-    c.in_err-column.ensures.damaged place (ap Err same) told all stands
+pub returns-in_err-settings-clause-damaged : goal.returns-in_err-settings-clause-damaged
+returns-in_err-settings-clause-damaged g c place e told all stands =
+    let same : c.in_err-settings.field-0.0 ≡ Damaged place = handed_on c.from_residual.result c.in_err-settings.field-0.0 (Damaged place) c.from_residual.ensures.1 e in
+    c.in_err-settings.ensures.damaged place (ap Err same) told all stands
 
 pub returns-in-Err-clause-damaged : goal.returns-in-Err-clause-damaged
 returns-in-Err-clause-damaged g c place e told all stands =
     let some : 0 < length all = omega (arith, stands.count, c.requires.some) in
-    c.in-Err.ensures.damaged place (let failed = e in cc) told all c.in_ok-column.column (c.in_ok-column.ensures.stays told all stands) (c.in_ok-column.ensures.loaded told all stands some)
+    c.in-Err.ensures.damaged place (let failed = e in cc) told all c.in_ok-settings.settings (c.in_ok-settings.ensures.stays told all stands) c.len.ensures (c.in_ok-settings.ensures.loaded told all stands some)

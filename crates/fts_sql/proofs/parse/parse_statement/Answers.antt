@@ -1,20 +1,30 @@
-use Rattle.std.proofs.Common.{◌≡◌, ◌⊎◌, Ok, Err, inl, inr, ap}
-use Rattle.fts_sql.specs.declared.statement.Statement.TheVariants.{Insert, Match}
-use Rattle.fts_sql.specs.declared.statement.ParseError.TheVariants.{NoMemory}
-use Rattle.fts_sql.specs.Statement.{IsStatement}
-use Rattle.fts_sql.proofs.Lines.{same_statement}
+use Rattle.std.proofs.Common.{inl, ap, subst, Ok, Err, Some}
+use Rattle.fts_sql.specs.declared.statement.ParseError.TheVariants.{Syntax}
+use Rattle.fts_sql.specs.Reader.{Says}
+use Rattle.fts_sql.proofs.Laws.{one_statement}
+use Rattle.fts_sql.proofs.Single.{one_fault, statement_or_fault, blank_or_statement}
 use Rattle.fts_sql.proofs.parse.parse_statement.Goals as goal
 
-pub returns-in-Err-Syntax-clause-exact : goal.returns-in-Err-Syntax-clause-exact
-returns-in-Err-Syntax-clause-exact c = λ statement is.
-    elim statement as (λ s. IsStatement c.args.column.now c.args.line.now s → (c.parse_match.result ≡ Ok s) ⊎ (c.parse_match.result ≡ Err NoMemory)) [
-      | Insert key text ↦ λ insert. elim (c.in-Err-Syntax.ensures.exact key text insert) [
-        | inl e ↦ cc
-        | inr e ↦ cc (e, c.in-Err-Syntax.field-0-is)
-      ]
-      | Match query ↦ λ search_is. c.parse_match.ensures.exact query search_is
-    ] is
+pub returns-then-is_blank-clause-exact : goal.returns-then-is_blank-clause-exact
+returns-then-is_blank-clause-exact c = λ statement is.
+    absurd (blank_or_statement c.args.line.now statement (c.is_blank.ensures.0 c.if-is_blank.true) is)
 
-pub returns-in-Ok-clause-exact : goal.returns-in-Ok-clause-exact
-returns-in-Ok-clause-exact c = λ statement is.
-    inl (ap Ok (same_statement c.args.column.now c.args.line.now c.in-Ok.statement statement c.in-Ok.ensures.statement is))
+pub returns-in-Ok-Statement-clause-exact : goal.returns-in-Ok-Statement-clause-exact
+returns-in-Ok-Statement-clause-exact c = λ statement is.
+    let said = subst (Says c.args.line.now) c.in-Ok-Statement.field-0-is c.in-Ok-Statement.ensures in
+    inl (ap (λ s. Ok (Some s)) (one_statement c.args.line.now c.in-Ok-Statement.statement statement said is))
+
+pub returns-in-Ok-Statement-clause-exact_fault : goal.returns-in-Ok-Statement-clause-exact_fault
+returns-in-Ok-Statement-clause-exact_fault c = λ at fault.
+    let said = subst (Says c.args.line.now) c.in-Ok-Statement.field-0-is c.in-Ok-Statement.ensures in
+    absurd (statement_or_fault c.args.line.now c.in-Ok-Statement.statement at said fault)
+
+pub returns-in-Ok-Fault-clause-exact : goal.returns-in-Ok-Fault-clause-exact
+returns-in-Ok-Fault-clause-exact c = λ statement is.
+    let said = subst (Says c.args.line.now) c.in-Ok-Fault.field-0-is c.in-Ok-Fault.ensures in
+    absurd (statement_or_fault c.args.line.now statement c.in-Ok-Fault.at is said)
+
+pub returns-in-Ok-Fault-clause-exact_fault : goal.returns-in-Ok-Fault-clause-exact_fault
+returns-in-Ok-Fault-clause-exact_fault c = λ at fault.
+    let said = subst (Says c.args.line.now) c.in-Ok-Fault.field-0-is c.in-Ok-Fault.ensures in
+    inl (ap (λ n. Err (Syntax n)) (one_fault c.args.line.now c.in-Ok-Fault.at at said fault))

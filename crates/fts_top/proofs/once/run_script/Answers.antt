@@ -6,7 +6,7 @@ use Rattle.fts_engine.specs.Stands.{Stands-reads, engine_device}
 use Rattle.fts_engine.proofs.Single.{one_database}
 use Rattle.fts_top.specs.Run.{EndsRun, Outcome}
 use Rattle.fts_top.specs.Once.{files}
-use Rattle.fts_top.proofs.Filing.{outcome_on_file}
+use Rattle.fts_top.proofs.Filing.{outcome_on_file, done_completes}
 use Rattle.fts_top.proofs.Fronts.{nothing_yet, again}
 use Rattle.fts_top.proofs.Finishing.{finished, rose_wider}
 use Rattle.fts_top.proofs.once.run_script.Goals as goal
@@ -42,14 +42,14 @@ returns-in-Ok-clause-runs g c tells_input tells_out tells start database =
     let stands = (c.in-Ok.ensures.opened tells).1 in
     let same = one_database start state (seen c.args.rows 0) database
     (subst (λ (f : ℕ → List ℕ). IsDatabase state (f 0)) (c.in-Ok.ensures.looks tells).seen (Stands-reads state c.in-Ok.engine stands)) in
-    let outcome = outcome_on_file _ c.args.limit (λ s. seen (engine_device s.engine) 0) (λ s d is. Stands-reads s d.engine is) (λ s d is. is)
-    c.run-status.result state script left held held' (record { engine = c.in-Ok.engine }) c.run-status.new.steps c.in-Ok.ensures.limit
+    let outcome = outcome_on_file _ c.args.limits (λ s. seen (engine_device s.engine) 0) (λ s d is. Stands-reads s d.engine is) (λ s d is. is)
+    c.run-status.result state script left held held' (record { engine = c.in-Ok.engine }) c.run-status.new.steps c.in-Ok.ensures.limits
     (c.run-status.ensures.runs tells_input tells_out tells state stands) in
-    let from_rows = subst (λ (f : ℕ → List ℕ). Outcome (files c.args.limit) c.run-status.result state script left held held' (f 0) (seen (engine_device c.run-status.new.steps.engine) 0))
+    let from_rows = subst (λ (f : ℕ → List ℕ). Outcome (files c.args.limits) c.run-status.result state script left held held' (f 0) (seen (engine_device c.run-status.new.steps.engine) 0))
     (c.in-Ok.ensures.looks tells).seen outcome in
-    let to_close = subst (λ (d : _). Outcome (files c.args.limit) c.run-status.result state script left held held' (seen c.args.rows 0) (seen d 0))
+    let to_close = subst (λ (d : _). Outcome (files c.args.limits) c.run-status.result state script left held held' (seen c.args.rows 0) (seen d 0))
     (sym c.close.ensures.device) from_rows in
-    inl (subst (λ (s : State). Outcome (files c.args.limit) c.run-status.result s script left held held' (seen c.args.rows 0) (seen c.close.result 0)) (sym same) to_close)
+    inl (subst (λ (s : State). Outcome (files c.args.limits) c.run-status.result s script left held held' (seen c.args.rows 0) (seen c.close.result 0)) (sym same) to_close)
 
 pub returns-in-Err-NoMemory-default-clause-runs : goal.returns-in-Err-NoMemory-default-clause-runs
 returns-in-Err-NoMemory-default-clause-runs g c tells_input tells_out tells start database =
@@ -58,7 +58,19 @@ returns-in-Err-NoMemory-default-clause-runs g c tells_input tells_out tells star
     let file = g.D.Disk.seen c.args.rows 0 in
     inl (inl (
       script,
-      again (files c.args.limit) start script script script held held held file file _
-          (nothing_yet (files c.args.limit) start script held file database) refl refl
+      again (files c.args.limits) start script script script held held held file file _
+          (nothing_yet (files c.args.limits) start script held file database) refl refl
           (ap (λ (f : ℕ → List ℕ). f 0) (c.in-Err-NoMemory-default.ensures.looks_err tells).seen),
     ))
+
+pub returns-in-Ok-clause-done : goal.returns-in-Ok-clause-done
+returns-in-Ok-clause-done g c e tells_input tells_out tells =
+    let seen = g.D.Disk.seen in
+    let state = (c.in-Ok.ensures.opened tells).0 in
+    let database = subst (λ (f : ℕ → List ℕ). IsDatabase state (f 0)) (c.in-Ok.ensures.looks tells).seen (Stands-reads state c.in-Ok.engine (c.in-Ok.ensures.opened tells).1) in (
+      state,
+      database,
+      done_completes c.run-status.result c.args.limits state (g.I.Source.left c.args.input.now) (g.I.Source.left c.run-status.new.input) (g.O.Sink.holds c.args.out.now)
+          (g.O.Sink.holds c.run-status.new.out) (seen c.args.rows 0) (seen c.close.result 0) e
+          (returns-in-Ok-clause-runs g c tells_input tells_out tells state database),
+    )

@@ -20,7 +20,7 @@ lines-preserved g c = record {
       (g.I.Source.left c.one_line.new.input) (g.O.Sink.holds c.args.out.now) (g.O.Sink.holds c.lines.out) (g.O.Sink.holds c.one_line.new.out)
       c.args.steps.now c.lines.steps c.one_line.new.steps front.0
       (c.in-More.ensures.turns tells_input tells_out tells_steps (after_all start front.0.calls) front.0.stands)
-      c.one_line.ensures.limit
+      c.one_line.ensures.limits
       (given_by c.lines.lines) (given_by c.one_line.new.lines) front.1 (c.one_line.ensures.given c.in-More.is);
   counts = λ tells. let one = c.one_line.ensures.counts tells in let old = c.lines.invariant.counts tells in omega arith;
   input_never_falls = omega arith;

@@ -1,0 +1,47 @@
+-- Words ask for one command alone.
+use Rattle.std.proofs.Common.{◌≡◌, ◌∙◌, ℕ, List, Option, Some, ap, codes, refl, slice_index, subst, sym, arith}
+use Rattle.clap.specs.Words.{Row, Text}
+use Rattle.fts_args.specs.Asked.{Asks, HasOptions, IsCommand}
+use Rattle.fts_args.specs.declared.command.Command.{Command}
+use Rattle.fts_args.specs.declared.command.Command.TheVariants.{Create, Run}
+use Rattle.fts_types.specs.declared.settings.Settings.{Settings}
+
+-- what is read of one value is one value
+same : {X : Type 0} (read : Option X) (x y : X) → read ≡ Some x → read ≡ Some y → x ≡ y
+same read x y is other = let both : Some x ≡ Some y = sym is ∙ other in cc
+
+-- options say one settings of these columns
+pub one_options : (rows : List Row) (s t : Settings) → s.columns ≡ t.columns → HasOptions rows s → HasOptions rows t → s ≡ t
+one_options rows s t columns h k =
+    let min = same _ _ _ h.min k.min in
+    let max = same _ _ _ h.max k.max in
+    let stopword = same _ _ _ h.stopword k.stopword in
+    let optimize_words = same _ _ _ h.optimize_words k.optimize_words in
+    let cache_bytes = same _ _ _ h.cache_bytes k.cache_bytes in
+    let batch_docs = same _ _ _ h.batch_docs k.batch_docs in
+    λ i. record {
+      columns = columns i;
+      min = min i;
+      max = max i;
+      stopword = stopword i;
+      optimize_words = optimize_words i;
+      cache_bytes = cache_bytes i;
+      batch_docs = batch_docs i;
+    }
+
+two_names : (name : Text) → name ≡ codes "create" → name ≡ codes "run" → ⊥
+two_names name create run =
+    let first : slice_index (codes "create") 0 ≡ slice_index (codes "run") 0 = ap (λ (t : Text). slice_index t 0) (sym create ∙ run) in
+    let bad : ◌≡◌ {A = ℕ} 99 114 = first in
+    omega arith
+
+one_command : (met : Text × List Row) (one other : Command) → IsCommand met one → IsCommand met other → one ≡ other
+one_command met (Create s) (Create t) h k = ap Create (one_options met.1 s t (same _ _ _ h.1.columns k.1.columns) h.1.options k.1.options)
+one_command met (Create s) Run h k = absurd (two_names met.0 h.0 k)
+one_command met Run (Create t) h k = absurd (two_names met.0 k.0 h)
+one_command met Run Run h k = refl
+
+pub asks_one : (words : List Text) (one other : Command) → Asks words one → Asks words other → one ≡ other
+asks_one words one other h k =
+    let met = same _ _ _ h.asked.1 k.asked.1 in
+    one_command k.asked.0 one other (subst (λ (m : Text × List Row). IsCommand m one) met h.asked.2) k.asked.2

@@ -1,0 +1,13 @@
+use fts_types::Settings;
+
+/// What the words of a command line ask for.
+#[derive(Debug, Drop)]
+pub enum Command {
+    /// A new database.
+    Create {
+        /// What is fixed for good when the database is made.
+        settings: Settings,
+    },
+    /// The statements of the standard input.
+    Run,
+}

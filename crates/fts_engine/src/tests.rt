@@ -1,0 +1,177 @@
+ghost use Rattle.std.specs.Prelude.{◌≡◌, ◌≤◌, ℕ, length, IfOk, IfSome};
+ghost use Rattle.fts_commits.specs.Fits.{IsText, FitsColumns, FitsNumbers, IsPlainInsert, CanCommit};
+ghost use Rattle.fts_steps.specs.State.{State};
+ghost use Rattle.fts_engine.specs.Stands.{Stands};
+
+use super::*;
+use fts_commits::Change;
+use fts_disk::MemDisk;
+use fts_steps::CommitError;
+use fts_types::{DocId, Key, Limits, Names, RowTexts, Settings};
+use std::alloc::{AllocError, Global};
+use std::test::Fail;
+
+/// Settings of a table with a title and a body.
+fn settings(alloc: Global) -> Result<Settings, AllocError> {
+    let mut columns = Names::new(alloc);
+    columns.push(b"title".to_vec(alloc)?)?;
+    columns.push(b"body".to_vec(alloc)?)?;
+    Ok(Settings {
+        columns,
+        min: 3,
+        max: 84,
+        stopword: true,
+        optimize_words: 2_000,
+        cache_bytes: 8_000_000,
+        batch_docs: 1_000,
+    })
+}
+
+/// A device without files.
+fn empty_disk(alloc: Global) -> Result<MemDisk, AllocError> {
+    MemDisk::from_files(alloc, Vec::new(alloc), Vec::new(alloc))
+}
+
+/// Makes a database on the device.
+fn create(alloc: Global, rows: MemDisk) -> Result<MemDisk, CreateError> {
+    let Ok(settings) = settings(alloc) else {
+        return Err(CreateError::NoMemory);
+    };
+    if settings.check().is_err() {
+        return Err(CreateError::NoMemory);
+    }
+    match create_engine(alloc, &settings, rows) {
+        Ok(rows) => Ok(rows),
+        Err((error, _)) => Err(error),
+    }
+}
+
+/// Opens the database on the device, for at most so many rows and bytes of its log.
+fn open(
+    alloc: Global,
+    rows: MemDisk,
+    most_rows: u64,
+    log_bytes: u64,
+) -> Result<Engine<MemDisk>, OpenError>
+    ensures { IfOk result (λ engine. (state : State) × Stands state engine) }
+{
+    let limits = Limits {
+        rows: most_rows.min(1_000_000),
+        ids: 1_000,
+        log_bytes: log_bytes.min(LARGEST_LOG),
+    };
+    match open_engine(alloc, rows, limits) {
+        Ok(engine) => Ok(engine),
+        Err((error, _)) => Err(error),
+    }
+}
+
+/// The INSERT of a row.
+fn insert(alloc: Global, key: Key, title: &[u8], body: &[u8]) -> Result<Change, AllocError>
+    requires title { IsText title.now }
+    requires body { IsText body.now }
+    ensures fits { IfOk result (FitsColumns 2) }
+    ensures plain { IfOk result IsPlainInsert }
+    ensures numbers { IfOk result FitsNumbers }
+{
+    let mut texts = RowTexts::new(alloc);
+    texts.push(title.to_vec(alloc)?)?;
+    texts.push(body.to_vec(alloc)?)?;
+    let doc = None;
+    Ok(Change::Insert { key, doc, texts })
+}
+
+/// The INSERTs of two rows with these keys.
+fn two_rows(alloc: Global, first: Key, second: Key) -> Result<Vec<Change>, AllocError>
+    ensures { IfOk result (λ changes. CanCommit 2 changes.items) }
+{
+    let pie = insert(alloc, first, b"Apple pie", b"with cream")?;
+    let plum = insert(alloc, second, b"Plum", b"no PIE, no apple")?;
+    Ok(vec![in alloc; pie, plum]?)
+}
+
+/// Commits changes of a table of two columns.
+fn commit(engine: &mut Engine<MemDisk>, changes: &[Change]) -> Option<Result<u64, CommitError>>
+    requires fits { CanCommit 2 changes.now }
+    requires stands { (state : State) × Stands state engine.old }
+{
+    if engine.settings().columns.len() != 2 {
+        return None;
+    }
+    Some(engine.commit(changes))
+}
+
+const FOUND: [(&str, &[DocId]); 6] = [
+    ("pie", &[1, 2]),
+    ("apple", &[1, 2]),
+    ("cream", &[1]),
+    ("plum", &[2]),
+    ("pi", &[]),
+    ("PIE", &[]),
+];
+
+/// Whether a search for each word finds what it should after the first commit.
+fn finds_all(engine: &Engine<MemDisk>) -> Result<bool, AllocError> {
+    for (word, want) in FOUND {
+        let view = engine.view(word.as_bytes())?;
+        if view.number != 1 || view.docs.as_slice() != want {
+            return Ok(false);
+        }
+    }
+    Ok(true)
+}
+
+#[test]
+fn a_commit_is_found_and_again_after_opening(rt: HostRuntime) -> Result<(), Fail> {
+    let alloc = rt.alloc();
+    let rows = create(alloc, empty_disk(alloc)?)?;
+    let mut engine = open(alloc, rows, 2, 4_096)?;
+    assert_eq!(rt; commit(&mut engine, &two_rows(alloc, 7, 3)?), Some(Ok(1)));
+    assert!(rt; finds_all(&engine)?);
+    let engine = open(alloc, engine.close(), 1, 0)?;
+    assert!(rt; finds_all(&engine)? && engine.commits() == 1);
+    Ok(())
+}
+
+/// What two rows of these keys are answered, where there may be so many rows and bytes of the log.
+const ANSWERS: [(Key, Key, u64, u64, Result<u64, CommitError>); 5] = [
+    (7, 3, 2, 115, Ok(1)),
+    (0, u64::MAX, 2, 115, Ok(1)),
+    (
+        5,
+        5,
+        2,
+        115,
+        Err(CommitError::DuplicateKey { change: 2, key: 5 }),
+    ),
+    (7, 3, 1, 115, Err(CommitError::RowsFull { rows: 2 })),
+    (7, 3, 2, 114, Err(CommitError::LogFull { end: 115 })),
+];
+
+#[test]
+fn a_commit_is_answered(rt: HostRuntime) -> Result<(), Fail> {
+    let alloc = rt.alloc();
+    for (first, second, most_rows, log_bytes, want) in ANSWERS {
+        let rows = create(alloc, empty_disk(alloc)?)?;
+        let mut engine = open(alloc, rows, most_rows, log_bytes)?;
+        let changes = two_rows(alloc, first, second)?;
+        assert_eq!(rt; commit(&mut engine, &changes), Some(want));
+    }
+    Ok(())
+}
+
+#[test]
+fn a_database_is_created_once(rt: HostRuntime) -> Result<(), Fail> {
+    let alloc = rt.alloc();
+    let mut rows = empty_disk(alloc)?;
+    assert!(rt; !is_created(&mut rows)?);
+    let opened = open(alloc, empty_disk(alloc)?, 2, 4_096);
+    assert_eq!(rt; opened.err(), Some(OpenError::NotCreated));
+    let mut rows = create(alloc, rows)?;
+    assert!(rt; is_created(&mut rows)?);
+    assert_eq!(rt;
+        create(alloc, rows).err(),
+        Some(CreateError::AlreadyCreated)
+    );
+    Ok(())
+}

@@ -1,0 +1,50 @@
+-- How long payloads are at most, so that a record's length fits its four bytes.
+use Rattle.std.proofs.Common.{◌≡◌, ℕ, ◌*◌, ◌<◌, ◌≤◌, ◌^◌, List, [], ◌∷◌, length, Some, None, refl, arith}
+use Rattle.std.specs.Prelude.{All}
+use Rattle.std.specs.List.{flat_map}
+use Rattle.std.proofs.lemmas.List.{length-append}
+use Rattle.std.proofs.lemmas.List.Elements.{All-head, All-tail}
+use Rattle.fts_types.specs.declared.settings.Settings.{Settings}
+use Rattle.fts_types.specs.Settings.{AreSettings}
+use Rattle.fts_commits.specs.Commit.{Commit}
+use Rattle.fts_commits.specs.declared.change.Change.{Change}
+use Rattle.fts_commits.specs.declared.change.Change.TheVariants.{Insert, Update, Delete}
+use Rattle.fts_rowcodec.specs.Payload.{IsWritten, FitsText, text_payload, change_payload, commit_payload, column_payload, numbers_payload, settings_payload}
+use Rattle.fts_rowcodec.specs.Reading.{IsRowChange}
+use Rattle.fts_rowcodec.proofs.Bounds.{few_columns, short_columns, row_changes}
+
+-- pieces of at most so many bytes each
+pieces_size : {X : Type 0} (f : X → List ℕ) (most : ℕ) (xs : List X) → All (λ x. length (f x) ≤ most) xs → length (flat_map f xs) ≤ length xs * most
+pieces_size f most [] each = omega arith
+pieces_size {X = X} f most (x ∷ xs) each =
+    let first : length (f x) ≤ most = All-head (λ (y : X). length (f y) ≤ most) x xs each in
+    let later : length (flat_map f xs) ≤ length xs * most = pieces_size f most xs (All-tail (λ (y : X). length (f y) ≤ most) x xs each) in
+    omega (arith, length-append (f x) (flat_map f xs))
+
+-- the payload of settings has at most 279 bytes
+pub settings_size : (settings : Settings) → AreSettings settings → length (settings_payload settings) ≤ 279
+settings_size settings are =
+    let short = short_columns settings are in
+    let few = few_columns settings are in
+    let columns = pieces_size column_payload 33 settings.columns (λ k d less. let name = short k d less in omega arith) in
+    let numbers : length (numbers_payload settings) ≡ 13 = refl in
+    omega (arith, length-append (flat_map column_payload settings.columns) (numbers_payload settings))
+
+-- a change of a row of at most 8 columns has at most 524,306
+pub change_size : (columns : ℕ) (change : Change) → columns ≤ 8 → IsRowChange columns change → length (change_payload change) ≤ 524306
+change_size columns (Insert key None texts) few is =
+    let each : All FitsText texts = is.2.1 in
+    let counted : length texts ≡ columns = is.0.0 in
+    let size = pieces_size text_payload 65537 texts (λ k d less. let text = each k d less in omega arith) in
+    omega arith
+change_size columns (Insert key (Some doc) texts) few is = absurd is.1
+change_size columns (Update key news) few is = absurd is.1
+change_size columns (Delete key) few is = absurd is.1
+
+-- the length of a commit's payload fits four bytes
+pub commit_size : (columns : ℕ) (commit : Commit) → columns ≤ 8 → IsWritten columns commit → length (commit_payload commit) < 2 ^ 32
+commit_size columns commit few is =
+    let changes = row_changes columns commit is in
+    let count : length commit ≤ 1000 = is.made.few in
+    let size = pieces_size change_payload 524306 commit (λ k d less. change_size columns _ few (changes k d less)) in
+    omega arith

@@ -1,0 +1,15 @@
+use Rattle.std.proofs.Common.{None, sym, arith}
+use Rattle.std.proofs.lemmas.List.{append-nil}
+use Rattle.fts_rowcodec.specs.Payload.{new_payload}
+use Rattle.fts_rowcodec.proofs.Lists.{put_more, put_all}
+use Rattle.fts_rowcodec.proofs.encode.put_new_texts.Goals as goal
+
+pub loop-place-init : goal.loop-place-init
+loop-place-init c = sym (append-nil c.args.bytes.now.items)
+
+pub loop-place-preserved : goal.loop-place-preserved
+loop-place-preserved c =
+    put_more new_payload c.args.texts.now c.loop-place.place None c.args.bytes.now.items c.loop-place.bytes.items c.put_new_text.new.bytes.items (omega arith) c.loop-place.invariant c.in_ok-put_new_text.ensures
+
+pub returns : goal.returns
+returns c = put_all new_payload c.args.texts.now c.loop-place.place c.args.bytes.now.items c.loop-place.bytes.items (omega arith) c.loop-place.invariant

@@ -1,0 +1,5 @@
+pub mod Places
+pub mod Ids
+pub mod Adding
+pub mod Drafting
+pub mod Searching

@@ -1,0 +1,209 @@
+ghost use Rattle.std.specs.Prelude.{All, IfOk};
+ghost use Rattle.fts_commits.specs.Fits.{IsPlainInsert};
+
+use super::*;
+use fts_commits::Change;
+use fts_types::{DocId, Key, Limits, RowTexts};
+use std::alloc::{AllocError, Global};
+use std::test::*;
+
+/// Texts of so many bytes each.
+fn texts_of(alloc: Global, lengths: &[usize]) -> Result<RowTexts, AllocError> {
+    let mut texts = RowTexts::new(alloc);
+    for length in lengths {
+        texts.push(vec![in alloc; b'a'; *length]?)?;
+    }
+    Ok(texts)
+}
+
+/// The INSERT of a row.
+fn insert(key: Key, texts: RowTexts) -> Change
+    ensures { IsPlainInsert result }
+{
+    let doc = None;
+    Change::Insert { key, doc, texts }
+}
+
+/// INSERTs of these keys, each with a text as long as its key says.
+fn inserts(alloc: Global, keys: &[Key]) -> Result<Vec<Change>, AllocError>
+    ensures { IfOk result (λ changes. All IsPlainInsert changes.items) }
+{
+    let mut changes = Vec::new(alloc);
+    for key in keys {
+        let texts = texts_of(alloc, &[*key as usize])?;
+        changes.push(insert(*key, texts))?;
+    }
+    Ok(changes)
+}
+
+/// Plans and installs.
+fn commit(rows: &mut Rows, changes: &[Change]) -> Result<(), PlanError>
+    requires inserts { All IsPlainInsert changes.now }
+{
+    let plan = rows.plan(changes)?;
+    rows.install(plan);
+    Ok(())
+}
+
+/// Commits INSERTs of these keys.
+fn commit_keys(rows: &mut Rows, alloc: Global, keys: &[Key]) -> Result<(), PlanError> {
+    let changes = inserts(alloc, keys)?;
+    commit(rows, &changes)
+}
+
+/// The id of the row with the key, and the length of its text as its id leads to it.
+fn seen(rows: &Rows, key: Key) -> Option<(DocId, usize)> {
+    let row = rows.row(key)?;
+    Some((row.doc, rows.text_of(row.doc)?.size()?))
+}
+
+#[test]
+fn ids_count_from_one(rt: HostRuntime) -> Result<(), Fail> {
+    let mut rows = Rows::new(rt.alloc(), Limits::standard());
+    assert_eq!(rt; commit_keys(&mut rows, rt.alloc(), &[7]), Ok(()));
+    assert_eq!(rt; commit_keys(&mut rows, rt.alloc(), &[3, 9]), Ok(()));
+    for (key, want) in [
+        (7, Some((1, 7))),
+        (3, Some((2, 3))),
+        (9, Some((3, 9))),
+        (1, None),
+    ] {
+        assert_eq!(rt; seen(&rows, key), want, "of {key}");
+    }
+    assert!(rt; rows.largest() == 3 && rows.len() == 3 && rows.text_of(4).is_none());
+    Ok(())
+}
+
+const REFUSED: [(&[Key], PlanError); 4] = [
+    (&[6, 5], PlanError::DuplicateKey { change: 2, key: 5 }),
+    (&[8, 9, 8], PlanError::DuplicateKey { change: 3, key: 8 }),
+    (&[1, 2, 3], PlanError::RowsFull { rows: 4 }),
+    (&[1, 2, 3, 4], PlanError::IdsFull { largest: 4 }),
+];
+
+#[test]
+fn a_refused_commit_changes_nothing(rt: HostRuntime) -> Result<(), Fail> {
+    let limits = Limits {
+        rows: 3,
+        ids: 4,
+        log_bytes: 0,
+    };
+    let mut rows = Rows::new(rt.alloc(), limits);
+    assert_eq!(rt; commit_keys(&mut rows, rt.alloc(), &[5]), Ok(()));
+    for (keys, want) in REFUSED {
+        assert_eq!(rt; commit_keys(&mut rows, rt.alloc(), keys), Err(want));
+        assert!(rt; rows.len() == 1 && rows.largest() == 1 && rows.row(keys[0]).is_none());
+    }
+    Ok(())
+}
+
+const LENGTHS: [(&[usize], Result<(), PlanError>); 4] = [
+    (&[65_535], Ok(())),
+    (
+        &[65_536],
+        Err(PlanError::TextTooLong {
+            change: 1,
+            length: 65_536,
+        }),
+    ),
+    (
+        &[40_000, 30_000],
+        Err(PlanError::TextTooLong {
+            change: 1,
+            length: 70_000,
+        }),
+    ),
+    (&[40_000, 25_535], Ok(())),
+];
+
+#[test]
+fn texts_have_a_longest(rt: HostRuntime) -> Result<(), Fail> {
+    for (lengths, want) in LENGTHS {
+        let mut rows = Rows::new(rt.alloc(), Limits::standard());
+        let changes = vec![in rt.alloc(); insert(1, texts_of(rt.alloc(), lengths)?)]?;
+        assert_eq!(rt; commit(&mut rows, &changes), want);
+    }
+    Ok(())
+}
+
+#[test]
+fn a_thousand_changes_are_one_commit(rt: HostRuntime) -> Result<(), Fail> {
+    let mut keys = Vec::new(rt.alloc());
+    for key in 0..1000 {
+        keys.push(1000 - key)?;
+    }
+    let mut rows = Rows::new(rt.alloc(), Limits::standard());
+    assert_eq!(rt; commit_keys(&mut rows, rt.alloc(), &keys), Ok(()));
+    assert_eq!(rt; seen(&rows, 1), Some((1000, 1)));
+    Ok(())
+}
+
+#[test]
+fn a_plan_tells_what_it_adds(rt: HostRuntime) -> Result<(), Fail> {
+    let mut rows = Rows::new(rt.alloc(), Limits::standard());
+    let changes = inserts(rt.alloc(), &[4, 2])?;
+    let plan = rows.plan(&changes).map_err(|_| Fail::from("refused"))?;
+    assert!(rt; plan.births().len() == 2 && plan.largest() == 2);
+    assert!(rt; plan.births()[1].key == 2 && plan.births()[1].doc == 2);
+    assert!(rt; rows.is_empty());
+    Ok(())
+}
+
+#[test]
+fn limits_can_be_set(rt: HostRuntime) -> Result<(), Fail> {
+    let mut rows = Rows::new(rt.alloc(), Limits::standard());
+    assert_eq!(rt; rows.limits(), Limits::standard());
+    rows.set_limits(Limits {
+        rows: 0,
+        ids: 9,
+        log_bytes: 9,
+    });
+    assert_eq!(rt;
+        commit_keys(&mut rows, rt.alloc(), &[1]),
+        Err(PlanError::RowsFull { rows: 1 })
+    );
+    Ok(())
+}
+
+const TEXTS: [(PlanError, &str); 7] = [
+    (PlanError::NoMemory, "no memory"),
+    (
+        PlanError::DuplicateKey { change: 2, key: 7 },
+        "duplicate key 7 in change 2",
+    ),
+    (
+        PlanError::DocIdOrder {
+            given: 3,
+            largest: 5,
+        },
+        "document id 3 is not above 5",
+    ),
+    (
+        PlanError::DocIdGap {
+            given: 99_999,
+            largest: 5,
+        },
+        "document id 99999 is too far above 5",
+    ),
+    (
+        PlanError::IdsFull { largest: 5 },
+        "no document id above 5 is left",
+    ),
+    (
+        PlanError::TextTooLong {
+            change: 1,
+            length: 70_000,
+        },
+        "texts of 70000 bytes in change 1",
+    ),
+    (PlanError::RowsFull { rows: 4 }, "too many rows: 4"),
+];
+
+#[test]
+fn errors_tell_their_cause(rt: HostRuntime) -> Result<(), Fail> {
+    for (error, want) in TEXTS {
+        let text = format!(in rt.alloc(); "{error}")?;
+        assert_eq!(rt; text.as_str(), want);
+    }
+    Ok(())
+}

@@ -1,0 +1,13 @@
+use Rattle.std.specs.Prelude.{◌<◌, ◌^◌, List, All}
+use Rattle.fts_commits.specs.Fits.{IsText}
+use Rattle.fts_sql.specs.declared.value.Value.{Value}
+use Rattle.fts_sql.specs.declared.value.Value.TheVariants.{Number, Text}
+
+-- a value that can stand in a row: a number has eight bytes, and a text the bytes of texts
+abbrev pub IsFit : Value → Type 0
+IsFit (Number n) = n < 2 ^ 64
+IsFit (Text text) = IsText text
+
+-- values that can stand in a row
+abbrev pub AreFit : List Value → Type 0
+AreFit values = All IsFit values

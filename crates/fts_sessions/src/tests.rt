@@ -1,0 +1,286 @@
+ghost use Rattle.std.specs.Prelude.{IfOk};
+ghost use Rattle.fts_steps.specs.State.{State};
+ghost use Rattle.fts_engine.specs.Stands.{Stands};
+
+use crate::insert::change_of;
+use crate::names::{are_insert_columns, are_text_columns, first_unknown, is_same};
+use crate::{Direct, Ended, Session};
+use fts_commits::Change;
+use fts_disk::MemDisk;
+use fts_engine::{Engine, create_engine, open_engine};
+use fts_io::OpenGate;
+use fts_schema::{Reply, reply_text};
+use fts_sql::{Statement, parse_statement};
+use fts_types::{Limits, Names, Settings};
+use std::alloc::{AllocError, Global};
+use std::test::Fail;
+
+/// Names, as a statement writes them.
+fn names_of(alloc: Global, names: &[&str]) -> Result<Names, AllocError> {
+    let mut all = Names::new(alloc);
+    for name in names {
+        all.push(name.as_bytes().to_vec(alloc)?)?;
+    }
+    Ok(all)
+}
+
+const SAME: [(&str, &str, bool); 7] = [
+    ("docs", "docs", true),
+    ("DoCs", "dOcS", true),
+    ("", "", true),
+    ("docs", "doc", false),
+    ("doc", "docs", false),
+    ("docs", "dogs", false),
+    ("a_1", "A_2", false),
+];
+
+#[test]
+fn names_are_the_same_case_apart(rt: HostRuntime) {
+    for (name, other, want) in SAME {
+        assert_eq!(rt;
+            is_same(name.as_bytes(), other.as_bytes()),
+            want,
+            "{name} {other}"
+        );
+    }
+}
+
+const COLUMNS: [&str; 2] = ["title", "body"];
+
+const UNKNOWN: [(&[&str], Option<usize>); 8] = [
+    (&["id", "title", "body"], None),
+    (&["Fts_Doc_Id", "BODY", "Id", "body"], None),
+    (&[], None),
+    (&["titles"], Some(0)),
+    (&["id", "titl"], Some(1)),
+    (&["body", "x", "title", "y"], Some(1)),
+    (&["id", "title", "body", ""], Some(3)),
+    (&["docs"], Some(0)),
+];
+
+#[test]
+fn the_first_unknown_name_is_found(rt: HostRuntime) -> Result<(), Fail> {
+    let columns = names_of(rt.alloc(), &COLUMNS)?;
+    for (names, want) in UNKNOWN {
+        let names = names_of(rt.alloc(), names)?;
+        assert_eq!(rt; first_unknown(&columns, &names), want);
+    }
+    Ok(())
+}
+
+/// Names, whether an INSERT may name these columns, and whether a search may.
+const NAMED: [(&[&str], bool, bool); 10] = [
+    (&["id", "title", "body"], true, false),
+    (&["ID", "Title", "BODY"], true, false),
+    (&["title", "body"], false, true),
+    (&["TITLE", "body"], false, true),
+    (&["id", "body", "title"], false, false),
+    (&["body", "title"], false, false),
+    (&["title", "body", "id"], false, false),
+    (&["title"], false, false),
+    (&["id", "fts_doc_id", "title", "body"], false, false),
+    (&[], false, false),
+];
+
+#[test]
+fn statements_name_all_columns_in_their_order(rt: HostRuntime) -> Result<(), Fail> {
+    let columns = names_of(rt.alloc(), &COLUMNS)?;
+    for (names, insert, search) in NAMED {
+        let names = names_of(rt.alloc(), names)?;
+        assert_eq!(rt; are_insert_columns(&columns, &names), insert);
+        assert_eq!(rt; are_text_columns(&columns, &names), search);
+    }
+    Ok(())
+}
+
+/// What the line's INSERT asks for, shown as text.
+fn shown(alloc: Global, columns: &Names, line: &str) -> Result<String, AllocError> {
+    match parse_statement(alloc, line.as_bytes()) {
+        Ok(
+            Some(
+                Statement::Insert {
+                    table: _,
+                    columns: names,
+                    values,
+                },
+            ),
+        ) => {
+            let change = change_of(alloc, columns, &names, &values)?;
+            told(alloc, &change)
+        }
+        _ => String::from_str(alloc, "no insert"),
+    }
+}
+
+/// The change as text: its key, and its texts with a bar before each.
+fn told(alloc: Global, change: &Option<Change>) -> Result<String, AllocError> {
+    let Some(
+        Change::Insert {
+            key,
+            doc: None,
+            texts,
+        },
+    ) = change
+    else {
+        return String::from_str(alloc, "none");
+    };
+    let mut all = format!(in alloc; "{key}")?;
+    for text in texts.as_slice() {
+        all.push('|')?;
+        all.push_str(str::from_utf8(text).unwrap_or("?"))?;
+    }
+    Ok(all)
+}
+
+const INSERTS: [(&str, &str); 9] = [
+    (
+        "INSERT INTO docs (id, title, body) VALUES (7, 'a', 'it''s')",
+        "7|a|it's",
+    ),
+    (
+        "INSERT INTO any (Id, TITLE, body) VALUES (0, '', '')",
+        "0||",
+    ),
+    ("INSERT INTO docs (id, title, body) VALUES (7, 'a')", "none"),
+    (
+        "INSERT INTO docs (id, title, body) VALUES (7, 'a', 'b', 'c')",
+        "none",
+    ),
+    (
+        "INSERT INTO docs (id, title, body) VALUES ('7', 'a', 'b')",
+        "none",
+    ),
+    (
+        "INSERT INTO docs (id, title, body) VALUES (7, 'a', 8)",
+        "none",
+    ),
+    (
+        "INSERT INTO docs (id, body, title) VALUES (7, 'a', 'b')",
+        "none",
+    ),
+    ("INSERT INTO docs (id, title) VALUES (7, 'a')", "none"),
+    ("INSERT INTO docs (title, body) VALUES ('a', 'b')", "none"),
+];
+
+#[test]
+fn an_insert_asks_for_its_change(rt: HostRuntime) -> Result<(), Fail> {
+    let columns = names_of(rt.alloc(), &COLUMNS)?;
+    for (line, want) in INSERTS {
+        let change = shown(rt.alloc(), &columns, line)?;
+        assert_eq!(rt; change.as_str(), want, "of {line}");
+    }
+    Ok(())
+}
+
+/// Settings of a table with these columns.
+fn settings_of(alloc: Global, columns: &[&str]) -> Result<Settings, AllocError> {
+    Ok(Settings {
+        columns: names_of(alloc, columns)?,
+        min: 3,
+        max: 84,
+        stopword: true,
+        optimize_words: 2_000,
+        cache_bytes: 8_000_000,
+        batch_docs: 1_000,
+    })
+}
+
+/// A database without commits of a table with a title and a body.
+fn created(alloc: Global) -> Result<MemDisk, Ended> {
+    let Ok(settings) = settings_of(alloc, &COLUMNS) else {
+        return Err(Ended::NoMemory);
+    };
+    let Ok(rows) = MemDisk::from_files(alloc, Vec::new(alloc), Vec::new(alloc)) else {
+        return Err(Ended::NoMemory);
+    };
+    if settings.check().is_err() {
+        return Err(Ended::NoMemory);
+    }
+    match create_engine(alloc, &settings, rows) {
+        Ok(rows) => Ok(rows),
+        Err(_) => Err(Ended::NoMemory),
+    }
+}
+
+/// The engine over it.
+fn engine(alloc: Global) -> Result<Engine<MemDisk>, Ended>
+    ensures { IfOk result (λ engine. (state : State) × Stands state engine) }
+{
+    match open_engine(alloc, created(alloc)?, Limits::standard()) {
+        Ok(engine) => Ok(engine),
+        Err(_) => Err(Ended::NoMemory),
+    }
+}
+
+/// The outcome of one line, the first after the creation.
+fn outcome_of(alloc: Global, line: &[u8]) -> Result<Reply, Ended> {
+    let mut steps = Direct {
+        engine: engine(alloc)?,
+    };
+    Session::new(alloc, 1).execute(&mut steps, &OpenGate, line)
+}
+
+/// The reply to one line, the first after the creation.
+fn reply_of(alloc: Global, line: &str) -> Result<Vec<u8>, Fail> {
+    let reply = outcome_of(alloc, line.as_bytes())?;
+    Ok(reply_text(alloc, &reply)?)
+}
+
+const REPLIES: [(&str, &str); 14] = [
+    (
+        "INSERT INTO docs (id, title, body) VALUES (7, 'a', 'b')",
+        "OK commit 1\n",
+    ),
+    (
+        "INSERT INTO docs (id, body, title) VALUES (7, 'a', 'b')",
+        "ERROR columns and values do not fit\n",
+    ),
+    (
+        "INSERT INTO docs (id, title, body) VALUES (7, 'a')",
+        "ERROR columns and values do not fit\n",
+    ),
+    (
+        "INSERT INTO docs (id, titel, text) VALUES (7, 'a')",
+        "ERROR no such column titel\n",
+    ),
+    (
+        "INSERT INTO Dogs (id, titel) VALUES (7, 'a')",
+        "ERROR no such table Dogs\n",
+    ),
+    (
+        "INSERT INTO docs (fts_doc_id, title, body) VALUES (7, 'a', 'b')",
+        "ERROR columns and values do not fit\n",
+    ),
+    (
+        "SELECT FTS_DOC_ID FROM docs WHERE MATCH (title, body) AGAINST ('b' IN BOOLEAN MODE)",
+        "OK as of 0: none\n",
+    ),
+    (
+        "SELECT FTS_DOC_ID FROM docs WHERE MATCH (title) AGAINST ('b' IN BOOLEAN MODE)",
+        "ERROR columns and values do not fit\n",
+    ),
+    (
+        "SELECT FTS_DOC_ID FROM docs WHERE MATCH (Text, body) AGAINST ('b' IN BOOLEAN MODE)",
+        "ERROR no such column Text\n",
+    ),
+    (
+        "SELECT FTS_DOC_ID FROM doc WHERE MATCH (text) AGAINST ('b' IN BOOLEAN MODE)",
+        "ERROR no such table doc\n",
+    ),
+    (
+        "SELECT FTS_DOC_ID FROM docs WHERE MATCH (title, body) AGAINST ('a b' IN BOOLEAN MODE)",
+        "ERROR query syntax at 1\n",
+    ),
+    ("SELEC", "ERROR syntax at 1\n"),
+    ("  ", ""),
+    ("-- a comment", ""),
+];
+
+#[test]
+fn each_line_has_its_reply(rt: HostRuntime) -> Result<(), Fail> {
+    for (line, want) in REPLIES {
+        let reply = reply_of(rt.alloc(), line)?;
+        assert_eq!(rt; reply.as_slice(), want.as_bytes(), "of {line}");
+    }
+    Ok(())
+}

@@ -1,0 +1,120 @@
+//! One call of the program over the forms in memory, and what it answered, wrote and left.
+
+use crate::{Status, fts_once};
+use fts_disk::{Kind, MemDisk};
+use fts_io::{MemSink, MemSource, OpenGate};
+use std::alloc::{AllocError, Global};
+use std::process::Abort;
+use std::test::Fail;
+
+pub const CREATE: &str = "shop create --columns body";
+
+pub const RUN: &str = "shop run";
+
+pub const INSERT: &str = "INSERT INTO docs (id, body) VALUES (1, 'apple pie')\n";
+
+pub const SEARCH: &str =
+    "SELECT FTS_DOC_ID FROM docs WHERE MATCH (body) AGAINST ('pie' IN BOOLEAN MODE)\n";
+
+/// What a call answered, wrote and left on the rows device.
+#[derive(Drop)]
+pub struct Outcome {
+    pub status: Status,
+    pub out: MemSink,
+    pub rows: MemDisk,
+}
+
+/// The words of a command line, which stand between its spaces.
+fn words_of(alloc: Global, line: &str) -> Result<Vec<String>, AllocError> {
+    let mut words = Vec::new(alloc);
+    for word in line.split_whitespace() {
+        words.push(String::from_str(alloc, word)?)?;
+    }
+    Ok(words)
+}
+
+/// A device on which nothing was written.
+pub fn empty_disk(alloc: Global) -> Result<MemDisk, AllocError> {
+    MemDisk::from_files(alloc, Vec::new(alloc), Vec::new(alloc))
+}
+
+/// A device that holds these bytes in file 0.
+pub fn disk_of(alloc: Global, bytes: &[u8]) -> Result<MemDisk, AllocError> {
+    let files = vec![in alloc; Vec::from_slice(alloc, bytes)?]?;
+    MemDisk::from_files(alloc, files, Vec::new(alloc))
+}
+
+/// A device that holds these bytes in file 0, and fails at one call, by its kind and number.
+pub fn failing(alloc: Global, bytes: &[u8], fails: (Kind, u64)) -> Result<MemDisk, AllocError> {
+    let files = vec![in alloc; Vec::from_slice(alloc, bytes)?]?;
+    MemDisk::from_files(alloc, files, vec![in alloc; fails]?)
+}
+
+/// A source of these bytes that never fails.
+pub fn source_of(alloc: Global, script: &[u8]) -> Result<MemSource, AllocError> {
+    Ok(MemSource::new(Vec::from_slice(alloc, script)?, Vec::new(alloc)))
+}
+
+/// Calls the program over these forms.
+pub fn call_over(
+    alloc: Global,
+    line: &str,
+    input: MemSource,
+    out: MemSink,
+    rows: MemDisk,
+) -> Result<Outcome, AllocError> {
+    let words = words_of(alloc, line)?;
+    let mut input = input;
+    let mut out = out;
+    let index = empty_disk(alloc)?;
+    let (status, rows, _) = fts_once(alloc, &words, &mut input, &mut out, rows, index, &OpenGate);
+    Ok(Outcome { status, out, rows })
+}
+
+/// Calls the program over a script and a device, and nothing fails but what the device names.
+pub fn call(
+    alloc: Global,
+    line: &str,
+    script: &[u8],
+    rows: MemDisk,
+) -> Result<Outcome, AllocError> {
+    let input = source_of(alloc, script)?;
+    let out = MemSink::new(alloc, Vec::new(alloc));
+    call_over(alloc, line, input, out, rows)
+}
+
+/// The rows device after `create --columns body`.
+pub fn created(alloc: Global) -> Result<MemDisk, AllocError> {
+    Ok(call(alloc, CREATE, b"", empty_disk(alloc)?)?.rows)
+}
+
+/// What a search for `pie` answers on a device with these bytes.
+pub fn searched(alloc: Global, bytes: &[u8]) -> Result<Outcome, AllocError> {
+    call(alloc, RUN, SEARCH.as_bytes(), disk_of(alloc, bytes)?)
+}
+
+/// The call ended so, and wrote this.
+pub fn ended(rt: &impl Abort, outcome: &Outcome, status: &Status, text: &str, at: &str) {
+    assert_eq!(rt; &outcome.status, status, "at {at}");
+    assert_eq!(rt; outcome.out.bytes(), text.as_bytes(), "at {at}");
+}
+
+/// A run of a script on a device is done and wrote this. Gives the device back.
+pub fn answers(
+    rt: &impl Abort,
+    alloc: Global,
+    rows: MemDisk,
+    script: &[u8],
+    text: &str,
+) -> Result<MemDisk, Fail> {
+    let outcome = call(alloc, RUN, script, rows)?;
+    ended(rt, &outcome, &Status::Done, text, text);
+    Ok(outcome.rows)
+}
+
+/// A search for `pie` on a device with these bytes is done and wrote this.
+pub fn finds(rt: &impl Abort, alloc: Global, bytes: &[u8], text: &str) -> Result<(), Fail> {
+    let outcome = searched(alloc, bytes)?;
+    ended(rt, &outcome, &Status::Done, text, text);
+    Ok(())
+}

@@ -1,0 +1,124 @@
+use super::calling::{
+    CREATE, INSERT, RUN, SEARCH, call, call_over, created, empty_disk, ended, failing, finds,
+    searched, source_of,
+};
+use crate::Status;
+use fts_disk::Kind;
+use fts_io::{MemSink, MemSource};
+use std::alloc::{AllocError, Global};
+use std::process::Abort;
+use std::test::Fail;
+
+/// Calls of the device by which `create` fails, how many bytes of file 0 it leaves, and how a run then ends.
+const CREATE_FAULTS: [(Kind, u64, usize, Status); 8] = [
+    (Kind::Len, 1, 0, Status::NotCreated),
+    (Kind::Cut, 1, 0, Status::NotCreated),
+    (Kind::Write, 1, 0, Status::NotCreated),
+    (Kind::Sync, 1, 9, Status::NotCreated),
+    (Kind::Write, 2, 9, Status::NotCreated),
+    (Kind::Sync, 2, 34, Status::NotCreated),
+    (Kind::Write, 3, 34, Status::NotCreated),
+    (Kind::Sync, 3, 34, Status::Done),
+];
+
+/// `create` ends with a disk fault at one call of the device, and leaves so many bytes, on which a run ends so.
+fn create_fails(
+    rt: &impl Abort,
+    alloc: Global,
+    fails: (Kind, u64),
+    left: usize,
+    then: &Status,
+) -> Result<(), Fail> {
+    let made = call(alloc, CREATE, b"", failing(alloc, b"", fails)?)?;
+    ended(rt, &made, &Status::DiskFault, "", "create");
+    assert_eq!(rt; made.rows.file(0).len(), left, "{fails:?}");
+    let after = searched(alloc, made.rows.file(0))?;
+    assert_eq!(rt; &after.status, then, "{fails:?}");
+    Ok(())
+}
+
+#[test]
+fn each_failing_call_of_create_ends_it_with_a_disk_fault(rt: HostRuntime) -> Result<(), Fail> {
+    for (kind, number, left, then) in CREATE_FAULTS {
+        create_fails(&rt, rt.alloc(), (kind, number), left, &then)?;
+    }
+    Ok(())
+}
+
+/// Calls of the device by which an INSERT fails, how many bytes of file 0 it leaves, and what a search then finds.
+const INSERT_FAULTS: [(Kind, u64, usize, &str); 8] = [
+    (Kind::Sync, 1, 34, "OK as of 0: none\n"),
+    (Kind::Len, 1, 34, "OK as of 0: none\n"),
+    (Kind::Read, 1, 34, "OK as of 0: none\n"),
+    (Kind::Read, 2, 34, "OK as of 0: none\n"),
+    (Kind::Write, 1, 34, "OK as of 0: none\n"),
+    (Kind::Sync, 2, 63, "OK as of 0: none\n"),
+    (Kind::Write, 2, 63, "OK as of 0: none\n"),
+    (Kind::Sync, 3, 63, "OK as of 1: 1\n"),
+];
+
+/// A run ends with a disk fault at one call of the device, and leaves so many bytes, in which a search finds this.
+fn insert_fails(
+    rt: &impl Abort,
+    alloc: Global,
+    fails: (Kind, u64),
+    left: usize,
+    found: &str,
+) -> Result<(), Fail> {
+    let made = created(alloc)?;
+    let device = failing(alloc, made.file(0), fails)?;
+    let run = call(alloc, RUN, INSERT.as_bytes(), device)?;
+    ended(rt, &run, &Status::DiskFault, "", "an INSERT");
+    assert_eq!(rt; run.rows.file(0).len(), left, "{fails:?}");
+    finds(rt, alloc, run.rows.file(0), found)
+}
+
+#[test]
+fn each_failing_call_of_an_insert_ends_the_run_with_a_disk_fault(
+    rt: HostRuntime,
+) -> Result<(), Fail> {
+    for (kind, number, left, found) in INSERT_FAULTS {
+        insert_fails(&rt, rt.alloc(), (kind, number), left, found)?;
+    }
+    Ok(())
+}
+
+/// An INSERT and a search, of which the second read, behind nine bytes of the search, fails.
+fn failing_source(alloc: Global) -> Result<MemSource, AllocError> {
+    let mut script = Vec::from_slice(alloc, INSERT.as_bytes())?;
+    script.extend_from_slice(SEARCH.as_bytes())?;
+    let fails = vec![in alloc; 2u64]?;
+    Ok(MemSource::new(script, fails).giving(INSERT.len() + 9))
+}
+
+#[test]
+fn a_failed_read_ends_the_run_behind_the_whole_lines_before(rt: HostRuntime) -> Result<(), Fail> {
+    let source = failing_source(rt.alloc())?;
+    let sink = MemSink::new(rt.alloc(), Vec::new(rt.alloc()));
+    let run = call_over(rt.alloc(), RUN, source, sink, created(rt.alloc())?)?;
+    ended(&rt, &run, &Status::ReadFault, "OK commit 1\n", "a read");
+    finds(&rt, rt.alloc(), run.rows.file(0), "OK as of 1: 1\n")
+}
+
+/// A sink that takes seven bytes, and then fails.
+fn failing_sink(alloc: Global) -> Result<MemSink, AllocError> {
+    Ok(MemSink::new(alloc, vec![in alloc; 2u64]?).taking(7))
+}
+
+#[test]
+fn a_failed_write_ends_the_run_with_a_front_of_the_reply(rt: HostRuntime) -> Result<(), Fail> {
+    let source = source_of(rt.alloc(), INSERT.as_bytes())?;
+    let sink = failing_sink(rt.alloc())?;
+    let run = call_over(rt.alloc(), RUN, source, sink, created(rt.alloc())?)?;
+    ended(&rt, &run, &Status::WriteFault, "OK comm", "a reply");
+    finds(&rt, rt.alloc(), run.rows.file(0), "OK as of 1: 1\n")
+}
+
+#[test]
+fn a_failed_write_ends_create_with_a_database(rt: HostRuntime) -> Result<(), Fail> {
+    let source = source_of(rt.alloc(), b"")?;
+    let sink = failing_sink(rt.alloc())?;
+    let made = call_over(rt.alloc(), CREATE, source, sink, empty_disk(rt.alloc())?)?;
+    ended(&rt, &made, &Status::WriteFault, "OK crea", "create");
+    finds(&rt, rt.alloc(), made.rows.file(0), "OK as of 0: none\n")
+}

@@ -1,0 +1,94 @@
+ghost use Rattle.fts_types.specs.Limits.{standard_limits};
+ghost use Rattle.fts_engine.specs.Bounds.{AreWithin};
+
+use super::calling::{created, source_of};
+use crate::Status;
+use crate::once::run_script;
+use fts_io::{MemSink, OpenGate};
+use fts_types::Limits;
+use std::alloc::Global;
+use std::process::Abort;
+use std::test::Fail;
+
+const THREE: &str = "INSERT INTO docs (id, body) VALUES (7, 'apple')
+INSERT INTO docs (id, body) VALUES (8, 'pie')
+INSERT INTO docs (id, body) VALUES (9, 'plum')
+SELECT FTS_DOC_ID FROM docs WHERE MATCH (body) AGAINST ('plum' IN BOOLEAN MODE)
+";
+
+const ONE: &str = "INSERT INTO docs (id, body) VALUES (1, 'apple pie')
+SELECT FTS_DOC_ID FROM docs WHERE MATCH (body) AGAINST ('pie' IN BOOLEAN MODE)
+";
+
+/// A run with these limits on a new database is done and wrote this.
+fn limited(
+    rt: &impl Abort,
+    alloc: Global,
+    limits: Limits,
+    script: &str,
+    text: &str,
+) -> Result<(), Fail>
+    requires { AreWithin standard_limits limits }
+{
+    let mut input = source_of(alloc, script.as_bytes())?;
+    let mut out = MemSink::new(alloc, Vec::new(alloc));
+    let rows = created(alloc)?;
+    let (status, _) = run_script(alloc, &mut input, &mut out, rows, limits, &OpenGate);
+    assert_eq!(rt; status, Status::Done, "{text}");
+    assert_eq!(rt; out.bytes(), text.as_bytes(), "{text}");
+    Ok(())
+}
+
+#[test]
+fn a_row_above_the_most_is_refused(rt: HostRuntime) -> Result<(), Fail> {
+    let limits = Limits {
+        rows: 2,
+        ..Limits::standard()
+    };
+    limited(
+        &rt,
+        rt.alloc(),
+        limits,
+        THREE,
+        "OK commit 1\nOK commit 2\nERROR rows full at 3\nOK as of 2: none\n",
+    )
+}
+
+#[test]
+fn a_document_above_the_largest_id_is_refused(rt: HostRuntime) -> Result<(), Fail> {
+    let limits = Limits {
+        ids: 2,
+        ..Limits::standard()
+    };
+    limited(
+        &rt,
+        rt.alloc(),
+        limits,
+        THREE,
+        "OK commit 1\nOK commit 2\nERROR document ids full at 2\nOK as of 2: none\n",
+    )
+}
+
+#[test]
+fn a_full_log_refuses_a_commit_and_tells_its_end(rt: HostRuntime) -> Result<(), Fail> {
+    let limits = Limits {
+        log_bytes: 62,
+        ..Limits::standard()
+    };
+    limited(
+        &rt,
+        rt.alloc(),
+        limits,
+        ONE,
+        "ERROR log full at 63\nOK as of 0: none\n",
+    )
+}
+
+#[test]
+fn a_commit_may_fill_the_log(rt: HostRuntime) -> Result<(), Fail> {
+    let limits = Limits {
+        log_bytes: 63,
+        ..Limits::standard()
+    };
+    limited(&rt, rt.alloc(), limits, ONE, "OK commit 1\nOK as of 1: 1\n")
+}
