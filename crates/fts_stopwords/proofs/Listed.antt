@@ -103,7 +103,7 @@ all_lower = refl
 slot_lower : (slot : ℕ) → slot < 128 → lowered (slot_word slot) ≡ slot_word slot
 slot_lower slot below = (bytes_eq-Decides (lowered (slot_word slot)) (slot_word slot)).0 (agree_below_at is_lower (λ _. true) 128 slot all_lower below)
 
-lowered_at : (word : List ℕ) (i : ℕ) → i < length word → get_or (lowered word) i 0 ≡ to_ascii_lowercase (get_or word i 0)
+pub lowered_at : (word : List ℕ) (i : ℕ) → i < length word → get_or (lowered word) i 0 ≡ to_ascii_lowercase (get_or word i 0)
 lowered_at word i within = get_or-map to_ascii_lowercase word i 0 0 within
 
 -- the slot of a word whose letters were lowered one by one

@@ -1,11 +1,17 @@
 //! Stopwords: the words that are never indexed.
 #![tactic(auto)]
 
-ghost use Rattle.std.specs.Prelude.{◌≡◌, ◌<◌, ◌↔◌, map, IsTrue, Contains};
+ghost use Rattle.std.specs.Prelude.{◌≡◌, ◌<◌, ◌≤◌, ◌↔◌, length, map, IsTrue, Contains};
 ghost use Rattle.fts_words.specs.Byte.{lowered};
+ghost use Rattle.fts_words.specs.RawWords.{bytes_of};
 ghost use Rattle.fts_words.specs.Stopwords.{default_stopwords, is_listed};
 ghost use Rattle.fts_stopwords.specs.Slot.{slot_by, slot_word, slot_words};
 ghost use Rattle.fts_stopwords.specs.StopSet.{words_of};
+
+mod number;
+
+use crate::number::{is_stopword_number, number_of};
+use fts_words::Span;
 
 /// The default stopwords, in the order of InnoDB's list, in which `the` stands twice.
 ///
@@ -73,9 +79,10 @@ fn is_default(word: &[u8]) -> bool
     }
 }
 
-/// Whether a word is a default stopword once its letters are lowered. Only the comparison branches on what the word is:
-/// the processor can't foresee such branches.
+/// Whether a word is a default stopword once its letters are lowered, by the one word of its slot.
 #[tactic(auto, unfolding(fts_words::specs::Stopwords::default_stopwords))]
+#[cold]
+#[inline(never)]
 fn is_default_lowered(word: &[u8]) -> bool
     ensures { result ≡ is_listed default_stopwords (lowered word.now) }
 {
@@ -87,6 +94,20 @@ fn is_default_lowered(word: &[u8]) -> bool
             slot_word(slot).eq_ignore_ascii_case(word)
         }
     }
+}
+
+/// Whether a word of a text is a default stopword once its letters are lowered. Where eight bytes stand behind its start,
+/// nothing branches on what it is.
+#[inline(always)]
+fn is_default_at(text: &[u8], word: &Span) -> bool
+    requires order { word.now.from ≤ word.now.to }
+    requires within { word.now.to ≤ length text.now }
+    ensures { result ≡ is_listed default_stopwords (lowered (bytes_of text.now word.now)) }
+{
+    if text.len() - word.from < 8 {
+        return is_default_lowered(word.of(text));
+    }
+    is_stopword_number(number_of(text, word.from, word.to - word.from))
 }
 
 /// The rows of `DEFAULT`, each as text.
@@ -118,6 +139,19 @@ impl StopSet {
             StopSet::Default => is_default_lowered(word),
         }
     }
+
+    /// Whether a word that stands in a text is in the set once its letters are lowered. It takes no memory.
+    #[inline(always)]
+    pub fn contains_lowered_at(&self, text: &[u8], word: &Span) -> bool
+        requires order { word.now.from ≤ word.now.to }
+        requires within { word.now.to ≤ length text.now }
+        ensures { result ≡ is_listed (words_of self.now) (lowered (bytes_of text.now word.now)) }
+    {
+        match self {
+            StopSet::Empty => false,
+            StopSet::Default => is_default_at(text, word),
+        }
+    }
 }
 
 #[cfg(test)]
@@ -134,5 +168,14 @@ mod tests {
         assert!(rt; StopSet::Default.contains_lowered(b"ThE"));
         assert!(rt; !StopSet::Default.contains(b"ThE"));
         assert!(rt; !StopSet::Default.contains_lowered(b"apple"));
+    }
+
+    #[test]
+    fn words_of_a_text_are_looked_up(rt: HostRuntime) {
+        let text = b"ThE thee whERE".as_slice();
+        assert!(rt; StopSet::Default.contains_lowered_at(text, &Span { from: 0, to: 3 }));
+        assert!(rt; !StopSet::Default.contains_lowered_at(text, &Span { from: 4, to: 8 }));
+        assert!(rt; StopSet::Default.contains_lowered_at(text, &Span { from: 9, to: 14 }));
+        assert!(rt; !StopSet::Empty.contains_lowered_at(text, &Span { from: 0, to: 3 }));
     }
 }

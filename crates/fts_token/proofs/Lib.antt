@@ -1,4 +1,9 @@
 mod Scan
 mod Rows
 mod Filtered
+mod Held
 mod Lanes
+mod Carry
+mod Bits
+mod Joining
+mod Blocks

@@ -1,59 +1,17 @@
 -- What a scan over a text finds, byte by byte.
-use Rattle.std.proofs.Common.{◌≡◌, ℕ, ◌+◌, ◌-◌, ◌<◌, ◌≤◌, Bool, true, false, eqb, ◌&&◌, List, [], ◌∷◌, length, get_or, refl, ap, subst, ⊎_elim, arith, ne_eqb}
+use Rattle.std.proofs.Common.{◌≡◌, ℕ, ◌+◌, ◌-◌, ◌<◌, ◌≤◌, Bool, true, false, eqb, ◌&&◌, List, length, get_or, refl, ap, subst, ⊎_elim, arith, ne_eqb}
 use Rattle.std.proofs.lemmas.Bool.{cases_lt, cases_Bool, and_from, and_parts}
 use Rattle.std.proofs.lemmas.List.{get_or_past}
 use Rattle.fts_words.specs.Byte.{word_at, apostrophe_at}
-use Rattle.fts_words.specs.RawWords.{in_word, raw_words_from}
-use Rattle.fts_words.proofs.RunLemmas.{clash, first_run, no_run}
+use Rattle.fts_words.specs.RawWords.{in_word}
+use Rattle.fts_words.proofs.RunLemmas.{clash}
 use Rattle.fts_words.proofs.WordLemmas.{in_word_by_byte, in_word_by_mark, not_in_word}
 use Rattle.fts_token.specs.Between.{IsBetweenWords}
-
--- behind a byte that is no word byte, the places without one go on
-pub none_more : (text : List ℕ) (from at : ℕ) → ((k : ℕ) → from ≤ k → k < at → word_at text k ≡ false) → word_at text at ≡ false → (k : ℕ) → from ≤ k → k < at + 1 → word_at text k ≡ false
-none_more text from at none here k low high =
-    ⊎_elim (λ (less : k < at). none k low less) (λ (most : at ≤ k). let same : at ≡ k = omega arith in subst (λ (x : ℕ). word_at text x ≡ false) same here) (cases_lt k at)
 
 -- the word goes on by a place
 each_more : (text : List ℕ) (from to : ℕ) → ((k : ℕ) → from ≤ k → k < to → in_word text k ≡ true) → in_word text to ≡ true → (k : ℕ) → from ≤ k → k < to + 1 → in_word text k ≡ true
 each_more text from to each here k low high =
     ⊎_elim (λ (less : k < to). each k low less) (λ (most : to ≤ k). let same : to ≡ k = omega arith in subst (λ (x : ℕ). in_word text x ≡ true) same here) (cases_lt k to)
-
-module _ (text : List ℕ) (at from : ℕ) (between : IsBetweenWords text at) (none : (k : ℕ) → at ≤ k → k < from → word_at text k ≡ false) where
-  -- where no word byte stands, no place belongs to a word
-  outside : (at ≤ from) → (k : ℕ) → at ≤ k → k < from → in_word text k ≡ false
-  outside order k low high =
-      not_in_word text k
-      (λ word. clash (word_at text k) word (none k low high))
-      (λ mark. ⊎_elim
-      (λ (less : k - 1 < at). ⊎_elim
-      (λ (some : 0 < k).
-      let same : k ≡ at = omega arith in
-      let both : (in_word text (k - 1) && in_word text at) ≡ true = and_from _ _ (in_word_by_byte text (k - 1) mark.left) (subst (λ (x : ℕ). in_word text x ≡ true) same (in_word_by_mark text k mark.mark mark.left mark.right)) in
-      clash _ both (between (k - 1) (omega arith)))
-      (λ (least : k ≤ 0). let same : k - 1 ≡ k = omega arith in clash (word_at text k) (subst (λ (x : ℕ). word_at text x ≡ true) same mark.left) (none k low high))
-      (cases_lt 0 k))
-      (λ (more : at ≤ k - 1). clash (word_at text (k - 1)) mark.left (none (k - 1) more (omega arith)))
-      (cases_lt (k - 1) at))
-
-  -- the text has no word from the place on
-  pub no_word : at ≤ length text → from ≡ length text → raw_words_from text at ≡ []
-  no_word within end_is =
-      no_run (in_word text) (length text) at within (λ k low high. outside (omega arith) k low (omega arith))
-
-  -- the next word begins the list of those that are left
-  pub next_word : (to : ℕ) → at ≤ from → from < to → to ≤ length text → ((k : ℕ) → from ≤ k → k < to → in_word text k ≡ true) → in_word text to ≡ false → raw_words_from text at ≡ record { from = from; to = to } ∷ raw_words_from text to
-  next_word to order some within each behind =
-      first_run (in_word text) (length text) at from to order within (outside order) (record {
-        nonempty = some;
-        each = each;
-        before = λ k next. ⊎_elim
-            (λ (less : k < at).
-            let same : from ≡ at = omega arith in
-            ⊎_elim (λ pass. clash _ (and_from (in_word text k) _ pass (subst (λ (x : ℕ). in_word text x ≡ true) same (each from (omega arith) some))) (between k (omega arith))) (λ fail. fail) (cases_Bool (in_word text k)))
-            (λ (more : at ≤ k). outside order k more (omega arith))
-            (cases_lt k at);
-        behind = behind;
-      })
 
 -- a place that belongs to no word is between words
 pub between_behind : (text : List ℕ) (place : ℕ) → in_word text place ≡ false → IsBetweenWords text place

@@ -1,8 +1,9 @@
-use Rattle.std.specs.Prelude.{ℕ, ◌+◌, List, ◌++◌, length, drop, filter}
+use Rattle.std.specs.Prelude.{ℕ, ◌+◌, List, ◌++◌, length, take, drop, filter}
 use Rattle.fts_words.specs.declared.span.Span.{Span}
 use Rattle.fts_words.specs.declared.placed.PlacedWord.{PlacedWord}
 use Rattle.fts_words.specs.RawWords.{raw_words_from}
 use Rattle.fts_words.specs.Indexed.{column_text, placed_spans, placed_words_from, is_indexable, word_of}
+use Rattle.fts_types.specs.declared.settings.Settings.{Settings}
 use Rattle.fts_types.specs.Rules.{rules_of}
 use Rattle.fts_token.specs.declared.raw.RawWords.{RawWords}
 use Rattle.fts_token.specs.declared.placed.PlacedWords.{PlacedWords}
@@ -28,7 +29,11 @@ placed_words_left words =
     placed_spans words.column words.offset words.number (raw_words_from (column_text words.columns.now words.column) words.at)
     ++ placed_words_behind words
 
--- the indexed words of its row that an iterator has yet to give
+-- those of the raw words that an iterator has yet to give that are indexed
+unfoldable pub indexed_among : Settings → PlacedWords → List PlacedWord
+indexed_among settings words =
+    filter (λ word. is_indexable (rules_of settings) (word_of words.columns.now word)) (placed_words_left words)
+
+-- the indexed words of its row that an iterator has yet to give: those that it holds, and those behind them
 unfoldable pub indexed_words_left : IndexedWords → List PlacedWord
-indexed_words_left words =
-    filter (λ word. is_indexable (rules_of words.settings.now) (word_of words.words.columns.now word)) (placed_words_left words.words)
+indexed_words_left words = drop words.given (take words.held words.found) ++ indexed_among words.settings.now words.words

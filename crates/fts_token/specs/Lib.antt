@@ -1,3 +1,4 @@
+pub mod Ahead
 pub mod Between
 pub mod Left
 pub mod Run

@@ -4,10 +4,13 @@
 //! that are indexed. They are iterators that borrow what they read and take no memory.
 #![tactic(auto)]
 
+mod block;
+mod found;
 mod indexable;
 mod indexed;
 mod laws;
 mod lower;
+mod marks;
 mod placed;
 mod raw;
 mod run;

@@ -1,9 +1,9 @@
-ghost use Rattle.std.specs.Prelude.{◌≡◌, ◌+◌, ◌<◌, ◌≤◌, ◌∷◌, length, sum_by, IfNone, IfSome};
-ghost use Rattle.fts_words.specs.RawWords.{bytes_of};
+ghost use Rattle.std.specs.Prelude.{◌≡◌, ◌+◌, ◌<◌, ◌≤◌, ◌∷◌, length, nat_lt, sum_by, IfNone, IfSome};
 ghost use Rattle.fts_words.specs.Indexed.{column_text, column_offset};
-ghost use Rattle.fts_token.specs.Between.{IsBetweenWords, LiesIn};
+ghost use Rattle.fts_token.specs.Between.{IsBetweenWords};
+ghost use Rattle.fts_token.specs.Ahead.{IsAhead};
 
-use crate::raw::first_word;
+use crate::block::{Block, first_word};
 use fts_types::RowTexts;
 use fts_words::PlacedWord;
 
@@ -14,6 +14,7 @@ pub struct PlacedWords<'a> {
     column: usize,
     offset: u32,
     at: usize,
+    block: Block,
     number: u32,
     ghost few: { length columns.now ≤ 8 },
     ghost short: { sum_by (λ text. length text + 1) columns.now ≤ 65543 },
@@ -21,6 +22,7 @@ pub struct PlacedWords<'a> {
     ghost offset_is: { offset ≡ column_offset columns.now column },
     ghost within: { at ≤ length (column_text columns.now column) },
     ghost between: { IsBetweenWords (column_text columns.now column) at },
+    ghost ahead: { IsAhead (column_text columns.now column) at block.end block.marks },
     ghost counted: { number ≤ at },
 }
 
@@ -31,6 +33,7 @@ impl<'a> PlacedWords<'a> {
     ghost use Rattle.fts_token.specs.Left.{columns_of, placed_words_behind, placed_words_left};
 
     /// The raw words of a row, each with its word number and its position.
+    #[inline(always)]
     pub(crate) fn new(columns: &'a RowTexts) -> Self
         requires { IsRow columns.now }
         ensures left { placed_words_left result ≡ placed_words columns.now }
@@ -41,42 +44,58 @@ impl<'a> PlacedWords<'a> {
             column: 0,
             offset: 0,
             at: 0,
+            block: Block::at_start(),
             number: 0,
         }
     }
 
-    /// The bytes of a word of the row.
-    pub(crate) fn bytes(&self, word: &PlacedWord) -> &'a [u8]
-        requires { LiesIn (columns_of self.now) word.now }
-        ensures { result.now ≡ bytes_of (column_text (columns_of self.now) word.now.column) word.now.span }
+    /// Whether it is in a column, and not behind the last one.
+    #[inline(always)]
+    pub(crate) fn has_column(&self) -> bool
+        ensures { result ≡ nat_lt self.now.column (length (columns_of self.now)) }
     {
-        word.span.of(self.columns.text(word.column))
+        self.column < self.columns.len()
     }
 
-    /// The next word of the column that it is in, or nothing, which changes nothing, at the column's end.
-    fn next_in_column(&mut self) -> Option<PlacedWord>
-        requires { self.old.column < length (columns_of self.old) }
+    /// The text of the column that it is in.
+    #[inline(always)]
+    pub(crate) fn text(&self) -> &'a [u8]
+        requires { self.now.column < length (columns_of self.now) }
+        ensures { result.now ≡ column_text (columns_of self.now) self.now.column }
+    {
+        self.columns.text(self.column)
+    }
+
+    /// The next word of the column that it is in, or nothing, which changes nothing, at the column's end. It is passed the
+    /// column's text, which can stay in registers then.
+    #[inline(always)]
+    pub(crate) fn next_in_column(&mut self, text: &[u8]) -> Option<PlacedWord>
+        requires inside { self.old.column < length (columns_of self.old) }
+        requires text { text.now ≡ column_text (columns_of self.old) self.old.column }
         ensures some { IfSome result (λ word. placed_words_left self.old ≡ word ∷ placed_words_left self.new) }
-        ensures inside { IfSome result (LiesIn (columns_of self.old)) }
+        ensures here { IfSome result (λ word. word.column ≡ self.old.column) }
+        ensures order { IfSome result (λ word. word.span.from ≤ word.span.to) }
+        ensures within { IfSome result (λ word. word.span.to ≤ length text.now) }
         ensures none { IfNone result (placed_words_left self.old ≡ placed_words_behind self.old) }
         ensures unmoved { IfNone result (self.new ≡ self.old) }
+        ensures column { self.new.column ≡ self.old.column }
         ensures row { columns_of self.new ≡ columns_of self.old }
     {
-        let text = self.columns.text(self.column);
-        let span = first_word(text, self.at)?;
+        let found = first_word(text, self.at, self.block)?;
         let word = PlacedWord {
             column: self.column,
-            span,
+            span: found.word,
             number: self.number,
-            position: self.offset + span.from as u32,
+            position: self.offset + found.word.from as u32,
         };
-        self.at = span.to;
+        self.at = found.word.to;
+        self.block = found.block;
         self.number += 1;
         Some(word)
     }
 
     /// Goes on to the next column.
-    fn enter_next_column(&mut self)
+    pub(crate) fn enter_next_column(&mut self)
         requires { self.old.column < length (columns_of self.old) }
         ensures left { placed_words_left self.new ≡ placed_words_behind self.old }
         ensures column { self.new.column ≡ self.old.column + 1 }
@@ -86,17 +105,17 @@ impl<'a> PlacedWords<'a> {
         self.offset += text.len() as u32 + 1;
         self.column += 1;
         self.at = 0;
+        self.block = Block::at_start();
         self.number = 0;
     }
 
     /// The next word of the row.
-    pub(crate) fn advance(&mut self) -> Option<PlacedWord>
+    #[inline(always)]
+    fn advance(&mut self) -> Option<PlacedWord>
         ensures steps { YieldsFirst placed_words_left self.old result self.new }
-        ensures inside { IfSome result (LiesIn (columns_of self.old)) }
-        ensures row { columns_of self.new ≡ columns_of self.old }
     {
-        while self.column < self.columns.len() {
-            if let Some(word) = self.next_in_column() {
+        while self.has_column() {
+            if let Some(word) = self.next_in_column(self.text()) {
                 return Some(word);
             }
             self.enter_next_column();
@@ -115,6 +134,7 @@ impl Iterator for PlacedWords<'_> {
 
     ghost remaining = { item_count placed_words_left };
 
+    #[inline(always)]
     fn next(&mut self) -> Option<PlacedWord> {
         self.advance()
     }

@@ -3,7 +3,9 @@ ghost use Rattle.fts_words.specs.Byte.{is_word_byte, word_at, apostrophe_at};
 ghost use Rattle.fts_words.specs.RawWords.{in_word, raw_words, raw_words_from};
 ghost use Rattle.fts_token.specs.Between.{IsBetweenWords};
 ghost use Rattle.fts_token.specs.Run.{word_bytes};
+ghost use Rattle.fts_token.specs.Ahead.{IsAhead};
 
+use crate::block::{Block, first_word};
 use crate::run::run_end;
 use fts_words::Span;
 
@@ -62,25 +64,10 @@ fn has_apostrophe_before_word_byte(text: &[u8], place: usize) -> bool
     has_word_byte(text, place + 1)
 }
 
-/// The first place from another on that has a word byte, or the text's length.
-#[inline(always)]
-fn word_start(text: &[u8], from: usize) -> usize
-    requires { from ≤ length text.now }
-    ensures order { from ≤ result }
-    ensures within { result ≤ length text.now }
-    ensures none { (k : ℕ) → from ≤ k → k < result → IsFalse (word_at text.now k) }
-    ensures found { result < length text.now → IsTrue (word_at text.now result) }
-{
-    let mut at = from;
-    while at < text.len() && !has_word_byte(text, at) {
-        at += 1;
-    }
-    at
-}
-
 /// The end of the word that starts at a place.
-#[inline(always)]
-fn word_end(text: &[u8], from: usize) -> usize
+#[cold]
+#[inline(never)]
+pub(crate) fn word_end(text: &[u8], from: usize) -> usize
     requires within { from < length text.now }
     requires byte { IsTrue (word_at text.now from) }
     ensures order { from < result }
@@ -98,31 +85,15 @@ fn word_end(text: &[u8], from: usize) -> usize
     }
 }
 
-/// The first raw word that starts at a place between words or behind it.
-#[inline(always)]
-pub(crate) fn first_word(text: &[u8], at: usize) -> Option<Span>
-    requires within { at ≤ length text.now }
-    requires between { IsBetweenWords text.now at }
-    ensures none { IfNone result (raw_words_from text.now at ≡ []) }
-    ensures some { IfSome result (λ word. raw_words_from text.now at ≡ word ∷ raw_words_from text.now word.to) }
-    ensures order { IfSome result (λ word. (at ≤ word.from) × (word.from < word.to) × (word.to ≤ length text.now)) }
-    ensures after { IfSome result (λ word. IsBetweenWords text.now word.to) }
-{
-    let from = word_start(text, at);
-    if from == text.len() {
-        return None;
-    }
-    let to = word_end(text, from);
-    Some(Span { from, to })
-}
-
 /// The raw words of a text, from front to back. It borrows the text.
 #[derive(Clone, Copy, Debug)]
 pub struct RawWords<'a> {
     text: &'a [u8],
     at: usize,
+    block: Block,
     ghost within: { at ≤ length text.now },
     ghost between: { IsBetweenWords text.now at },
+    ghost ahead: { IsAhead text.now at block.end block.marks },
 }
 
 impl<'a> RawWords<'a> {
@@ -132,7 +103,11 @@ impl<'a> RawWords<'a> {
     pub(crate) fn new(text: &'a [u8]) -> Self
         ensures { raw_words_left result ≡ raw_words text.now }
     {
-        RawWords { text, at: 0 }
+        RawWords {
+            text,
+            at: 0,
+            block: Block::at_start(),
+        }
     }
 }
 
@@ -148,8 +123,9 @@ impl Iterator for RawWords<'_> {
 
     #[inline(always)]
     fn next(&mut self) -> Option<Span> {
-        let word = first_word(self.text, self.at)?;
-        self.at = word.to;
-        Some(word)
+        let found = first_word(self.text, self.at, self.block)?;
+        self.at = found.word.to;
+        self.block = found.block;
+        Some(found.word)
     }
 }

@@ -13,3 +13,6 @@ returns-clause-left c =
     let place : old.offset + (length c.text-text.result.now + 1) ≡ old.offset + length (column_text columns old.column) + 1 = omega arith in
     words_from_column columns (old.column + 1) (old.offset + (length c.text-text.result.now + 1))
     ∙ ap (λ (x : ℕ). placed_words_from (old.column + 1) x (drop (old.column + 1) columns)) place
+
+pub invariant_of-self-clause-ahead : goal.invariant_of-self-clause-ahead
+invariant_of-self-clause-ahead c = c.at_start-self.ensures _

@@ -14,6 +14,7 @@ invariant_of-result c =
       offset_is = refl;
       within = omega arith;
       between = λ i next. absurd (omega arith);
+      ahead = c.at_start.ensures _;
       counted = omega arith;
     }
 

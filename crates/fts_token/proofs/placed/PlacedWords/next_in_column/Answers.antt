@@ -5,17 +5,17 @@ use Rattle.fts_words.specs.Indexed.{placed_spans}
 use Rattle.fts_token.specs.Left.{placed_words_left, placed_words_behind}
 use Rattle.fts_token.proofs.placed.PlacedWords.next_in_column.Goals as goal
 
-pub returns-in_err-span-clause-none : goal.returns-in_err-span-clause-none
+pub returns-in_err-found-clause-none : goal.returns-in_err-found-clause-none
 unfolding placed_words_left
-returns-in_err-span-clause-none c =
+returns-in_err-found-clause-none c =
     let old = c.args.self.now in
-    let none = subst (λ (t : List ℕ). raw_words_from t old.at ≡ []) c.text-text.ensures c.in_err-span.ensures.none in
+    let none = subst (λ (t : List ℕ). raw_words_from t old.at ≡ []) c.requires.text c.in_err-found.ensures.none in
     rw c.from_residual.ensures (ap (λ (spans : List Span). placed_spans old.column old.offset old.number spans ++ placed_words_behind old) none)
 
 pub returns-clause-some : goal.returns-clause-some
 unfolding placed_words_left placed_words_behind
 returns-clause-some c =
     let old = c.args.self.now in
-    let found = c.in_ok-span.span in
-    let some = subst (λ (t : List ℕ). raw_words_from t old.at ≡ found ∷ raw_words_from t found.to) c.text-text.ensures c.in_ok-span.ensures.some in
+    let found = c.in_ok-found.found.word in
+    let some = subst (λ (t : List ℕ). raw_words_from t old.at ≡ found ∷ raw_words_from t found.to) c.requires.text c.in_ok-found.ensures.some.first in
     ap (λ (spans : List Span). placed_spans old.column old.offset old.number spans ++ placed_words_behind old) some
