@@ -42,6 +42,7 @@ FitsNumbers (Delete key) = key < 2 ^ 64
 
 -- a commit that can be asked of a database whose table has so many columns
 pub record CanCommit (columns : ℕ) (commit : List Change) : Type 0 where
+  pub some : 1 ≤ columns
   pub few : columns ≤ 8
   pub made : IsCommit columns commit
   pub numbers : All FitsNumbers commit

@@ -1,4 +1,3 @@
-pub mod Word
 pub mod Text
 pub mod Commit
 pub mod NewText

@@ -1,12 +1,13 @@
 use Rattle.std.specs.Prelude.{ℕ, Bool, List, filter, map}
 use Rattle.std.specs.List.{list_any}
-use Rattle.fts_commits.specs.Word.{words_of, is_among}
+use Rattle.std.specs.Str.{bytes_eq}
+use Rattle.fts_words.specs.Indexed.{Rules, indexed_words, word_of}
 use Rattle.fts_commits.specs.Commit.{Row, Rows}
 
--- whether a text of the row has the word
-abbrev pub has_word : List ℕ → Row → Bool
-has_word word row = list_any (λ text. is_among (words_of text) word) row.texts
+-- whether the word is an indexed word of the row
+abbrev pub has_word : Rules → List ℕ → Row → Bool
+has_word rules word row = list_any (λ found. bytes_eq (word_of row.texts found) word) (indexed_words rules row.texts)
 
 -- the scan: the ascending document ids of the rows that have the word
-abbrev pub scan : List ℕ → Rows → List ℕ
-scan word rows = map (λ row. row.doc) (filter (has_word word) rows.list)
+abbrev pub scan : Rules → List ℕ → Rows → List ℕ
+scan rules word rows = map (λ row. row.doc) (filter (has_word rules word) rows.list)

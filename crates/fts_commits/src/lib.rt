@@ -4,9 +4,7 @@
 mod change;
 mod changes;
 mod text;
-mod words;
 
 pub use change::{Change, NewTexts};
 pub use changes::Changes;
 pub use text::{Text, is_text_byte};
-pub use words::{Words, query_word, words_are_runs};

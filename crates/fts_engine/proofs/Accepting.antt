@@ -58,12 +58,12 @@ change_more limit limit' number (Update key news) rows after less ok = update_mo
 change_more limit limit' number (Delete key) rows after less ok = ok
 
 -- rows came of what follows: there were rows before it
-record Went (next : Result Rows Refused) (follows : Rows → Result Rows Refused) (after : Rows) : Type 0 where
-  middle : Rows
-  first : next ≡ Ok middle
-  last : follows middle ≡ Ok after
+pub record Went (next : Result Rows Refused) (follows : Rows → Result Rows Refused) (after : Rows) : Type 0 where
+  pub middle : Rows
+  pub first : next ≡ Ok middle
+  pub last : follows middle ≡ Ok after
 
-went : (next : Result Rows Refused) (follows : Rows → Result Rows Refused) (after : Rows) → on_rows next follows ≡ Ok after → Went next follows after
+pub went : (next : Result Rows Refused) (follows : Rows → Result Rows Refused) (after : Rows) → on_rows next follows ≡ Ok after → Went next follows after
 went (Err why) follows after ok = absurd cc
 went (Ok middle) follows after ok = record { middle = middle; first = refl; last = ok }
 

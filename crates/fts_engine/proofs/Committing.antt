@@ -6,6 +6,8 @@ use Rattle.std.proofs.lemmas.Bool.{ltb-true, false_from_ne_true}
 use Rattle.std.specs.Prelude.{Bool, true, false, nat_lt, Result, Ok}
 use Rattle.fts_disk.specs.declared.disk.Disk.{Ghosts}
 use Rattle.fts_types.specs.declared.limits.Limits.{Limits}
+use Rattle.fts_types.specs.declared.settings.Settings.{Settings}
+use Rattle.fts_types.specs.Rules.{rules_of}
 use Rattle.fts_types.specs.Limits.{standard_limits}
 use Rattle.fts_commits.specs.Commit.{Commit, Rows, Refused, after_commit, replay, no_rows}
 use Rattle.fts_commits.specs.Fits.{CanCommit}
@@ -19,14 +21,14 @@ use Rattle.fts_log.specs.declared.log.Log.{Log}
 use Rattle.fts_log.proofs.Bytes.{length-front-push}
 use Rattle.fts_rowcodec.specs.Payload.{commit_payload, settings_payload, IsWritten}
 use Rattle.fts_steps.specs.State.{State, payloads, rows_magic, end_after, with_commits, IsSound}
-use Rattle.fts_steps.specs.Step.{Answer, to_commit, committed, full, found, plain_answer, after, MayAnswer}
+use Rattle.fts_steps.specs.Step.{Answer, to_commit, to_find, committed, full, found, plain_answer, after, MayAnswer}
 use Rattle.fts_rows.specs.declared.error.PlanError.{PlanError}
 use Rattle.fts_rows.specs.declared.error.PlanError.TheVariants.{NoMemory, DuplicateKey, DocIdOrder, DocIdGap, IdsFull, TextTooLong, RowsFull}
 use Rattle.fts_rows.specs.Refusal.{IsNoPlan}
 use Rattle.fts_engine.specs.Refusing.{refusal_answer}
 use Rattle.fts_engine.specs.declared.engine.Engine.{Engine}
 use Rattle.fts_engine.specs.Bounds.{AreWithin}
-use Rattle.fts_engine.specs.Kept.{KeptAs, kept_rows, kept_limits}
+use Rattle.fts_engine.specs.Kept.{kept_settings, kept_rows, kept_limits}
 use Rattle.fts_engine.specs.Stands.{Stands, Reads, engine_limits}
 use Rattle.fts_engine.proofs.Accepting.{accepted_more, accepted_fits, replay_accepted, AreAccepted-push}
 
@@ -79,7 +81,7 @@ module _ {D : Type 0} {disk : Ghosts D} (state : State) (engine : Engine D disk)
   -- what the rows that are kept accept, the rows of the state accept
   pub same_rows : (answer : Result Rows Refused) → after_commit (engine_limits engine) commit (kept_rows engine.kept) ≡ answer
       → after_commit (engine_limits engine) commit (replay state.commits) ≡ answer
-  same_rows answer is = ap (λ (rows : Rows). after_commit (engine_limits engine) commit rows) (sym stands.rows.table) ∙ is
+  same_rows answer is = ap (λ (rows : Rows). after_commit (engine_limits engine) commit rows) (sym stands.rows) ∙ is
 
   module _ (can : CanCommit (length state.settings.columns) commit) (after : Rows) (ok : after_commit (engine_limits engine) commit (kept_rows engine.kept) ≡ Ok after) where
     accepted : after_commit standard_limits commit (replay state.commits) ≡ Ok after
@@ -89,13 +91,13 @@ module _ {D : Type 0} {disk : Ghosts D} (state : State) (engine : Engine D disk)
     written = accepted_fits (length state.settings.columns) (engine_limits engine) commit (replay state.commits) after can (same_rows (Ok after) ok)
 
     -- the engine after the commit stands for the state after it
-    pub stands_after : (new : Engine D disk) → new.settings ≡ engine.settings → KeptAs after new.kept → kept_limits new.kept ≡ kept_limits engine.kept
+    pub stands_after : (new : Engine D disk) → kept_settings new.kept ≡ kept_settings engine.kept → kept_rows new.kept ≡ after → kept_limits new.kept ≡ kept_limits engine.kept
         → magic_of new.log ≡ magic_of engine.log → limit_of new.log ≡ limit_of engine.log
         → StandsFor (payloads state ++ commit_payload commit ∷ []) new.log → Stands (with_commits state (commit ∷ [])) new
     stands_after new settings kept limits magic limit logged = record {
       sound = sound-push state commit after stands.sound written accepted;
       settings = stands.settings ∙ sym settings;
-      rows = subst (λ (rows : Rows). KeptAs rows new.kept) (sym (replay_accepted state.commits commit after accepted)) kept;
+      rows = kept ∙ sym (replay_accepted state.commits commit after accepted);
       within = subst (λ (l : Limits). AreWithin standard_limits l) (sym limits) stands.within;
       limit = limit ∙ stands.limit ∙ ap (λ (l : Limits). l.log_bytes) (sym limits);
       magic = magic ∙ stands.magic;
@@ -116,19 +118,19 @@ module _ {D : Type 0} {disk : Ghosts D} (state : State) (engine : Engine D disk)
         })
 
   -- an engine with the same log and the same rows stands for the same state
-  pub stands_still : (new : Engine D disk) → new.settings ≡ engine.settings → KeptAs (replay state.commits) new.kept → kept_limits new.kept ≡ kept_limits engine.kept
+  pub stands_still : (new : Engine D disk) → kept_settings new.kept ≡ kept_settings engine.kept → kept_rows new.kept ≡ kept_rows engine.kept → kept_limits new.kept ≡ kept_limits engine.kept
       → new.log ≡ engine.log → Stands state new
   stands_still new settings kept limits same = record {
     sound = stands.sound;
     settings = stands.settings ∙ sym settings;
-    rows = kept;
+    rows = kept ∙ stands.rows;
     within = subst (λ (l : Limits). AreWithin standard_limits l) (sym limits) stands.within;
     limit = ap limit_of same ∙ stands.limit ∙ ap (λ (l : Limits). l.log_bytes) (sym limits);
     magic = ap magic_of same ∙ stands.magic;
     log = subst (λ (l : Log D disk). StandsFor (payloads state) l) (sym same) stands.log;
   }
 
-  pub stands_in : (state' : State) → state' ≡ state → (new : Engine D disk) → new.settings ≡ engine.settings → KeptAs (replay state.commits) new.kept
+  pub stands_in : (state' : State) → state' ≡ state → (new : Engine D disk) → kept_settings new.kept ≡ kept_settings engine.kept → kept_rows new.kept ≡ kept_rows engine.kept
       → kept_limits new.kept ≡ kept_limits engine.kept → new.log ≡ engine.log → Stands state' new
   stands_in state' is new settings kept limits same = subst (λ (s : State). Stands s new) (sym is) (stands_still new settings kept limits same)
 
@@ -136,9 +138,15 @@ module _ {D : Type 0} {disk : Ghosts D} (state : State) (engine : Engine D disk)
   pub same_number : log.count_of engine.log - 1 ≡ length state.commits
   same_number = let count = stands.log.count in omega (arith, length-map state.commits commit_payload)
 
-  pub is_found : (number : ℕ) (docs : List ℕ) → number ≡ length state.commits → docs ≡ scan word (replay state.commits)
-      → found (length state.commits) (scan word (replay state.commits)) ≡ found number docs
-  is_found number docs numbered same = cc
+  pub is_found : (number : ℕ) (docs : List ℕ) → number ≡ length state.commits → docs ≡ scan (rules_of (kept_settings engine.kept)) word (kept_rows engine.kept)
+      → plain_answer (engine_limits engine) state (to_find word) ≡ found number docs
+  is_found number docs numbered same =
+      let settings : scan (rules_of state.settings) word (replay state.commits) ≡ scan (rules_of (kept_settings engine.kept)) word (replay state.commits) =
+      ap (λ (s : Settings). scan (rules_of s) word (replay state.commits)) stands.settings in
+      let rows : scan (rules_of (kept_settings engine.kept)) word (kept_rows engine.kept) ≡ scan (rules_of (kept_settings engine.kept)) word (replay state.commits) =
+      ap (scan (rules_of (kept_settings engine.kept)) word) stands.rows in
+      let docs' : scan (rules_of state.settings) word (replay state.commits) ≡ docs = settings ∙ sym rows ∙ sym same in
+      ap (λ (n : ℕ). found n (scan (rules_of state.settings) word (replay state.commits))) (sym numbered) ∙ ap (found number) docs'
 
 -- a refusal by the rows leaves the state
 pub refusal_stays : (state : State) (commit : Commit) (error : PlanError) (answer : Answer) → answer ≡ refusal_answer error → after state (to_commit commit) answer ≡ state

@@ -1,5 +1,5 @@
-pub mod Entries
 pub mod Accepting
+pub mod Births
 pub mod Committing
 pub mod Loading
 pub mod Gates

@@ -17,7 +17,7 @@ use Rattle.fts_rows.specs.declared.error.PlanError.TheVariants.{NoMemory, Duplic
 use Rattle.fts_rows.specs.Refusal.{IsNoPlan}
 use Rattle.fts_steps.specs.State.{State, payloads, with_commits, IsSound}
 use Rattle.fts_engine.specs.declared.kept.Kept.{Kept}
-use Rattle.fts_engine.specs.Kept.{KeptAs, kept_rows, kept_limits}
+use Rattle.fts_engine.specs.Kept.{kept_settings, kept_rows, kept_limits}
 use Rattle.fts_engine.specs.Loading.{BeginsWith, IsLoaded, AreNoState}
 use Rattle.fts_engine.proofs.Accepting.{replay_accepted}
 use Rattle.fts_engine.proofs.Committing.{payloads-push, sound-push}
@@ -66,7 +66,7 @@ refused_not answer (IdsFull largest) other (inr why) ok = (let no = (rw why at o
 refused_not answer (TextTooLong change long) other (inr why) ok = (let no = (rw why at ok) in cc)
 refused_not answer (RowsFull rows) other (inr why) ok = (let no = (rw why at ok) in cc)
 
-module _ (all : List (List ℕ)) (settings : Settings) (k : ℕ) (kept : Kept) (l : IsLoaded all settings k kept) (within : k < length all) where
+module _ (all : List (List ℕ)) (k : ℕ) (kept : Kept) (l : IsLoaded all k kept) (within : k < length all) where
   -- the settings of a sound state with these entries are those that were loaded
   same_settings : (whole : State) → IsSound whole → payloads whole ≡ all → l.state.settings ≡ whole.settings
   same_settings whole sound is =
@@ -76,16 +76,16 @@ module _ (all : List (List ℕ)) (settings : Settings) (k : ℕ) (kept : Kept) (
       payload_has_one_settings l.state.settings whole.settings l.sound.settings sound.settings (ap (λ (entries : List (List ℕ)). get_or entries 0 []) split')
 
   -- such a state goes on behind what was loaded
-  whole_goes_on : (whole : State) → IsSound whole → payloads whole ≡ all → GoesOn (length settings.columns) l.state.commits whole.commits
+  whole_goes_on : (whole : State) → IsSound whole → payloads whole ≡ all → GoesOn (length (kept_settings kept).columns) l.state.commits whole.commits
   whole_goes_on whole sound is =
       let split : payloads l.state ≡ take (length l.state.commits + 1) (payloads whole) =
       l.loaded ∙ ap (λ (n : ℕ). take n all) (sym l.count) ∙ ap (take (length l.state.commits + 1)) (sym is) in
       let split' : payloads l.state ≡ settings_payload whole.settings ∷ take (length l.state.commits) (map commit_payload whole.commits) = rw add-one at split in
       let long : length (payloads whole) ≡ length all = ap length is in
-      let front : All (IsWritten (length settings.columns)) l.state.commits = subst (λ (s : Settings). All (IsWritten (length s.columns)) l.state.commits) l.same l.sound.written in
-      let those : All (IsWritten (length settings.columns)) whole.commits =
+      let front : All (IsWritten (length (kept_settings kept).columns)) l.state.commits = subst (λ (s : Settings). All (IsWritten (length s.columns)) l.state.commits) l.same l.sound.written in
+      let those : All (IsWritten (length (kept_settings kept).columns)) whole.commits =
       subst (λ (s : Settings). All (IsWritten (length s.columns)) whole.commits) (sym (same_settings whole sound is) ∙ l.same) sound.written in
-      goes_on (length settings.columns) l.state.commits whole.commits front those (ap (drop 1) split')
+      goes_on (length (kept_settings kept).columns) l.state.commits whole.commits front those (ap (drop 1) split')
       (let count = l.count in omega (arith, long, length-map whole.commits commit_payload))
 
   -- its next entry is that commit's
@@ -98,7 +98,7 @@ module _ (all : List (List ℕ)) (settings : Settings) (k : ℕ) (kept : Kept) (
 
   -- an entry that is no commit: no sound state has it
   pub no_commit : (payload : List ℕ) (result : Result Commit DecodeError) → payload ≡ get_or all k []
-      → ((commit : Commit) → IsWritten (length settings.columns) commit → payload ≡ commit_payload commit → (result ≡ Ok commit) ⊎ (result ≡ Err decode.NoMemory))
+      → ((commit : Commit) → IsWritten (length (kept_settings kept).columns) commit → payload ≡ commit_payload commit → (result ≡ Ok commit) ⊎ (result ≡ Err decode.NoMemory))
       → result ≡ Err decode.Bad → AreNoState all
   no_commit payload result is exact bad whole sound whole_is =
       let next = whole_goes_on whole sound whole_is in
@@ -107,36 +107,38 @@ module _ (all : List (List ℕ)) (settings : Settings) (k : ℕ) (kept : Kept) (
         | inr e ↦ (let f = bad in cc)
       ]
 
+  -- what the rows that are kept answer, the rows of the state answer
+  same_answer : (commit : Commit) → after_commit (kept_limits kept) commit (kept_rows kept) ≡ after_commit standard_limits commit (replay l.state.commits)
+  same_answer commit =
+      ap (λ (limits : Limits). after_commit limits commit (kept_rows kept)) l.limits ∙ ap (λ (rows : Rows). after_commit standard_limits commit rows) l.rows
+
   -- a commit that the rows refuse: no sound state has it
-  pub no_accepted : (payload : List ℕ) (commit : Commit) (error : PlanError) → payload ≡ get_or all k [] → IsWritten (length settings.columns) commit → payload ≡ commit_payload commit
+  pub no_accepted : (payload : List ℕ) (commit : Commit) (error : PlanError) → payload ≡ get_or all k [] → IsWritten (length (kept_settings kept).columns) commit → payload ≡ commit_payload commit
       → (error ≡ NoMemory → ⊥) → IsNoPlan (after_commit (kept_limits kept) commit (kept_rows kept)) error → AreNoState all
   no_accepted payload commit error is written spelled other refused whole sound whole_is =
       let next = whole_goes_on whole sound whole_is in
-      let same : next.commit ≡ commit = payload_has_one_commit (length settings.columns) next.commit commit next.written written (sym (entry_is whole sound whole_is) ∙ sym is ∙ spelled) in
+      let same : next.commit ≡ commit = payload_has_one_commit (length (kept_settings kept).columns) next.commit commit next.written written (sym (entry_is whole sound whole_is) ∙ sym is ∙ spelled) in
       let accepted : AreAccepted no_rows (l.state.commits ++ next.commit ∷ next.rest) = subst (λ (commits : List Commit). AreAccepted no_rows commits) next.is sound.accepted in
       let ok : IsOk (after_commit standard_limits commit (replay l.state.commits)) =
       subst (λ (c : Commit). IsOk (after_commit standard_limits c (replay l.state.commits))) same (accepted_at no_rows l.state.commits next.commit next.rest accepted) in
-      let here : after_commit (kept_limits kept) commit (kept_rows kept) ≡ after_commit standard_limits commit (replay l.state.commits) =
-      ap (λ (limits : Limits). after_commit limits commit (kept_rows kept)) l.limits ∙ ap (λ (rows : Rows). after_commit standard_limits commit rows) l.rows.table in
       refused_not (after_commit standard_limits commit (replay l.state.commits)) error other
-      (subst (λ (answer : Result Rows Refused). IsNoPlan answer error) here refused) ok
+      (subst (λ (answer : Result Rows Refused). IsNoPlan answer error) (same_answer commit) refused) ok
 
   -- one commit more is loaded
-  pub one_more : (payload : List ℕ) (commit : Commit) (after : Rows) (kept' : Kept) → payload ≡ get_or all k [] → IsWritten (length settings.columns) commit
-      → payload ≡ commit_payload commit → after_commit (kept_limits kept) commit (replay l.state.commits) ≡ Ok after → KeptAs after kept' → kept_limits kept' ≡ kept_limits kept
-      → IsLoaded all settings (k + 1) kept'
-  one_more payload commit after kept' is written spelled ok keeps limits =
-      let accepted : after_commit standard_limits commit (replay l.state.commits) ≡ Ok after =
-      ap (λ (limits : Limits). after_commit limits commit (replay l.state.commits)) (sym l.limits) ∙ ok in
+  pub one_more : (payload : List ℕ) (commit : Commit) (kept' : Kept) → payload ≡ get_or all k [] → IsWritten (length (kept_settings kept).columns) commit
+      → payload ≡ commit_payload commit → after_commit (kept_limits kept) commit (kept_rows kept) ≡ Ok (kept_rows kept')
+      → kept_settings kept' ≡ kept_settings kept → kept_limits kept' ≡ kept_limits kept → IsLoaded all (k + 1) kept'
+  one_more payload commit kept' is written spelled ok settings limits =
+      let accepted : after_commit standard_limits commit (replay l.state.commits) ≡ Ok (kept_rows kept') = sym (same_answer commit) ∙ ok in
       let written' : IsWritten (length l.state.settings.columns) commit = subst (λ (s : Settings). IsWritten (length s.columns) commit) (sym l.same) written in
       record {
         state = with_commits l.state (commit ∷ []);
-        sound = sound-push l.state commit after l.sound written' accepted;
-        same = l.same;
+        sound = sound-push l.state commit (kept_rows kept') l.sound written' accepted;
+        same = l.same ∙ sym settings;
         loaded = payloads-push l.state commit ∙ ap (λ (front : List (List ℕ)). front ++ commit_payload commit ∷ []) l.loaded
             ∙ ap (λ (payload' : List ℕ). take k all ++ payload' ∷ []) (sym spelled ∙ is) ∙ sym (take_more all k [] within);
         count = let count = l.count in omega (arith, length-append l.state.commits (commit ∷ []));
-        rows = subst (λ (rows : Rows). KeptAs rows kept') (sym (replay_accepted l.state.commits commit after accepted)) keeps;
+        rows = sym (replay_accepted l.state.commits commit (kept_rows kept') accepted);
         limits = limits ∙ l.limits;
       }
 
@@ -148,17 +150,18 @@ settings_begin (first ∷ all) payload settings some is right spelled =
     record { right = right; first = ap (λ (p : List ℕ). p ∷ []) (sym spelled ∙ is) }
 
 -- nothing but the settings is loaded
-pub first_loaded : (all : List (List ℕ)) (settings : Settings) (kept : Kept) → BeginsWith settings all → KeptAs no_rows kept → kept_limits kept ≡ standard_limits → IsLoaded all settings 1 kept
-first_loaded all settings kept begins keeps limits = record {
+pub first_loaded : (all : List (List ℕ)) (settings : Settings) (kept : Kept) → BeginsWith settings all → kept_settings kept ≡ settings
+    → kept_rows kept ≡ no_rows → kept_limits kept ≡ standard_limits → IsLoaded all 1 kept
+first_loaded all settings kept begins same rows limits = record {
   state = record { settings = settings; commits = [] };
   sound = record { settings = begins.right; written = λ k d less. absurd (omega arith); accepted = tt };
-  same = refl;
+  same = sym same;
   loaded = begins.first;
   count = refl;
-  rows = keeps;
+  rows = rows;
   limits = limits;
 }
 
 -- all is loaded
-pub loaded_all : (all : List (List ℕ)) (settings : Settings) (kept : Kept) (l : IsLoaded all settings (length all) kept) → payloads l.state ≡ all
-loaded_all all settings kept l = l.loaded ∙ take_all (length all) all (omega arith)
+pub loaded_all : (all : List (List ℕ)) (kept : Kept) (l : IsLoaded all (length all) kept) → payloads l.state ≡ all
+loaded_all all kept l = l.loaded ∙ take_all (length all) all (omega arith)

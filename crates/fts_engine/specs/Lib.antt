@@ -1,3 +1,4 @@
+pub mod Next
 pub mod Kept
 pub mod Bounds
 pub mod Refusing

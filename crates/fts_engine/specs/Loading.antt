@@ -6,21 +6,21 @@ use Rattle.fts_commits.specs.Commit.{replay}
 use Rattle.fts_rowcodec.specs.Payload.{settings_payload}
 use Rattle.fts_steps.specs.State.{State, payloads, IsSound}
 use Rattle.fts_engine.specs.declared.kept.Kept.{Kept}
-use Rattle.fts_engine.specs.Kept.{KeptAs, kept_limits}
+use Rattle.fts_engine.specs.Kept.{kept_settings, kept_rows, kept_limits}
 
 -- the first entry of a log is the payload of these settings
 pub record BeginsWith (settings : Settings) (all : List (List ℕ)) : Type 0 where
   pub right : AreSettings settings
   pub first : settings_payload settings ∷ [] ≡ take 1 all
 
--- the first k entries of a log were loaded: they are a sound state's, and its rows are kept
-pub record IsLoaded (all : List (List ℕ)) (settings : Settings) (k : ℕ) (kept : Kept) : Type 0 where
+-- the first k entries of a log were loaded: they are a sound state's, and its settings and rows are kept
+pub record IsLoaded (all : List (List ℕ)) (k : ℕ) (kept : Kept) : Type 0 where
   pub state : State
   pub sound : IsSound state
-  pub same : state.settings ≡ settings
+  pub same : state.settings ≡ kept_settings kept
   pub loaded : payloads state ≡ take k all
   pub count : length state.commits + 1 ≡ k
-  pub rows : KeptAs (replay state.commits) kept
+  pub rows : kept_rows kept ≡ replay state.commits
   pub limits : kept_limits kept ≡ standard_limits
 
 -- the entries of a log are no sound state's

@@ -9,7 +9,7 @@ use Rattle.fts_engine.specs.declared.engine.Engine.{Engine}
 use Rattle.fts_types.specs.declared.limits.Limits.{Limits}
 use Rattle.fts_types.specs.Limits.{standard_limits}
 use Rattle.fts_engine.specs.Bounds.{AreWithin}
-use Rattle.fts_engine.specs.Kept.{KeptAs, kept_limits}
+use Rattle.fts_engine.specs.Kept.{kept_settings, kept_rows, kept_limits}
 
 -- the limits of its commits
 abbrev pub engine_limits : {D : Type 0} {disk : Ghosts D} → Engine D disk → Limits
@@ -23,11 +23,11 @@ engine_device engine = device_of engine.log
 abbrev pub engine_faults : {D : Type 0} {disk : Ghosts D} → Engine D disk → ℕ
 engine_faults {disk} engine = disk.faults (device_of engine.log)
 
--- the engine stands for the state: its log has the state's entries, and it keeps the state's rows
+-- the engine stands for the state: its log has the state's entries, and it keeps the state's settings and rows
 pub record Stands {D : Type 0} {disk : Ghosts D} (state : State) (engine : Engine D disk) : Type 0 where
   pub sound : IsSound state
-  pub settings : state.settings ≡ engine.settings
-  pub rows : KeptAs (replay state.commits) engine.kept
+  pub settings : state.settings ≡ kept_settings engine.kept
+  pub rows : kept_rows engine.kept ≡ replay state.commits
   pub within : AreWithin standard_limits (engine_limits engine)
   pub limit : limit_of engine.log ≡ (engine_limits engine).log_bytes
   pub magic : magic_of engine.log ≡ rows_magic

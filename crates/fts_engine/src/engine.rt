@@ -1,4 +1,4 @@
-ghost use Rattle.std.specs.Prelude.{false, length, ◌≡◌, ◌≤◌, ◌⊎◌, ℕ, List, [], ◌∷◌, IsTrue, IsErrOf, IfOk, Err};
+ghost use Rattle.std.specs.Prelude.{false, length, ◌≡◌, ◌≤◌, ◌⊎◌, ℕ, [], ◌∷◌, IsTrue, IsErrOf, IfOk, Err};
 ghost use Rattle.fts_engine.specs.Refusing.{refusal_answer};
 ghost use Rattle.fts_faults.specs.Count.{Rose};
 ghost use Rattle.fts_log.specs.Frame.{payload_of};
@@ -15,17 +15,15 @@ use fts_log::{AppendError, Framed, Log};
 use fts_rowcodec::encode_commit;
 use fts_rows::PlanError;
 use fts_steps::{CommitError, View};
-use fts_types::{Names, Settings};
+use fts_types::Settings;
 use std::alloc::{AllocError, Global};
 
-/// A database that is open: its rows log, and its rows and their words in memory.
+/// A database that is open: its rows log, and its settings, its rows and the index of their words in memory.
 #[derive(Drop)]
 pub struct Engine<D: Disk> {
     pub(crate) alloc: Global,
     pub(crate) log: Log<D>,
-    pub(crate) settings: Settings,
     pub(crate) kept: Kept,
-    ghost few: { length settings.columns ≤ 8 },
 }
 
 impl<D: Disk> Engine<D> {
@@ -87,10 +85,11 @@ impl<D: Disk> Engine<D> {
 
     /// The settings with which the database was created.
     pub fn settings(&self) -> &Settings
+        ensures some { 1 ≤ length result.now.columns }
         ensures few { length result.now.columns ≤ 8 }
         ensures settings { (state : State) → Stands state self.now → state.settings ≡ result.now }
     {
-        &self.settings
+        self.kept.settings()
     }
 
     /// The device, which reads as the database of what the engine stood for.
@@ -102,7 +101,6 @@ impl<D: Disk> Engine<D> {
         let Engine {
             alloc: _,
             log,
-            settings: _,
             kept: _,
         } = self;
         log.close()

@@ -1,103 +1,117 @@
-ghost use Rattle.std.specs.Prelude.{◌≡◌, ◌≤◌, ◌+◌, ◌⊎◌, ◌++◌, ℕ, List, length, map, IfOk, IfErr, OnOk, Ok, Err};
+ghost use Rattle.std.specs.Prelude.{◌≡◌};
+ghost use Rattle.fts_types.specs.declared.settings.Settings.{Settings};
+ghost use Rattle.fts_types.specs.Settings.{AreSettings};
+ghost use Rattle.fts_types.specs.Rules.{rules_of};
+ghost use Rattle.fts_types.specs.Limits.{standard_limits};
+ghost use Rattle.fts_commits.specs.Commit.{Rows as RowList};
+ghost use Rattle.fts_rows.specs.Rows.{rows_of, limits_of};
+ghost use Rattle.fts_index.specs.Index.{Indexes};
+ghost use Rattle.fts_engine.specs.Bounds.{AreWithin};
+ghost use Rattle.fts_engine.specs.Next.{WillHold};
 
-use crate::entry::{Entry, entries_of, find};
 use fts_commits::Change;
+use fts_index::{CommitPlan, Index};
 use fts_rows::{Plan, PlanError, Rows};
 use fts_schema::DocIds;
-use fts_types::Limits;
+use fts_types::{Limits, Settings};
 use std::alloc::{AllocError, Global};
 
-/// What is kept in memory of the rows: the rows themselves, and the words of each for the searches.
+/// What is kept in memory of a database: its settings, its rows, and the index of their words.
 #[derive(Drop)]
 pub struct Kept {
-    alloc: Global,
+    settings: Settings,
     rows: Rows,
-    entries: Vec<Entry>,
+    index: Index,
+    ghost right: { AreSettings settings },
+    ghost within: { AreWithin standard_limits (limits_of rows) },
+    ghost indexed: { Indexes (rules_of settings) (rows_of rows) index },
 }
 
-/// What a commit makes of it. Its room is made.
+/// What a commit makes of the rows and the index. Its room is made.
 #[derive(Drop)]
 pub struct NextKept {
     plan: Plan,
-    entries: Vec<Entry>,
+    words: CommitPlan,
 }
 
 impl Kept {
-    ghost use Rattle.std.specs.Prelude.{◌≡◌, ◌≤◌, ◌+◌, ◌⊎◌, ◌++◌, ℕ, List, length, map, IfOk, IfErr, OnOk, Ok, Err};
-    ghost use Rattle.std.specs.Vec.{vec_len, vec_capacity};
+    ghost use Rattle.std.specs.Prelude.{◌≡◌, ◌≤◌, ℕ, length, IfOk, IfErr, OnOk, Ok};
+    ghost use Rattle.fts_types.specs.Rules.{rules_of};
     ghost use Rattle.fts_commits.specs.Commit.{Rows as RowList, after_commit, no_rows};
     ghost use Rattle.fts_commits.specs.Fits.{IsCommit};
     ghost use Rattle.fts_commits.specs.Scan.{scan};
-    ghost use Rattle.fts_rows.specs.Rows.{Held, rows_of};
-    ghost use Rattle.fts_rows.specs.Plan.{PlanFor};
     ghost use Rattle.fts_rows.specs.Refusal.{IsNoPlan};
-    ghost use Rattle.fts_engine.specs.Kept.{entry_of, kept_rows, KeptAs, WillKeep, kept_limits};
+    ghost use Rattle.fts_engine.specs.Kept.{kept_settings, kept_rows, kept_limits, WillKeep};
 
-    /// Nothing is kept yet.
-    pub fn new(alloc: Global, limits: Limits) -> Self
-        ensures kept { KeptAs no_rows result }
+    /// No row is kept yet.
+    pub fn new(alloc: Global, settings: Settings, limits: Limits) -> Self
+        requires right { AreSettings settings }
+        requires within { AreWithin standard_limits limits }
+        ensures rows { kept_rows result ≡ no_rows }
+        ensures settings { kept_settings result ≡ settings }
         ensures limits { kept_limits result ≡ limits }
     {
         Kept {
-            alloc,
+            settings,
             rows: Rows::new(alloc, limits),
-            entries: Vec::new(alloc),
+            index: Index::new(alloc),
         }
+    }
+
+    /// The settings of the database.
+    pub fn settings(&self) -> &Settings
+        ensures some { 1 ≤ length result.now.columns }
+        ensures few { length result.now.columns ≤ 8 }
+        ensures settings { result.now ≡ kept_settings self.now }
+    {
+        &self.settings
     }
 
     /// Sets the limits of later commits.
     pub fn set_limits(&mut self, limits: Limits)
-        ensures kept { (rows : RowList) → KeptAs rows self.old → KeptAs rows self.new }
+        requires { AreWithin standard_limits limits }
+        ensures rows { kept_rows self.new ≡ kept_rows self.old }
+        ensures settings { kept_settings self.new ≡ kept_settings self.old }
         ensures limits { kept_limits self.new ≡ limits }
     {
         self.rows.set_limits(limits);
     }
 
-    /// What a commit makes of the rows, with the room for it.
+    /// What a commit makes of the rows and their words, with the room for it.
     pub fn plan(&mut self, changes: &[Change]) -> Result<NextKept, PlanError>
-        requires { (columns : ℕ) × IsCommit columns changes.now }
+        requires { (columns : ℕ) × (1 ≤ columns) × (columns ≤ 8) × IsCommit columns changes.now }
         ensures planned { IfOk result (λ next. (after : RowList) × (after_commit (kept_limits self.old) changes.now (kept_rows self.old) ≡ Ok after) × WillKeep self.new next after) }
         ensures refused { IfErr result (IsNoPlan (after_commit (kept_limits self.old) changes.now (kept_rows self.old))) }
-        ensures kept { (rows : RowList) → KeptAs rows self.old → KeptAs rows self.new }
+        ensures rows { kept_rows self.new ≡ kept_rows self.old }
+        ensures settings { kept_settings self.new ≡ kept_settings self.old }
         ensures limits { kept_limits self.new ≡ kept_limits self.old }
     {
-        let plan = self.rows.plan(changes)?;
-        match self.with_room(&plan) {
-            Ok(entries) => Ok(NextKept { plan, entries }),
+        let plan = match self.rows.plan(changes) {
+            Ok(plan) => plan,
+            Err(error) => return Err(error),
+        };
+        match self.index.plan_commit(&self.settings, plan.births()) {
+            Ok(words) => Ok(NextKept { plan, words }),
             Err(AllocError) => Err(PlanError::NoMemory),
         }
     }
 
-    // The words of what a plan adds, with the room for them.
-    fn with_room(&mut self, plan: &Plan) -> Result<Vec<Entry>, AllocError>
-        ensures entries { IfOk result (λ entries. (rows : Held) (after : RowList) → PlanFor rows plan.now after
-            → map entry_of after.list ≡ map entry_of (rows_of rows).list ++ entries.items) }
-        ensures room { IfOk result (λ entries. vec_len self.new.entries + vec_len entries ≤ vec_capacity self.new.entries) }
-        ensures rows { self.new.rows ≡ self.old.rows }
-        ensures kept { self.new.entries.items ≡ self.old.entries.items }
-    {
-        let entries = entries_of(self.alloc, plan.births())?;
-        self.entries.reserve(entries.len())?;
-        Ok(entries)
-    }
-
-    /// Keeps what a commit made of the rows.
+    /// Keeps what a commit made of the rows and their words.
     pub fn install(&mut self, next: NextKept)
         requires { (after : RowList) × WillKeep self.old next after }
-        ensures kept { (rows after : RowList) → KeptAs rows self.old → WillKeep self.old next after → KeptAs after self.new }
+        ensures rows { (after : RowList) → WillKeep self.old next after → kept_rows self.new ≡ after }
+        ensures settings { kept_settings self.new ≡ kept_settings self.old }
         ensures limits { kept_limits self.new ≡ kept_limits self.old }
     {
-        let NextKept { plan, mut entries } = next;
-        self.rows.install(plan);
-        self.entries.append(&mut entries).unwrap();
+        install_next(&mut self.rows, &mut self.index, next);
     }
 
     /// Makes a commit that stands in the log already.
     pub fn replay(&mut self, changes: &[Change]) -> Result<(), PlanError>
-        requires { (columns : ℕ) × IsCommit columns changes.now }
-        ensures kept { OnOk result ((rows : RowList) → KeptAs rows self.old
-            → (after : RowList) × (after_commit (kept_limits self.old) changes.now rows ≡ Ok after) × KeptAs after self.new) }
+        requires { (columns : ℕ) × (1 ≤ columns) × (columns ≤ 8) × IsCommit columns changes.now }
+        ensures rows { OnOk result (after_commit (kept_limits self.old) changes.now (kept_rows self.old) ≡ Ok (kept_rows self.new)) }
         ensures refused { IfErr result (IsNoPlan (after_commit (kept_limits self.old) changes.now (kept_rows self.old))) }
+        ensures settings { kept_settings self.new ≡ kept_settings self.old }
         ensures limits { kept_limits self.new ≡ kept_limits self.old }
     {
         match self.plan(changes) {
@@ -111,9 +125,21 @@ impl Kept {
 
     /// The document ids of the rows that have the word.
     pub fn find(&self, word: &[u8]) -> Result<DocIds, AllocError>
-        ensures { IfOk result (λ docs. (rows : RowList) → KeptAs rows self.now → docs ≡ scan word.now rows) }
+        ensures { IfOk result (λ docs. docs ≡ scan (rules_of (kept_settings self.now)) word.now (kept_rows self.now)) }
     {
-        let docs = find(self.alloc, &self.entries, word)?;
-        Ok(docs)
+        self.index.find(word)
     }
+}
+
+// Puts what a commit made into the rows and the index.
+fn install_next(rows: &mut Rows, index: &mut Index, next: NextKept)
+    requires { (settings : Settings) × (after : RowList) × WillHold settings rows.old index.old next after }
+    ensures rows { (settings : Settings) (after : RowList) → WillHold settings rows.old index.old next after → rows_of rows.new ≡ after }
+    ensures index { (settings : Settings) (after : RowList) → Indexes (rules_of settings) (rows_of rows.old) index.old
+        → WillHold settings rows.old index.old next after → Indexes (rules_of settings) after index.new }
+    ensures limits { limits_of rows.new ≡ limits_of rows.old }
+{
+    let NextKept { plan, words } = next;
+    rows.install(plan);
+    index.install_commit(words);
 }

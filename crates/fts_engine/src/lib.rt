@@ -4,7 +4,6 @@
 mod create;
 mod created;
 mod engine;
-mod entry;
 mod error;
 mod kept;
 mod load;

@@ -1,8 +1,8 @@
-ghost use Rattle.std.specs.Prelude.{◌≡◌, ◌+◌, ◌<◌, ◌≤◌, ◌^◌, ℕ, List, [], length, IsTrue, IsErrOf, IfOk, OnOk};
+ghost use Rattle.std.specs.Prelude.{◌≡◌, ◌+◌, ◌<◌, ◌≤◌, ℕ, List, length, IsTrue, IsErrOf, IfOk, OnOk};
 ghost use Rattle.fts_faults.specs.Count.{Rose};
 ghost use Rattle.fts_log.specs.Device.{LooksOnly};
-ghost use Rattle.fts_log.specs.Log.{StandsFor, IsReady, KeepsMaking, device_of, found_count, count_of, end_of};
-ghost use Rattle.fts_types.specs.declared.settings.Settings.{Settings};
+ghost use Rattle.fts_log.specs.Log.{StandsFor, IsReady, KeepsMaking, device_of, found_count, count_of};
+ghost use Rattle.fts_types.specs.Settings.{AreSettings};
 ghost use Rattle.fts_engine.specs.Loading.{BeginsWith, IsLoaded, AreNoState};
 
 use crate::OpenError;
@@ -21,12 +21,11 @@ const FIRST_RECORD: u64 = 8;
 const RECORD_HEAD: u64 = 5;
 
 /// Reads the entries of a log that has some: the settings, and what is kept of the rows.
-pub fn load<D: Disk>(alloc: Global, log: &mut Log<D>) -> Result<(Settings, Kept), OpenError>
+pub fn load<D: Disk>(alloc: Global, log: &mut Log<D>) -> Result<Kept, OpenError>
     requires found { found_count log.old ≡ count_of log.old }
     requires some { 0 < count_of log.old }
     requires ready { IsTrue D.tells → IsReady log.old }
-    ensures few { IfOk result (λ r. length r.0.columns ≤ 8) }
-    ensures loaded { IfOk result (λ r. IsTrue D.tells → (all : List (List ℕ)) → StandsFor all log.old → IsLoaded all r.0 (length all) r.1) }
+    ensures loaded { IfOk result (λ kept. IsTrue D.tells → (all : List (List ℕ)) → StandsFor all log.old → IsLoaded all (length all) kept) }
     ensures damaged { (at : ℕ) → IsErrOf result (OpenError.Damaged at) → IsTrue D.tells → (all : List (List ℕ)) → StandsFor all log.old → AreNoState all }
     ensures created { IsErrOf result OpenError.NotCreated → ⊥ }
     ensures stays { IsTrue D.tells → (all : List (List ℕ)) → StandsFor all log.old → StandsFor all log.new }
@@ -36,27 +35,26 @@ pub fn load<D: Disk>(alloc: Global, log: &mut Log<D>) -> Result<(Settings, Kept)
     ensures never_falls { D.faults (device_of log.old) ≤ D.faults (device_of log.new) }
 {
     let (settings, at) = load_settings(alloc, log)?;
-    match load_commits(alloc, log, settings.columns.len(), at) {
-        Ok(kept) => Ok((settings, kept)),
+    let mut kept = Kept::new(alloc, settings, Limits::standard());
+    match load_commits(alloc, log, at, &mut kept) {
+        Ok(()) => Ok(kept),
         Err(error) => Err(error),
     }
 }
 
-// Reads all entries behind the first, whose next record's gate stands at `at`, and gives what is kept of the rows.
+// Reads all entries behind the first, whose next record's gate stands at `at`, and keeps the rows that they leave.
 fn load_commits<D: Disk>(
     alloc: Global,
     log: &mut Log<D>,
-    columns: usize,
     at: u64,
-) -> Result<Kept, OpenError>
-    requires few { columns ≤ 8 }
+    kept: &mut Kept,
+) -> Result<(), OpenError>
     requires found { found_count log.old ≡ count_of log.old }
     requires some { 0 < count_of log.old }
     requires ready { IsTrue D.tells → IsReady log.old }
-    ensures loaded { IfOk result (λ kept. IsTrue D.tells → (all : List (List ℕ)) (settings : Settings) → StandsFor all log.old
-        → columns ≡ length settings.columns → BeginsWith settings all → IsLoaded all settings (length all) kept) }
-    ensures damaged { (place : ℕ) → IsErrOf result (OpenError.Damaged place) → IsTrue D.tells → (all : List (List ℕ)) (settings : Settings) → StandsFor all log.old
-        → columns ≡ length settings.columns → BeginsWith settings all → AreNoState all }
+    ensures loaded { OnOk result (IsTrue D.tells → (all : List (List ℕ)) → StandsFor all log.old → IsLoaded all 1 kept.old → IsLoaded all (length all) kept.new) }
+    ensures damaged { (place : ℕ) → IsErrOf result (OpenError.Damaged place) → IsTrue D.tells → (all : List (List ℕ)) → StandsFor all log.old
+        → IsLoaded all 1 kept.old → AreNoState all }
     ensures created { IsErrOf result OpenError.NotCreated → ⊥ }
     ensures stays { IsTrue D.tells → (all : List (List ℕ)) → StandsFor all log.old → StandsFor all log.new }
     ensures looks { IsTrue D.tells → LooksOnly D.Disk (device_of log.old) (device_of log.new) }
@@ -65,22 +63,21 @@ fn load_commits<D: Disk>(
     ensures never_falls { D.faults (device_of log.old) ≤ D.faults (device_of log.new) }
 {
     let mut at = at;
-    let mut kept = Kept::new(alloc, Limits::standard());
     let count = log.count();
     for k in 1..count {
-        match load_commit(alloc, log, columns, k, at, &mut kept) {
+        match load_commit(alloc, log, k, at, kept) {
             Ok(next) => at = next,
             Err(error) => return Err(error),
         }
     }
-    Ok(kept)
+    Ok(())
 }
 
 // Reads the settings, the first entry, and gives them and the place of the next record.
 fn load_settings<D: Disk>(alloc: Global, log: &mut Log<D>) -> Result<(Settings, u64), OpenError>
     requires found { 0 < found_count log.old }
     requires ready { IsTrue D.tells → IsReady log.old }
-    ensures few { IfOk result (λ r. length r.0.columns ≤ 8) }
+    ensures right { IfOk result (λ r. AreSettings r.0) }
     ensures loaded { IfOk result (λ r. IsTrue D.tells → (all : List (List ℕ)) → StandsFor all log.old → 0 < length all → BeginsWith r.0 all) }
     ensures damaged { (at : ℕ) → IsErrOf result (OpenError.Damaged at) → IsTrue D.tells → (all : List (List ℕ)) → StandsFor all log.old → AreNoState all }
     ensures created { IsErrOf result OpenError.NotCreated → ⊥ }
@@ -103,18 +100,16 @@ fn load_settings<D: Disk>(alloc: Global, log: &mut Log<D>) -> Result<(Settings, 
 fn load_commit<D: Disk>(
     alloc: Global,
     log: &mut Log<D>,
-    columns: usize,
     k: u64,
     at: u64,
     kept: &mut Kept,
 ) -> Result<u64, OpenError>
-    requires few { columns ≤ 8 }
     requires found { k < found_count log.old }
     requires ready { IsTrue D.tells → IsReady log.old }
-    ensures loaded { OnOk result (IsTrue D.tells → (all : List (List ℕ)) (settings : Settings) → StandsFor all log.old → k < length all
-        → columns ≡ length settings.columns → IsLoaded all settings k kept.old → IsLoaded all settings (k + 1) kept.new) }
-    ensures damaged { (place : ℕ) → IsErrOf result (OpenError.Damaged place) → IsTrue D.tells → (all : List (List ℕ)) (settings : Settings) → StandsFor all log.old → k < length all
-        → columns ≡ length settings.columns → IsLoaded all settings k kept.old → AreNoState all }
+    ensures loaded { OnOk result (IsTrue D.tells → (all : List (List ℕ)) → StandsFor all log.old → k < length all
+        → IsLoaded all k kept.old → IsLoaded all (k + 1) kept.new) }
+    ensures damaged { (place : ℕ) → IsErrOf result (OpenError.Damaged place) → IsTrue D.tells → (all : List (List ℕ)) → StandsFor all log.old → k < length all
+        → IsLoaded all k kept.old → AreNoState all }
     ensures created { IsErrOf result OpenError.NotCreated → ⊥ }
     ensures stays { IsTrue D.tells → (all : List (List ℕ)) → StandsFor all log.old → StandsFor all log.new }
     ensures looks { IsTrue D.tells → LooksOnly D.Disk (device_of log.old) (device_of log.new) }
@@ -124,6 +119,7 @@ fn load_commit<D: Disk>(
     ensures never_falls { D.faults (device_of log.old) ≤ D.faults (device_of log.new) }
 {
     let payload = log.entry_at(k)?;
+    let columns = kept.settings().columns.len();
     let changes = match decode_commit(alloc, columns, &payload) {
         Ok(changes) => changes,
         Err(DecodeError::NoMemory) => return Err(OpenError::NoMemory),

@@ -71,14 +71,9 @@ fn open_rows<D: Disk>(
         return Err((OpenError::NotCreated, log.close()));
     }
     match load(alloc, &mut log) {
-        Ok((settings, mut kept)) => {
+        Ok(mut kept) => {
             kept.set_limits(limits);
-            Ok(Engine {
-                alloc,
-                log,
-                settings,
-                kept,
-            })
+            Ok(Engine { alloc, log, kept })
         }
         Err(error) => Err((error, log.close())),
     }

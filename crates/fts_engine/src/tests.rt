@@ -90,6 +90,14 @@ fn two_rows(alloc: Global, first: Key, second: Key) -> Result<Vec<Change>, Alloc
     Ok(vec![in alloc; pie, plum]?)
 }
 
+/// The INSERT of one row with an apostrophe within a word.
+fn quoted_row(alloc: Global) -> Result<Vec<Change>, AllocError>
+    ensures { IfOk result (λ changes. CanCommit 2 changes.items) }
+{
+    let row = insert(alloc, 1, b"the aaa'bbb", b"")?;
+    Ok(vec![in alloc; row]?)
+}
+
 /// Commits changes of a table of two columns.
 fn commit(engine: &mut Engine<MemDisk>, changes: &[Change]) -> Option<Result<u64, CommitError>>
     requires fits { CanCommit 2 changes.now }
@@ -101,20 +109,22 @@ fn commit(engine: &mut Engine<MemDisk>, changes: &[Change]) -> Option<Result<u64
     Some(engine.commit(changes))
 }
 
-const FOUND: [(&str, &[DocId]); 6] = [
+/// What is found of the two rows: stopwords and words of fewer than three bytes are not indexed.
+const FOUND: [(&str, &[DocId]); 7] = [
     ("pie", &[1, 2]),
     ("apple", &[1, 2]),
     ("cream", &[1]),
     ("plum", &[2]),
-    ("pi", &[]),
+    ("with", &[]),
+    ("no", &[]),
     ("PIE", &[]),
 ];
 
 /// Whether a search for each word finds what it should after the first commit.
-fn finds_all(engine: &Engine<MemDisk>) -> Result<bool, AllocError> {
-    for (word, want) in FOUND {
+fn finds_all(engine: &Engine<MemDisk>, found: &[(&str, &[DocId])]) -> Result<bool, AllocError> {
+    for (word, want) in found {
         let view = engine.view(word.as_bytes())?;
-        if view.number != 1 || view.docs.as_slice() != want {
+        if view.number != 1 || view.docs.as_slice() != *want {
             return Ok(false);
         }
     }
@@ -127,9 +137,27 @@ fn a_commit_is_found_and_again_after_opening(rt: HostRuntime) -> Result<(), Fail
     let rows = create(alloc, empty_disk(alloc)?)?;
     let mut engine = open(alloc, rows, 2, 4_096)?;
     assert_eq!(rt; commit(&mut engine, &two_rows(alloc, 7, 3)?), Some(Ok(1)));
-    assert!(rt; finds_all(&engine)?);
+    assert!(rt; finds_all(&engine, &FOUND)?);
     let engine = open(alloc, engine.close(), 1, 0)?;
-    assert!(rt; finds_all(&engine)? && engine.commits() == 1);
+    assert!(rt; finds_all(&engine, &FOUND)? && engine.commits() == 1);
+    Ok(())
+}
+
+/// What is found of a row with an apostrophe within a word: a word is indexed whole.
+const FOUND_WHOLE: [(&str, &[DocId]); 4] = [
+    ("aaa'bbb", &[1]),
+    ("aaa", &[]),
+    ("bbb", &[]),
+    ("the", &[]),
+];
+
+#[test]
+fn a_word_is_found_whole(rt: HostRuntime) -> Result<(), Fail> {
+    let alloc = rt.alloc();
+    let rows = create(alloc, empty_disk(alloc)?)?;
+    let mut engine = open(alloc, rows, 2, 4_096)?;
+    assert_eq!(rt; commit(&mut engine, &quoted_row(alloc)?), Some(Ok(1)));
+    assert!(rt; finds_all(&engine, &FOUND_WHOLE)?);
     Ok(())
 }
 

@@ -3,7 +3,6 @@ use Rattle.std.proofs.Common.{◌≡◌, ℕ, List, [], ◌∷◌, refl, ap, sub
 use Rattle.std.specs.Prelude.{Bool, true, false, Option, Some, None, Result, Ok, Err}
 use Rattle.fts_types.specs.declared.settings.Settings.{Settings}
 use Rattle.fts_commits.specs.declared.change.Change.{Change}
-use Rattle.fts_commits.specs.Word.{query_word}
 use Rattle.fts_io.specs.Text.{whole}
 use Rattle.fts_schema.specs.declared.reply.Reply.{Reply}
 use Rattle.fts_schema.specs.declared.reply.Reply.TheVariants.{WrongColumns, Nothing, Syntax, QuerySyntax}
@@ -18,6 +17,7 @@ use Rattle.fts_sessions.specs.declared.ended.Ended.{Ended}
 use Rattle.fts_sessions.specs.declared.ended.Ended.TheVariants.{NoMemory}
 use Rattle.fts_sessions.specs.declared.steps.EngineSteps.{Ghosts}
 use Rattle.fts_sessions.specs.Request.{makes, blank, unknown}
+use Rattle.fts_sessions.specs.Query.{query_word}
 use Rattle.fts_sessions.specs.Table.{are_names, change_of}
 use Rattle.fts_sessions.specs.Conversation.{Next, asks, ends, search_for, unknown_name, insert_begins, match_begins, unless_unknown, begins}
 use Rattle.fts_sessions.specs.Execute.{Executes, Does}

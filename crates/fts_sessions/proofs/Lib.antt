@@ -1,3 +1,4 @@
 pub mod Naming
 pub mod Executing
 pub mod Values
+pub mod Queries

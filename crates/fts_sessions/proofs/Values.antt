@@ -116,13 +116,14 @@ texts_fit (Number n ∷ values) fit texts = absurd cc
 texts_fit (Text text ∷ values) fit texts =
     All-cons IsText text (map text_in values) (All-head IsFit (Text text) values fit) (texts_fit values (All-tail IsFit (Text text) values fit) texts)
 
-row_can : (columns key : ℕ) (values : List Value) (made : Change) (row : Bool) → ((length values == columns) && list_all is_text values) ≡ row → columns ≤ 8
+row_can : (columns key : ℕ) (values : List Value) (made : Change) (row : Bool) → ((length values == columns) && list_all is_text values) ≡ row → 1 ≤ columns → columns ≤ 8
     → AreFit (Number key ∷ values) → Some made ≡ insert_of columns (Number key ∷ values) → CanCommit columns (made ∷ [])
-row_can columns key values made false is few fit found = absurd (let no = (rw is at found) in cc)
-row_can columns key values made true is few fit found =
+row_can columns key values made false is one few fit found = absurd (let no = (rw is at found) in cc)
+row_can columns key values made true is one few fit found =
     let same : made ≡ change.Insert key None (map text_in values) = (let e = (rw is at found) in cc) in
     let count : length values ≡ columns = eqb-true (length values) columns (and_parts _ _ is).0 in
     subst (λ (c : Change). CanCommit columns (c ∷ [])) (sym same) (record {
+      some = one;
       few = few;
       made = record {
         some = omega arith;
@@ -134,18 +135,18 @@ row_can columns key values made true is few fit found =
       numbers = All-cons FitsNumbers (change.Insert key None (map text_in values)) [] (All-head IsFit (Number key) values fit) (λ k d less. absurd (omega arith));
     })
 
-values_can : (columns : ℕ) (values : List Value) (made : Change) → columns ≤ 8 → AreFit values → Some made ≡ insert_of columns values → CanCommit columns (made ∷ [])
-values_can columns [] made few fit found = absurd cc
-values_can columns (Text text ∷ values) made few fit found = absurd cc
-values_can columns (Number key ∷ values) made few fit found =
-    row_can columns key values made ((length values == columns) && list_all is_text values) refl few fit found
+values_can : (columns : ℕ) (values : List Value) (made : Change) → 1 ≤ columns → columns ≤ 8 → AreFit values → Some made ≡ insert_of columns values → CanCommit columns (made ∷ [])
+values_can columns [] made one few fit found = absurd cc
+values_can columns (Text text ∷ values) made one few fit found = absurd cc
+values_can columns (Number key ∷ values) made one few fit found =
+    row_can columns key values made ((length values == columns) && list_all is_text values) refl one few fit found
 
-named_can : (columns names : List (List ℕ)) (values : List Value) (made : Change) (named : Bool) → are_names (codes "id" ∷ columns) names ≡ named → length columns ≤ 8 → AreFit values
+named_can : (columns names : List (List ℕ)) (values : List Value) (made : Change) (named : Bool) → are_names (codes "id" ∷ columns) names ≡ named → 1 ≤ length columns → length columns ≤ 8 → AreFit values
     → Some made ≡ change_of columns names values → CanCommit (length columns) (made ∷ [])
-named_can columns names values made false is few fit found = absurd (let no = (rw is at found) in cc)
-named_can columns names values made true is few fit found = values_can (length columns) values made few fit (rw is at found)
+named_can columns names values made false is one few fit found = absurd (let no = (rw is at found) in cc)
+named_can columns names values made true is one few fit found = values_can (length columns) values made one few fit (rw is at found)
 
 -- the change of an INSERT that fits the table can be committed
-pub change_can : (columns names : List (List ℕ)) (values : List Value) (made : Change) → length columns ≤ 8 → AreFit values
+pub change_can : (columns names : List (List ℕ)) (values : List Value) (made : Change) → 1 ≤ length columns → length columns ≤ 8 → AreFit values
     → Some made ≡ change_of columns names values → CanCommit (length columns) (made ∷ [])
-change_can columns names values made few fit found = named_can columns names values made (are_names (codes "id" ∷ columns) names) refl few fit found
+change_can columns names values made one few fit found = named_can columns names values made (are_names (codes "id" ∷ columns) names) refl one few fit found

@@ -3,7 +3,6 @@ use Rattle.std.specs.Str.{str_eq_ignore_ascii_case}
 use Rattle.fts_types.specs.declared.settings.Settings.{Settings}
 use Rattle.fts_commits.specs.Commit.{Refused, duplicate_key, doc_id_order, doc_id_gap, ids_full, text_too_long, rows_full}
 use Rattle.fts_commits.specs.declared.change.Change.{Change}
-use Rattle.fts_commits.specs.Word.{query_word}
 use Rattle.fts_schema.specs.declared.reply.Reply.{Reply}
 use Rattle.fts_schema.specs.declared.reply.Reply.TheVariants.{Committed, Found, DuplicateKey, DocIdOrder, DocIdGap, IdsFull, TextTooLong, RowsFull, NoSuchTable, NoSuchColumn, WrongColumns, LogFull, Nothing, Syntax, QuerySyntax, LineTooLong}
 use Rattle.fts_sql.specs.declared.statement.Statement.{Statement}
@@ -11,6 +10,7 @@ use Rattle.fts_sql.specs.declared.statement.Statement.TheVariants.{Insert, Match
 use Rattle.fts_steps.specs.Step.{Ask, to_commit, to_find, Answer, committed, refused, full, found, disk_fault, no_memory, Call}
 use Rattle.fts_sessions.specs.declared.ended.Ended.{Ended}
 use Rattle.fts_sessions.specs.declared.ended.Ended.TheVariants.{NoMemory, DiskFault}
+use Rattle.fts_sessions.specs.Query.{query_word}
 use Rattle.fts_sessions.specs.Request.{Request, makes, blank, unknown, unread}
 use Rattle.fts_sessions.specs.Table.{first_unknown, are_names, change_of}
 

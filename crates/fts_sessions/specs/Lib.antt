@@ -1,5 +1,6 @@
 pub mod Request
 pub mod Table
+pub mod Query
 pub mod Texts
 pub mod Conversation
 pub mod Execute

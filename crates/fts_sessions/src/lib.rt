@@ -5,6 +5,7 @@ mod direct;
 mod ended;
 mod insert;
 mod names;
+mod query;
 mod session;
 mod steps;
 

@@ -12,8 +12,9 @@ ghost use Rattle.fts_sessions.specs.Conversation.{begins, reply_to, unknown_name
 
 use crate::insert::change_of;
 use crate::names::{are_text_columns, first_unknown, is_same};
+use crate::query::query_word;
 use crate::{Ended, EngineSteps};
-use fts_commits::{Change, Text, query_word};
+use fts_commits::{Change, Text};
 use fts_io::{Gate, Point};
 use fts_schema::Reply;
 use fts_sql::{ParseError, Statement, Values, parse_statement};

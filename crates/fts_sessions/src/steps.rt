@@ -51,6 +51,7 @@ pub trait EngineSteps {
 
     /// The settings with which the database was created.
     fn settings(&self) -> &Settings
+        ensures some { 1 ≤ length result.now.columns }
         ensures few { length result.now.columns ≤ 8 }
         ensures settings { IsTrue tells → (state : State) → stands state self.now → state.settings ≡ result.now };
 

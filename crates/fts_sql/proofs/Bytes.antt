@@ -6,7 +6,7 @@ use Rattle.std.proofs.lemmas.Bool.{both_ways, cases_Bool}
 use Rattle.std.proofs.lemmas.Bool.Decides.{nat_tests}
 use Rattle.std.proofs.lemmas.List.{drop_more}
 use Rattle.std.proofs.lemmas.List.Sums.{AllPass-from_list_all}
-use Rattle.fts_commits.specs.Word.{is_word_byte}
+use Rattle.fts_words.specs.Byte.{is_word_byte}
 use Rattle.fts_sql.specs.Token.{is_blank, is_mark}
 
 -- the blanks are three bytes

@@ -5,7 +5,7 @@ use Rattle.std.specs.Str.Parse.{digits_value}
 use Rattle.std.proofs.lemmas.Bool.{and_parts}
 use Rattle.std.proofs.lemmas.Bool.Decides.{nat_tests}
 use Rattle.std.proofs.lemmas.List.{append_assoc, append_cancel_right}
-use Rattle.fts_commits.specs.Word.{is_word_byte}
+use Rattle.fts_words.specs.Byte.{is_word_byte}
 use Rattle.fts_commits.specs.Text.{is_text_byte}
 use Rattle.fts_sql.specs.Token.{Token, name, number, string, mark, is_blank, is_mark, begins_with, IsSpelling, quoted, IsToken}
 use Rattle.fts_sql.specs.Reading.{goes_on_text}

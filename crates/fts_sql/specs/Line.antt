@@ -2,7 +2,7 @@ use Rattle.std.specs.Prelude.{◌≡◌, ◌⊎◌, ℕ, ◌^◌, ◌+◌, ◌�
 use Rattle.std.specs.List.{list_all}
 use Rattle.std.specs.Char.{is_ascii_digit}
 use Rattle.std.specs.Str.Parse.{digits_value}
-use Rattle.fts_commits.specs.Word.{is_word_byte}
+use Rattle.fts_words.specs.Byte.{is_word_byte}
 use Rattle.fts_commits.specs.Text.{is_text_byte}
 use Rattle.fts_sql.specs.Token.{Token, quoted, is_blank, is_mark, begins_with, IsFront, IsToken}
 

@@ -1,7 +1,7 @@
 use Rattle.std.specs.Prelude.{◌≡◌, ℕ, Bool, ◌==◌, true, false, if◌then◌else◌, List, [], ◌∷◌, ◌++◌, Option, Some, None}
 use Rattle.std.specs.List.{list_all}
 use Rattle.std.specs.Char.{is_ascii_digit}
-use Rattle.fts_commits.specs.Word.{is_word_byte}
+use Rattle.fts_words.specs.Byte.{is_word_byte}
 use Rattle.fts_commits.specs.Text.{is_text_byte}
 use Rattle.fts_sql.specs.Token as spec
 use Rattle.fts_sql.specs.Token.{is_blank, quoted, begins_with, IsToken}

@@ -2,7 +2,7 @@ use Rattle.std.specs.Prelude.{◌≡◌, ℕ, ◌^◌, ◌<◌, Bool, ◌==◌, 
 use Rattle.std.specs.List.{list_all, list_any}
 use Rattle.std.specs.Char.{is_ascii_digit}
 use Rattle.std.specs.Str.Parse.{digits_value}
-use Rattle.fts_commits.specs.Word.{is_word_byte}
+use Rattle.fts_words.specs.Byte.{is_word_byte}
 use Rattle.fts_commits.specs.Text.{is_text_byte}
 
 -- white space: space, tab and CR

@@ -3,7 +3,7 @@ ghost use Rattle.std.specs.List.{list_all};
 ghost use Rattle.std.specs.Option.{option_map};
 ghost use Rattle.std.specs.Char.{is_ascii_digit};
 ghost use Rattle.std.specs.Str.Parse.{digits_value};
-ghost use Rattle.fts_commits.specs.Word.{is_word_byte};
+ghost use Rattle.fts_words.specs.Byte.{is_word_byte};
 ghost use Rattle.fts_sql.specs.Token.{begins_with, is_blank};
 ghost use Rattle.fts_sql.specs.Reading.{IsNext, IsText, IsPiece};
 

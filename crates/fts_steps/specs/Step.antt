@@ -1,5 +1,6 @@
 use Rattle.std.specs.Prelude.{Bool, true, false, ◌≡◌, ℕ, ◌+◌, if◌then◌else◌, nat_lt, List, [], ◌∷◌, ◌++◌, length, Result, Ok, Err}
 use Rattle.fts_types.specs.declared.limits.Limits.{Limits}
+use Rattle.fts_types.specs.Rules.{rules_of}
 use Rattle.fts_commits.specs.Commit.{Commit, Rows, Refused, after_commit, replay}
 use Rattle.fts_commits.specs.Scan.{scan}
 use Rattle.fts_steps.specs.State.{State, with_commits, end_after}
@@ -32,7 +33,7 @@ commit_answer limits state commit (Ok rows) =
 -- the answer of a step that nothing outside disturbs
 abbrev pub plain_answer : Limits → State → Ask → Answer
 plain_answer limits state (to_commit commit) = commit_answer limits state commit (after_commit limits commit (replay state.commits))
-plain_answer limits state (to_find word) = found (length state.commits) (scan word (replay state.commits))
+plain_answer limits state (to_find word) = found (length state.commits) (scan (rules_of state.settings) word (replay state.commits))
 
 -- what the state is after a step, by its answer
 abbrev pub after : State → Ask → Answer → State

@@ -6,3 +6,4 @@ mod limits;
 mod runs;
 mod statements;
 mod status;
+mod words;

@@ -1,10 +1,6 @@
 use Rattle.std.proofs.Common.{◌∙◌}
-use Rattle.fts_rowcodec.proofs.Bounds.{few_columns}
 use Rattle.fts_engine.proofs.Loading.{settings_begin}
 use Rattle.fts_engine.proofs.load.load_settings.Goals as goal
-
-pub returns-in-Ok-clause-few : goal.returns-in-Ok-clause-few
-returns-in-Ok-clause-few g c = few_columns c.in-Ok.settings c.in-Ok.ensures.settings.0
 
 pub returns-in-Ok-clause-loaded : goal.returns-in-Ok-clause-loaded
 returns-in-Ok-clause-loaded g c told all stands some =

@@ -1,7 +1,6 @@
 use Rattle.std.proofs.Common.{ℕ, ◌<◌, List, ap, arith, length, subst, sym, ◌∙◌}
 use Rattle.fts_types.specs.declared.limits.Limits.{Limits}
 use Rattle.fts_types.specs.Limits.{standard_limits}
-use Rattle.fts_commits.specs.Commit.{replay}
 use Rattle.fts_engine.specs.Bounds.{AreWithin}
 use Rattle.fts_engine.proofs.Loading.{loaded_all}
 use Rattle.std.specs.Prelude.{Err}
@@ -30,11 +29,11 @@ returns-in-Ok-clause-opened g c told =
       loaded.state,
       record {
         sound = loaded.sound;
-        settings = loaded.same;
-        rows = c.set_limits.ensures.kept (replay loaded.state.commits) loaded.rows;
+        settings = loaded.same ∙ sym c.set_limits.ensures.settings;
+        rows = c.set_limits.ensures.rows ∙ loaded.rows;
         within = subst (λ (l : Limits). AreWithin standard_limits l) (sym c.set_limits.ensures.limits) c.requires.within;
         limit = c.in-Ok.ensures.kept.limit ∙ c.requires.limit ∙ ap (λ (l : Limits). l.log_bytes) (sym c.set_limits.ensures.limits);
         magic = c.in-Ok.ensures.kept.magic ∙ c.requires.magic;
-        log = subst (λ (entries : List (List ℕ)). StandsFor entries c.load.new.log) (sym (loaded_all all c.in-Ok.settings c.in-Ok.kept loaded)) (c.in-Ok.ensures.stays told all stands);
+        log = subst (λ (entries : List (List ℕ)). StandsFor entries c.load.new.log) (sym (loaded_all all c.in-Ok.kept loaded)) (c.in-Ok.ensures.stays told all stands);
       },
     )

@@ -1,6 +1,6 @@
 use Rattle.std.proofs.Common.{arith, [], List, ℕ, ◌∷◌, ◌++◌, sym, ap, subst, ◌∙◌}
 use Rattle.std.specs.Prelude.{Err, Ok, refl}
-use Rattle.fts_commits.specs.Commit.{Rows, after_commit, replay}
+use Rattle.fts_commits.specs.Commit.{Rows, after_commit}
 use Rattle.fts_steps.specs.State.{payloads}
 use Rattle.fts_steps.specs.Step.{committed, full}
 use Rattle.fts_steps.specs.Answers.{commit_answer_of}
@@ -16,13 +16,17 @@ use Rattle.fts_engine.proofs.engine.Engine.commit.Goals as goal
 pub returns-in-Err-clause-answers : goal.returns-in-Err-clause-answers
 returns-in-Err-clause-answers g c told state stands can =
     refusal_answers (engine_limits c.args.self.now) state c.args.changes.now c.in-Err.error (commit_answer_of (Err c.refusal_of.result)) c.refusal_of.ensures
-    (subst (λ (rows : Rows). IsNoPlan (after_commit (engine_limits c.args.self.now) c.args.changes.now rows) c.in-Err.error) stands.rows.table c.in-Err.ensures.refused)
+    (subst (λ (rows : Rows). IsNoPlan (after_commit (engine_limits c.args.self.now) c.args.changes.now rows) c.in-Err.error) stands.rows c.in-Err.ensures.refused)
 
 pub returns-in-Err-clause-stands : goal.returns-in-Err-clause-stands
 returns-in-Err-clause-stands g c told state stands can e =
     stands_in state c.args.self.now stands c.args.changes.now _
     (refusal_stays state c.args.changes.now c.in-Err.error (commit_answer_of (Err c.refusal_of.result)) c.refusal_of.ensures)
-    _ refl (c.in-Err.ensures.kept (replay state.commits) stands.rows) c.in-Err.ensures.limits refl
+    _ c.in-Err.ensures.settings c.in-Err.ensures.rows c.in-Err.ensures.limits refl
+
+pub plan-requires : goal.plan-requires
+plan-requires g c =
+    let can = c.requires.commit.1 in (c.requires.commit.0, can.some, can.few, can.made)
 
 pub framed_commit-requires : goal.framed_commit-requires
 framed_commit-requires g c = (
@@ -34,7 +38,7 @@ framed_commit-requires g c = (
 pub returns-in-Err-framed_commit-clause-stands : goal.returns-in-Err-framed_commit-clause-stands
 returns-in-Err-framed_commit-clause-stands g c told state stands can e =
     stands_still state c.args.self.now stands c.args.changes.now
-    _ refl (c.in-Ok.ensures.kept (replay state.commits) stands.rows) c.in-Ok.ensures.limits refl
+    _ c.in-Ok.ensures.settings c.in-Ok.ensures.rows c.in-Ok.ensures.limits refl
 
 pub returns-in-Ok-append-clause-answers : goal.returns-in-Ok-append-clause-answers
 returns-in-Ok-append-clause-answers g c told state stands can =
@@ -47,8 +51,8 @@ returns-in-Ok-append-clause-answers g c told state stands can =
 pub returns-in-Ok-append-clause-stands : goal.returns-in-Ok-append-clause-stands
 returns-in-Ok-append-clause-stands g c told state stands can e =
     stands_after state c.args.self.now stands c.args.changes.now can c.in-Ok.ensures.planned.0 c.in-Ok.ensures.planned.1
-    _ refl
-    (c.install.ensures.kept (replay state.commits) c.in-Ok.ensures.planned.0 (c.in-Ok.ensures.kept (replay state.commits) stands.rows) c.in-Ok.ensures.planned.2)
+    _ (c.install.ensures.settings ∙ c.in-Ok.ensures.settings)
+    (c.install.ensures.rows c.in-Ok.ensures.planned.0 c.in-Ok.ensures.planned.2)
     (c.install.ensures.limits ∙ c.in-Ok.ensures.limits)
     c.in-Ok-append.ensures.kept.magic c.in-Ok-append.ensures.kept.limit
     (subst (λ (payload : List ℕ). log.StandsFor (payloads state ++ payload ∷ []) c.append.new.self) c.in-Ok-framed_commit.ensures
@@ -68,7 +72,7 @@ pub returns-in-Err-LogFull-clause-stands : goal.returns-in-Err-LogFull-clause-st
 returns-in-Err-LogFull-clause-stands g c told state stands can e =
     let past = (c.in-Err-LogFull.ensures.full c.in-Err-LogFull.end).0 (ap Err c.in-Err-LogFull.field-0-is) in
     stands_still state c.args.self.now stands c.args.changes.now
-    _ refl (c.in-Ok.ensures.kept (replay state.commits) stands.rows) c.in-Ok.ensures.limits (c.in-Err-LogFull.ensures.unchanged past.0)
+    _ c.in-Ok.ensures.settings c.in-Ok.ensures.rows c.in-Ok.ensures.limits (c.in-Err-LogFull.ensures.unchanged past.0)
 
 pub returns-clause-answers : goal.returns-clause-answers
 returns-clause-answers g c told state stands can =
@@ -80,6 +84,6 @@ returns-clause-answers g c told state stands can =
 pub returns-clause-doubt : goal.returns-clause-doubt
 returns-clause-doubt g c told state stands can e =
     reads_either state c.args.self.now stands c.args.changes.now can c.in-Ok.ensures.planned.0 c.in-Ok.ensures.planned.1
-    (record { alloc = c.args.self.now.alloc; log = c.append.new.self; settings = c.args.self.now.settings; kept = c.plan.new.self; few = c.args.self.now.few })
+    (record { alloc = c.args.self.now.alloc; log = c.append.new.self; kept = c.plan.new.self })
     (subst (λ (payload : List ℕ). IsLogOfEither (log.magic_of c.args.self.now.log) (payloads state) payload (g.D.Disk.seen (log.device_of c.append.new.self) 0)) c.in-Ok-framed_commit.ensures
     (c.in-Err-DiskFault.ensures.doubt (ap Err c.in-Err-DiskFault.field-0-is) told (payloads state) stands.log))

@@ -1,13 +1,23 @@
-use Rattle.std.proofs.Common.{List, ◌++◌, ap, sym, ◌∙◌, map}
-use Rattle.fts_engine.specs.declared.entry.Entry.{Entry}
-use Rattle.fts_engine.specs.Kept.{entry_of}
-use Rattle.fts_commits.specs.Commit as commits
+use Rattle.std.proofs.Common.{subst, sym}
+use Rattle.fts_types.specs.declared.limits.Limits.{Limits}
+use Rattle.fts_types.specs.Limits.{standard_limits}
+use Rattle.fts_types.specs.Rules.{rules_of}
+use Rattle.fts_commits.specs.Commit.{Rows}
+use Rattle.fts_index.specs.Index.{Indexes}
+use Rattle.fts_engine.specs.Bounds.{AreWithin}
 use Rattle.fts_engine.proofs.kept.Kept.install.Goals as goal
 
-pub returns-clause-kept : goal.returns-clause-kept
-returns-clause-kept c rows after keeps next = record {
-  table = c.install.ensures.rows after next.plan;
-  entries = (rw c.unwrap.ensures at c.append.ensures.items)
-      ∙ ap (λ (front : List Entry). front ++ c.args.next.entries.items) (keeps.entries ∙ ap (λ (r : commits.Rows). map entry_of r.list) (sym keeps.table))
-      ∙ sym next.entries;
-}
+pub invariant_of-self : goal.invariant_of-self
+invariant_of-self c =
+    let kept = c.args.self.now in
+    let after = c.requires.0 in
+    record {
+      right = kept.right;
+      within = subst (λ (limits : Limits). AreWithin standard_limits limits) (sym c.install_next.ensures.limits) kept.within;
+      indexed = subst (λ (rows : Rows). Indexes (rules_of kept.settings) rows c.install_next.new.index)
+          (sym (c.install_next.ensures.rows kept.settings after c.requires.1))
+          (c.install_next.ensures.index kept.settings after kept.indexed c.requires.1);
+    }
+
+pub returns-clause-rows : goal.returns-clause-rows
+returns-clause-rows c after next = c.install_next.ensures.rows c.args.self.now.settings after next

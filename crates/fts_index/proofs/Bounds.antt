@@ -1,0 +1,129 @@
+-- How many indexed words a row can have, how long they are, and where they stand.
+use Rattle.std.proofs.Common.{◌≡◌, ℕ, zero, suc, ◌+◌, ◌<◌, ◌≤◌, Bool, true, false, cond, not, ◌&&◌, nat_le, List, [], ◌∷◌, map, filter, length, get_or, sum_by, sym, refl, ap, ◌∙◌, subst, arith, bytes_eq, leb-true, IsPermutation, IsSortedBy}
+use Rattle.std.specs.Prelude.{All}
+use Rattle.std.specs.List.Sorted.{IsStableBy}
+use Rattle.std.proofs.lemmas.Bool.{and_parts}
+use Rattle.std.proofs.lemmas.List.{length-map, get_or-map}
+use Rattle.std.proofs.lemmas.List.Elements.{All-head, All-tail, All-weaker, All-filter, All-map}
+use Rattle.std.proofs.lemmas.List.Kept.{AllPairs-filter}
+use Rattle.std.proofs.lemmas.List.Sorted.{All-permutation, length_permutation}
+use Rattle.std.proofs.lemmas.List.Sums.{sum_by-cons, sum_by-take-le}
+use Rattle.fts_types.specs.Row.{IsRow}
+use Rattle.fts_ilist.specs.Spelling.{PositionsFrom}
+use Rattle.fts_words.specs.declared.placed.PlacedWord.{PlacedWord}
+use Rattle.fts_words.specs.Stopwords.{is_listed}
+use Rattle.fts_words.specs.Indexed.{Rules, column_text, column_offset, word_of, IsIndexedWord, indexed_words, PositionsAscend}
+use Rattle.fts_words.proofs.RunLemmas.{AllPairs-head, AllPairs-tail}
+use Rattle.fts_words.proofs.WordLemmas.{raw_words_within}
+use Rattle.fts_words.proofs.PlacedLemmas.{column_offset_next, indexed_words_each, indexed_words_ascend}
+use Rattle.fts_index.specs.declared.occurrence.Occurrence.{Occurrence}
+use Rattle.fts_index.specs.Words.{positions_of}
+use Rattle.fts_index.specs.Occurrences.{Spot, spot_of, spot_in, AreListed, comes_before, positions_among, AreSorted}
+use Rattle.fts_index.proofs.Sorting.{same_positions}
+
+-- ---- where the words stand
+
+-- the texts of a row, and a byte behind each
+with_joints : (columns : List (List ℕ)) → sum_by (λ text. length text + 1) columns ≡ sum_by length columns + length columns
+with_joints [] = refl
+with_joints (text ∷ texts) =
+    omega (arith, with_joints texts, sum_by-cons (λ (t : List ℕ). length t + 1) text texts, sum_by-cons (λ (t : List ℕ). length t) text texts)
+
+-- an indexed word starts in its row
+low : (rules : Rules) (columns : List (List ℕ)) → IsRow columns → (w : PlacedWord) → IsIndexedWord rules columns w → w.position < 65543
+low rules columns row w word =
+    let raw = word.placed.raw_word in
+    let some = raw.nonempty in
+    let within = raw_words_within (column_text columns w.column) w.span.from w.span.to raw in
+    let next = column_offset_next columns w.column word.placed.column in
+    let all : column_offset columns (w.column + 1) ≤ sum_by (λ text. length text + 1) columns = sum_by-take-le (λ (t : List ℕ). length t + 1) columns (w.column + 1) in
+    omega (arith, word.placed.position, with_joints columns, row.few, row.short)
+
+all_low : (rules : Rules) (columns : List (List ℕ)) → IsRow columns → All (λ w. w.position < 65543) (indexed_words rules columns)
+all_low rules columns row =
+    All-weaker (IsIndexedWord rules columns) (λ (w : PlacedWord). w.position < 65543) (low rules columns row) (indexed_words rules columns) (indexed_words_each columns rules)
+
+-- as many words as stand before a word start below its position
+place_below : (xs : List PlacedWord) → PositionsAscend xs → (k : ℕ) (d : PlacedWord) → k < length xs → k ≤ (get_or xs k d).position
+place_below xs up zero d less = omega arith
+place_below xs up (suc k) d less =
+    let before = place_below xs up k d (omega arith) in
+    let step : (get_or xs k d).position < (get_or xs (suc k) d).position = up k (suc k) d (omega arith) less in
+    omega arith
+
+few_words : (xs : List PlacedWord) → PositionsAscend xs → All (λ w. w.position < 65543) xs → length xs ≤ 65544
+few_words [] up below = omega arith
+few_words (x ∷ xs) up below =
+    let last : length xs < length (x ∷ xs) = omega arith in
+    let place = place_below (x ∷ xs) up (length xs) x last in
+    let position : (get_or (x ∷ xs) (length xs) x).position < 65543 = below (length xs) x last in
+    omega arith
+
+-- words in ascending order have positions as a document has them
+spelled : (next : ℕ) (xs : List PlacedWord) → PositionsAscend xs → All (λ w. w.position < 65543) xs → All (λ w. next ≤ w.position) xs → PositionsFrom next (map (λ w. w.position) xs)
+spelled next [] up below above = tt
+spelled next (x ∷ xs) up below above =
+    let R : PlacedWord → PlacedWord → Type 0 = λ v w. v.position < w.position in
+    let B : PlacedWord → Type 0 = λ w. w.position < 65543 in
+    let A : PlacedWord → Type 0 = λ w. next ≤ w.position in
+    let N : PlacedWord → Type 0 = λ w. x.position + 1 ≤ w.position in
+    let first : x.position < 65543 = All-head B x xs below in (
+      All-head A x xs above,
+      omega arith,
+      spelled (x.position + 1) xs (AllPairs-tail R x xs up) (All-tail B x xs below)
+          (All-weaker (R x) N (λ (w : PlacedWord) less. omega (arith, less)) xs (AllPairs-head R x xs up)),
+    )
+
+-- the positions of a word of a row are as a document has them
+pub positions_spelled : (rules : Rules) (columns : List (List ℕ)) (word : List ℕ) → IsRow columns → PositionsFrom 0 (positions_of rules columns word)
+positions_spelled rules columns word row =
+    let p : PlacedWord → Bool = λ found. bytes_eq word (word_of columns found) in
+    let R : PlacedWord → PlacedWord → Type 0 = λ v w. v.position < w.position in
+    let B : PlacedWord → Type 0 = λ w. w.position < 65543 in
+    let all = indexed_words rules columns in
+    spelled 0 (filter p all) (AllPairs-filter R p all (indexed_words_ascend columns rules)) (All-filter p B all (all_low rules columns row)) (λ k d less. omega arith)
+
+-- ---- what is listed
+
+kept : {X : Type 0} (g : X → ℕ) (b : Bool) (s : Spot) (x : X) (ss : List Spot) (xs : List X) → s.position ≡ g x → map (λ t. t.position) ss ≡ map g xs → map (λ t. t.position) (cond b (s ∷ ss) ss) ≡ map g (cond b (x ∷ xs) xs)
+kept g true s x ss xs here rest = ap (λ (n : ℕ). n ∷ map (λ (t : Spot). t.position) ss) here ∙ ap (λ (l : List ℕ). g x ∷ l) rest
+kept g false s x ss xs here rest = rest
+
+abbrev spots_of_word : List ℕ → List Spot → List ℕ
+spots_of_word word spots = map (λ s. s.position) (filter (λ s. bytes_eq word s.word) spots)
+
+seen : {X : Type 0} (word : List ℕ) (f : X → Spot) (xs : List X) → spots_of_word word (map f xs) ≡ map (λ x. (f x).position) (filter (λ x. bytes_eq word (f x).word) xs)
+seen word f [] = refl
+seen word f (x ∷ xs) =
+    kept (λ y. (f y).position) (bytes_eq word (f x).word) (f x) x (filter (λ (s : Spot). bytes_eq word s.word) (map f xs)) (filter (λ y. bytes_eq word (f y).word) xs) refl (seen word f xs)
+
+module _ (rules : Rules) (columns : List (List ℕ)) (xs : List Occurrence) (listed : AreListed rules columns xs) where
+  listed_positions : (word : List ℕ) → positions_among word xs ≡ positions_of rules columns word
+  listed_positions word = sym (seen word spot_of xs) ∙ ap (spots_of_word word) listed ∙ seen word (spot_in columns) (indexed_words rules columns)
+
+  listed_few : IsRow columns → length xs ≤ 65544
+  listed_few row =
+      let few = few_words (indexed_words rules columns) (indexed_words_ascend columns rules) (all_low rules columns row) in
+      let long : length xs ≡ length (indexed_words rules columns) = sym (length-map xs spot_of) ∙ ap length listed ∙ length-map (indexed_words rules columns) (spot_in columns) in
+      omega arith
+
+  listed_short : rules.max ≤ 255 → All (λ o. length o.word.now ≤ 255) xs
+  listed_short max =
+      let S : Spot → Type 0 = λ s. length s.word ≤ 255 in
+      let words : All (λ (w : PlacedWord). S (spot_in columns w)) (indexed_words rules columns)
+      = All-weaker (IsIndexedWord rules columns) (λ (w : PlacedWord). S (spot_in columns w)) (λ (w : PlacedWord) (word : IsIndexedWord rules columns w).
+      let v : List ℕ = word_of columns w in
+      let parts = and_parts (nat_le rules.min (length v) && nat_le (length v) rules.max) (not (is_listed rules.stopwords v)) word.indexable in
+      let long = leb-true (length v) rules.max (and_parts (nat_le rules.min (length v)) (nat_le (length v) rules.max) parts.0).1 in
+      omega arith) (indexed_words rules columns) (indexed_words_each columns rules) in
+      let spots : All S (map spot_of xs) = subst (All S) (sym listed) (All-map S (spot_in columns) (indexed_words rules columns) words) in
+      λ k d less. subst S (get_or-map spot_of xs k d (spot_of d) less) (spots k (spot_of d) (omega (arith, length-map xs spot_of)))
+
+  -- the list, once it is sorted
+  pub listed_sorted : (ys : List Occurrence) → IsRow columns → rules.max ≤ 255 → IsPermutation xs ys → IsStableBy comes_before xs ys → IsSortedBy comes_before ys → AreSorted rules columns ys
+  listed_sorted ys row max same stable sorted = record {
+    sorted = sorted;
+    positions = λ word. same_positions xs ys same stable word ∙ listed_positions word;
+    few = omega (arith, length_permutation xs ys same, listed_few row);
+    short = All-permutation (λ o. length o.word.now ≤ 255) xs ys same (listed_short max);
+  }

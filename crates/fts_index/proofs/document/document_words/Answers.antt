@@ -1,0 +1,28 @@
+use Rattle.std.proofs.Common.{map, refl, ap, sym, ◌∙◌}
+use Rattle.fts_types.specs.Rules.{rules_of}
+use Rattle.fts_rows.specs.Row.{row_of}
+use Rattle.fts_index.specs.declared.occurrence.Occurrence.{Occurrence}
+use Rattle.fts_index.proofs.Runs.{building_begins, turn}
+use Rattle.fts_index.proofs.document.document_words.Goals as goal
+
+pub loop-first-init : goal.loop-first-init
+loop-first-init c =
+    rw c.as_slice-rest.ensures.value
+    (building_begins (rules_of c.args.settings.now) (row_of c.args.row.now) _ _ c.new-document.ensures c.in_ok-all.ensures c.requires.texts)
+
+pub push-requires : goal.push-requires
+push-requires c =
+    let word = c.in_ok-to_vec.ensures.items_if_clones_equal (λ x y e. e) in
+    let t = turn (rules_of c.args.settings.now) (row_of c.args.row.now) _ c.in-Some.first.now _ _ _ refl _ (sym c.in-Some.ensures.value) c.run_len.ensures (c.in_ok-positions.ensures ∙ ap (map (λ (o : Occurrence). o.position)) c.split_at.ensures.front) c.loop-first.invariant in
+    rw word t.can_push
+
+pub loop-first-smaller : goal.loop-first-smaller
+loop-first-smaller c =
+    let t = turn (rules_of c.args.settings.now) (row_of c.args.row.now) _ c.in-Some.first.now _ _ _ refl _ (sym c.in-Some.ensures.value) c.run_len.ensures (c.in_ok-positions.ensures ∙ ap (map (λ (o : Occurrence). o.position)) c.split_at.ensures.front) c.loop-first.invariant in
+    rw c.split_at.ensures.back t.shorter
+
+pub loop-first-preserved : goal.loop-first-preserved
+loop-first-preserved c =
+    let word = c.in_ok-to_vec.ensures.items_if_clones_equal (λ x y e. e) in
+    let t = turn (rules_of c.args.settings.now) (row_of c.args.row.now) _ c.in-Some.first.now _ _ _ refl _ (sym c.in-Some.ensures.value) c.run_len.ensures (c.in_ok-positions.ensures ∙ ap (map (λ (o : Occurrence). o.position)) c.split_at.ensures.front) c.loop-first.invariant in
+    rw (c.in_ok-push.ensures.ok, c.split_at.ensures.back, word) t.pushed

@@ -1,0 +1,5 @@
+pub mod Words
+pub mod Occurrences
+pub mod Document
+pub mod Births
+pub mod Index

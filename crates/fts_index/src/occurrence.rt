@@ -1,0 +1,88 @@
+ghost use Rattle.std.specs.Prelude.{◌≡◌, map, IfOk, OnOk, IsPermutation};
+ghost use Rattle.std.specs.List.Sorted.{IsSortedBy, IsStableBy};
+ghost use Rattle.fts_words.specs.Byte.{lowered};
+ghost use Rattle.fts_token.specs.Between.{LiesIn};
+ghost use Rattle.fts_types.specs.Row.{IsRow};
+ghost use Rattle.fts_types.specs.Rules.{rules_of};
+ghost use Rattle.fts_index.specs.Occurrences.{spot_of, spot_at, AreListed, comes_before, AreSorted};
+
+use fts_token::indexed_words;
+use fts_types::{RowTexts, Settings};
+use fts_words::PlacedWord;
+use std::alloc::{AllocError, Global};
+
+/// An indexed word, and where it starts in its row. It borrows the word from the row's lowered texts.
+#[derive(Clone, Copy, Debug)]
+pub(crate) struct Occurrence<'a> {
+    pub word: &'a [u8],
+    pub position: u32,
+}
+
+/// The texts of a row with their letters lowered.
+pub(crate) fn lowered_texts(alloc: Global, texts: &RowTexts) -> Result<RowTexts, AllocError>
+    ensures { IfOk result (λ lower. lower ≡ map lowered texts.now) }
+{
+    let mut lower = RowTexts::new(alloc);
+    for place in 0..texts.len() {
+        lower.push(texts.text(place).to_ascii_lowercase(alloc)?)?;
+    }
+    Ok(lower)
+}
+
+/// A word of a row, in the row's lowered texts, and where it starts.
+fn found_in<'a>(lower: &'a RowTexts, found: &PlacedWord) -> Occurrence<'a>
+    requires { LiesIn lower.now found.now }
+    ensures { spot_of result ≡ spot_at lower.now found.now }
+{
+    Occurrence {
+        word: found.span.of(lower.text(found.column)),
+        position: found.position,
+    }
+}
+
+/// The indexed words of a row, in their order.
+fn listed<'a>(
+    alloc: Global,
+    settings: &Settings,
+    texts: &RowTexts,
+    lower: &'a RowTexts,
+) -> Result<Vec<Occurrence<'a>>, AllocError>
+    requires row { IsRow texts.now }
+    requires lower { lower.now ≡ map lowered texts.now }
+    ensures { IfOk result (λ all. AreListed (rules_of settings.now) texts.now all.items) }
+{
+    let mut all = Vec::new(alloc);
+    for found in indexed_words(settings, texts) {
+        all.push(found_in(lower, &found))?;
+    }
+    Ok(all)
+}
+
+/// Sorts occurrences by the bytes of their words. Those of one word keep their order.
+fn sort(all: &mut Vec<Occurrence<'_>>) -> Result<(), AllocError>
+    ensures same { IsPermutation all.old.items all.new.items }
+    ensures stable { IsStableBy comes_before all.old.items all.new.items }
+    ensures sorted { OnOk result (IsSortedBy comes_before all.new.items) }
+{
+    all.sort_by(|a, b| a.word.cmp(&b.word))
+}
+
+/// The indexed words of a row by the order of their bytes, the same word by its positions.
+///
+/// They borrow the words from the row's lowered texts.
+pub(crate) fn occurrences<'a>(
+    alloc: Global,
+    settings: &Settings,
+    texts: &RowTexts,
+    lower: &'a RowTexts,
+) -> Result<Vec<Occurrence<'a>>, AllocError>
+    requires row { IsRow texts.now }
+    requires lower { lower.now ≡ map lowered texts.now }
+    ensures { IfOk result (λ all. AreSorted (rules_of settings.now) texts.now all.items) }
+{
+    // That it is a byte bounds the words' lengths, and so the size of a document.
+    let _longest = settings.max;
+    let mut all = listed(alloc, settings, texts, lower)?;
+    sort(&mut all)?;
+    Ok(all)
+}
