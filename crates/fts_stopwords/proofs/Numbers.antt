@@ -1,16 +1,18 @@
 -- A word that stands in a text is compared with the default stopwords by its number.
-use Rattle.std.proofs.Common.{◌≡◌, ℕ, ◌+◌, ◌-◌, ◌<◌, ◌≤◌, ◌^◌, min, Bool, true, false, not, cond, ltb, leb, eqb, ◌&&◌, ◌||◌, List, [], ◌∷◌, map, length, get_or, replicate, bit_and, bit_or, Fits, w8, sym, refl, ap, ap₂, ◌∙◌, subst, ⊎_elim, arith}
+use Rattle.std.proofs.Common.{◌≡◌, ℕ, ◌+◌, ◌-◌, ◌*◌, ◌/◌, ◌%◌, ◌<◌, ◌≤◌, ◌^◌, min, Bool, true, false, not, cond, ltb, leb, eqb, ◌&&◌, ◌||◌, List, [], ◌∷◌, map, length, get_or, take, drop, replicate, ◌++◌, bit_and, bit_or, Fits, w8, sym, refl, ap, ap₂, ◌∙◌, subst, ⊎_elim, arith}
 use Rattle.std.specs.Prelude.{◌==◌}
 use Rattle.std.specs.Int.{w64, to_le_bytes, from_le_bytes}
-use Rattle.std.specs.List.{list_all, list_any}
+use Rattle.std.specs.List.{list_all, list_any, range_with_len}
 use Rattle.std.specs.Str.{bytes_eq}
 use Rattle.std.specs.Char.{to_ascii_lowercase}
 use Rattle.std.proofs.lemmas.Bool.{false≢true, cases_Bool, cases_lt, or_cases, and_parts, eqb-true, eq-eqb, agree_below, agree_below_at, ltb-true, lt-ltb, le-ltb, leb-true, cond_below, cond_above}
-use Rattle.std.proofs.lemmas.List.{get_or-map, length-map, get_or_past}
+use Rattle.std.proofs.lemmas.List.{length-map, length-drop, take_all, get_or_past, get_or-drop, get_or_append_left, get_or-append_right, get_or-replicate}
+use Rattle.std.proofs.lemmas.List.FromFn.{get_or-map-range_with_len}
 use Rattle.std.proofs.lemmas.Grind.{same_number_lists}
-use Rattle.std.proofs.lemmas.Nat.{and_le_l, or_lt, le_bytes_8, from_le_bytes-to_le_bytes_8}
-use Rattle.std.proofs.lemmas.Simd.{length-chunk, get_or-chunk, get_or-zip2, length-zip2, zip2_splat}
-use lib.Lanes.{chunk, zip2}
+use Rattle.std.proofs.lemmas.Nat.{or_lt, and_shr, or_shr, and_mod, or_mod, le_bytes_8, from_le_bytes-to_le_bytes_8}
+use Rattle.std.proofs.lemmas.Simd.{length-chunk, get_or-chunk}
+use lib.Lanes.{chunk}
+use native.Mathlib.Nat.{div-one, zero-add}
 use Rattle.fts_words.specs.Byte.{lowered}
 use Rattle.fts_words.specs.Stopwords.{default_stopwords, is_listed}
 use Rattle.fts_stopwords.specs.Number.{number_of, is_stopword_number, place_of, number_at, fronts, letter_at}
@@ -56,77 +58,101 @@ decided_by_place number place is within =
 
 -- ---- the number of a word in a text
 
+-- eight bytes that were read from a text
+pub byte_is_read : (text : List ℕ) (from n : ℕ) → from + 8 ≤ length text → ((k : ℕ) → Fits w8 (get_or text k 0)) → n ≡ from_le_bytes w64 (chunk from 8 text)
+    → (i : ℕ) → i < 8 → get_or (to_le_bytes w64 n) i 0 ≡ get_or text (from + i) 0
+byte_is_read text from n room fits is i less =
+    let long = length-chunk from 8 text room in
+    let small : (k : ℕ) → get_or (chunk from 8 text) k 0 < 256 = λ k.
+    ⊎_elim (λ (inside : k < 8). subst (λ x. x < 256) (sym (get_or-chunk from 8 text k 0 inside)) (fits (from + k)).fits)
+    (λ (behind : 8 ≤ k). subst (λ x. x < 256) (sym (get_or_past (chunk from 8 text) k 0 (omega (arith, long)))) (omega arith))
+    (cases_lt k 8) in
+    ap (λ bs. get_or bs i 0) (le_bytes_8 (chunk from 8 text) n long small is) ∙ get_or-chunk from 8 text i 0 less
+
+bytes_by_place : (n : ℕ) → to_le_bytes w64 n ≡ map (λ i. n / 2 ^ (8 * i) % 2 ^ 8) (range_with_len 0 8)
+bytes_by_place n = ap (λ m. m % 2 ^ 8 ∷ map (λ i. n / 2 ^ (8 * i) % 2 ^ 8) (range_with_len 1 7)) (sym (div-one n))
+
+byte_at : (n i : ℕ) → i < 8 → get_or (to_le_bytes w64 n) i 0 ≡ n / 2 ^ (8 * i) % 2 ^ 8
+byte_at n i less = ap (λ bs. get_or bs i 0) (bytes_by_place n) ∙ get_or-map-range_with_len (λ i. n / 2 ^ (8 * i) % 2 ^ 8) 0 8 i i 0 less (omega arith)
+
+byte_at-and : (a b i : ℕ) → i < 8 → get_or (to_le_bytes w64 (bit_and a b)) i 0 ≡ bit_and (get_or (to_le_bytes w64 a) i 0) (get_or (to_le_bytes w64 b) i 0)
+byte_at-and a b i less =
+    byte_at (bit_and a b) i less ∙ ap (λ x. x % 2 ^ 8) (and_shr a b (8 * i)) ∙ and_mod (a / 2 ^ (8 * i)) (b / 2 ^ (8 * i)) 8
+    ∙ sym (ap₂ bit_and (byte_at a i less) (byte_at b i less))
+
+byte_at-or : (a b i : ℕ) → i < 8 → get_or (to_le_bytes w64 (bit_or a b)) i 0 ≡ bit_or (get_or (to_le_bytes w64 a) i 0) (get_or (to_le_bytes w64 b) i 0)
+byte_at-or a b i less =
+    byte_at (bit_or a b) i less ∙ ap (λ x. x % 2 ^ 8) (or_shr a b (8 * i)) ∙ or_mod (a / 2 ^ (8 * i)) (b / 2 ^ (8 * i)) 8
+    ∙ sym (ap₂ bit_or (byte_at a i less) (byte_at b i less))
+
 all_ones : (x : ℕ) → x < 256 → bit_and x 255 ≡ x
 all_ones x less = eqb-true _ _ (agree_below_at (λ x. eqb (bit_and x 255) x) (λ _. true) 256 x refl less)
 
 no_ones : (x : ℕ) → x < 256 → bit_and x 0 ≡ 0
 no_ones x less = eqb-true _ _ (agree_below_at (λ x. eqb (bit_and x 0) 0) (λ _. true) 256 x refl less)
 
-front_at : (j : ℕ) → j < 16 → get_or fronts j 0 ≡ cond (ltb j 8) 255 0
-front_at j less = eqb-true _ _ (agree_below_at (λ j. eqb (get_or fronts j 0) (cond (ltb j 8) 255 0)) (λ _. true) 16 j refl less)
-
 kept : (x : ℕ) (b : Bool) → x < 256 → bit_and x (cond b 255 0) ≡ cond b x 0
 kept x true less = all_ones x less
 kept x false less = no_ones x less
 
--- eight bytes of a text with a bit set, masked by eight others
-module _ (text : List ℕ) (from : ℕ) (room : from + 8 ≤ length text) (fits : (k : ℕ) → Fits w8 (get_or text k 0))
-    (masks : List ℕ) (at : ℕ) (masks_room : at + 8 ≤ length masks) where
-  abbrev folded : List ℕ
-  folded = zip2 bit_or (chunk from 8 text) (replicate 8 32)
+-- the bit of lower-case letters in each byte
+abbrev case_bits : ℕ
+case_bits = 2314885530818453536
 
-  abbrev lanes : List ℕ
-  lanes = zip2 bit_and folded (chunk at 8 masks)
+case_bit_at : (i : ℕ) → i < 8 → get_or (to_le_bytes w64 case_bits) i 0 ≡ 32
+case_bit_at i less = eqb-true _ _ (agree_below_at (λ i. eqb (get_or (to_le_bytes w64 case_bits) i 0) 32) (λ _. true) 8 i refl less)
 
-  folded_is : folded ≡ map (λ x. bit_or x 32) (chunk from 8 text)
-  folded_is = zip2_splat bit_or (chunk from 8 text) 8 32 (length-chunk from 8 text room)
+is_front_at : ℕ → ℕ → Bool
+is_front_at few i = eqb (get_or (to_le_bytes w64 (get_or fronts few 0)) i 0) (cond (ltb i few) 255 0)
 
-  folded_long : length folded ≡ 8
-  folded_long = ap length folded_is ∙ length-map (chunk from 8 text) (λ (x : ℕ). bit_or x 32) ∙ length-chunk from 8 text room
+front_at : (few i : ℕ) → few < 9 → i < 8 → get_or (to_le_bytes w64 (get_or fronts few 0)) i 0 ≡ cond (ltb i few) 255 0
+unfolding is_front_at
+front_at few i within less =
+    let at = agree_below_at (λ few. agree_below (is_front_at few) (λ _. true) 8) (λ _. true) 9 few refl within in
+    eqb-true _ _ (agree_below_at (is_front_at few) (λ _. true) 8 i at less)
 
-  front_long : length (chunk at 8 masks) ≡ 8
-  front_long = length-chunk at 8 masks masks_room
-
-  folded_at : (i : ℕ) → i < 8 → get_or folded i 0 ≡ bit_or (get_or text (from + i) 0) 32
-  folded_at i less =
-      ap (λ xs. get_or xs i 0) folded_is ∙ get_or-map (λ (x : ℕ). bit_or x 32) (chunk from 8 text) i 0 0 (omega (arith, length-chunk from 8 text room))
-      ∙ ap (λ x. bit_or x 32) (get_or-chunk from 8 text i 0 less)
-
-  lane : (i : ℕ) → i < 8 → get_or lanes i 0 ≡ bit_and (bit_or (get_or text (from + i) 0) 32) (get_or masks (at + i) 0)
-  lane i less =
-      get_or-zip2 bit_and folded (chunk at 8 masks) i 0 0 0 (omega (arith, folded_long)) (omega (arith, front_long))
-      ∙ ap (λ x. bit_and x (get_or (chunk at 8 masks) i 0)) (folded_at i less)
-      ∙ ap (bit_and (bit_or (get_or text (from + i) 0) 32)) (get_or-chunk at 8 masks i 0 less)
-
-  lanes_long : length lanes ≡ 8
-  lanes_long = length-zip2 bit_and folded (chunk at 8 masks) (folded_long ∙ sym front_long) ∙ folded_long
-
-  lanes_small : (i : ℕ) → get_or lanes i 0 < 256
-  lanes_small i =
-      ⊎_elim
-      (λ (inside : i < 8).
-      subst (λ x. x < 256) (sym (lane i inside))
-      (omega (arith, and_le_l (bit_or (get_or text (from + i) 0) 32) (get_or masks (at + i) 0), or_lt 8 (get_or text (from + i) 0) 32 (fits (from + i)).fits (omega arith))))
-      (λ (behind : 8 ≤ i). subst (λ x. x < 256) (sym (get_or_past lanes i 0 (omega (arith, lanes_long)))) (omega arith))
-      (cases_lt i 8)
-
-  pub lanes_of_number : (n : ℕ) → n ≡ from_le_bytes w64 lanes → (i : ℕ) → i < 8
-      → get_or (to_le_bytes w64 n) i 0 ≡ bit_and (bit_or (get_or text (from + i) 0) 32) (get_or masks (at + i) 0)
-  lanes_of_number n is i less = ap (λ bs. get_or bs i 0) (le_bytes_8 lanes n lanes_long lanes_small is) ∙ lane i less
-
-in_front : (i few len : ℕ) → few ≡ min len 8 → i < 8 → ltb (8 - few + i) 8 ≡ ltb i len
+in_front : (i few len : ℕ) → few ≡ min len 8 → i < 8 → ltb i few ≡ ltb i len
 in_front i few len least less =
-    ⊎_elim (λ (inside : i < len). lt-ltb (8 - few + i) 8 (omega (arith, least)) ∙ sym (lt-ltb i len inside))
-    (λ (behind : len ≤ i). le-ltb (8 - few + i) 8 (omega (arith, least)) ∙ sym (le-ltb i len behind))
+    ⊎_elim (λ (inside : i < len). lt-ltb i few (omega (arith, least)) ∙ sym (lt-ltb i len inside))
+    (λ (behind : len ≤ i). le-ltb i few (omega (arith, least)) ∙ sym (le-ltb i len behind))
     (cases_lt i len)
 
--- the masks keep what belongs to the word
-pub letter_is_kept : (text : List ℕ) (from len few : ℕ) (fits : (k : ℕ) → Fits w8 (get_or text k 0)) (masks : List ℕ) → masks ≡ fronts → few ≡ min len 8 → (i : ℕ) → i < 8
-    → bit_and (bit_or (get_or text (from + i) 0) 32) (get_or masks (8 - few + i) 0) ≡ letter_at text from len i
-letter_is_kept text from len few fits masks these least i less =
-    ap (bit_and (bit_or (get_or text (from + i) 0) 32)) (ap (λ ms. get_or ms (8 - few + i) 0) these ∙ front_at (8 - few + i) (omega arith))
-    ∙ kept _ (ltb (8 - few + i) 8) (or_lt 8 (get_or text (from + i) 0) 32 (fits (from + i)).fits (omega arith))
+-- the number of a word, from eight bytes
+pub letter_is_kept : (text : List ℕ) (from len few n : ℕ) → ((k : ℕ) → Fits w8 (get_or text k 0)) → ((i : ℕ) → i < 8 → get_or (to_le_bytes w64 n) i 0 ≡ get_or text (from + i) 0)
+    → (masks : List ℕ) → masks ≡ fronts → few ≡ min len 8 → (i : ℕ) → i < 8
+    → get_or (to_le_bytes w64 (bit_and (bit_or n case_bits) (get_or masks few 0))) i 0 ≡ letter_at text from len i
+letter_is_kept text from len few n fits read masks these least i less =
+    byte_at-and (bit_or n case_bits) (get_or masks few 0) i less
+    ∙ ap₂ bit_and (byte_at-or n case_bits i less ∙ ap₂ bit_or (read i less) (case_bit_at i less))
+    (ap (λ ms. get_or (to_le_bytes w64 (get_or ms few 0)) i 0) these ∙ front_at few i (omega (arith, least)) less)
+    ∙ kept _ (ltb i few) (or_lt 8 (get_or text (from + i) 0) 32 (fits (from + i)).fits (omega arith))
     ∙ ap (λ b. cond b (bit_or (get_or text (from + i) 0) 32) 0) (in_front i few len least less)
+
+-- ---- the end of a text, with zeros behind it
+
+abbrev zeros : List ℕ
+zeros = replicate 8 0
+
+zero_at : (i : ℕ) → get_or zeros i 0 ≡ 0
+zero_at i = ⊎_elim (λ (inside : i < 8). get_or-replicate 8 i 0 0 inside) (λ (behind : 8 ≤ i). get_or_past zeros i 0 behind) (cases_lt i 8)
+
+module _ (text end : List ℕ) (from : ℕ) (start : from ≤ length text) (copied : end ≡ take (length text - from) (drop from text)) where
+  is_rest : end ≡ drop from text
+  is_rest = copied ∙ take_all (length text - from) (drop from text) (omega (arith, length-drop from text))
+
+  end_at : (few i : ℕ) → get_or (end ++ drop few zeros) i 0 ≡ get_or text (from + i) 0
+  end_at few i =
+      ⊎_elim
+      (λ (inside : i < length end). get_or_append_left end _ 0 i inside ∙ ap (λ xs. get_or xs i 0) is_rest ∙ get_or-drop from text i 0)
+      (λ (behind : length end ≤ i).
+      get_or-append_right end _ (length end) i 0 refl behind ∙ get_or-drop few zeros (i - length end) 0 ∙ zero_at (few + (i - length end))
+      ∙ sym (get_or_past text (from + i) 0 (omega (arith, ap length is_rest, length-drop from text))))
+      (cases_lt i (length end))
+
+  -- a word of the end has the same letters there
+  pub letter_of_end : (few len i : ℕ) → letter_at (end ++ drop few zeros) 0 len i ≡ letter_at text from len i
+  letter_of_end few len i =
+      ap (λ k. cond (ltb i len) (bit_or (get_or (end ++ drop few zeros) k 0) 32) 0) (zero-add i) ∙ ap (λ x. cond (ltb i len) (bit_or x 32) 0) (end_at few i)
 
 -- ---- a word of lower-case letters
 

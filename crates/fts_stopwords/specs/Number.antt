@@ -1,4 +1,4 @@
-use Rattle.std.specs.Prelude.{ℕ, ◌+◌, ◌*◌, ◌/◌, ◌%◌, ◌^◌, ◌==◌, if◌then◌else◌, Bool, List, ◌++◌, map, replicate, filter, nat_lt, slice_index, slice_index_or}
+use Rattle.std.specs.Prelude.{ℕ, ◌+◌, ◌-◌, ◌*◌, ◌/◌, ◌%◌, ◌^◌, ◌==◌, if◌then◌else◌, Bool, List, map, filter, nat_lt, slice_index, slice_index_or}
 use Rattle.std.specs.List.{range_with_len, list_any}
 use Rattle.std.specs.Int.{w64, from_le_bytes}
 use Rattle.std.specs.Int.Bits.{bit_or}
@@ -24,9 +24,9 @@ number_at place = slice_index_or (filter (λ number. place_of number == place) (
 unfoldable pub numbers : List ℕ
 numbers = map number_at (range_with_len 0 64)
 
--- eight bytes of ones and eight of zeros
+-- for each n up to 8, the number that has ones in its first n bytes
 abbrev pub fronts : List ℕ
-fronts = replicate 8 255 ++ replicate 8 0
+fronts = map (λ n. 2 ^ (8 * n) - 1) (range_with_len 0 9)
 
 -- of a word that stands in a text, the byte at this place with the bit of lower-case letters set, or 0 behind the word
 abbrev pub letter_at : List ℕ → ℕ → ℕ → ℕ → ℕ

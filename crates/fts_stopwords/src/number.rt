@@ -1,13 +1,21 @@
 //! Words as numbers, so that a word is compared with a stopword at once.
 ghost use Rattle.std.specs.Prelude.{◌≡◌, ℕ, ◌+◌, ◌≤◌, ◌<◌, length, slice_index};
 ghost use Rattle.std.specs.Int.{w64, to_le_bytes};
-ghost use Rattle.std.specs.Int.Bits.{bit_and, bit_or};
 ghost use Rattle.fts_stopwords.specs.Number.{is_stopword_number, place_of, number_at, numbers, fronts, letter_at};
 
 use std::simd::prelude::*;
 
 /// A factor whose products with the numbers of the default stopwords differ in their highest six bits.
 const FACTOR: u64 = 0x2d4f_643f_0694_ca77;
+
+/// The number of `about`.
+const ABOUT: u64 = 0x74_756f_6261;
+
+/// The number of `where`.
+const WHERE: u64 = 0x65_7265_6877;
+
+/// The bit of lower-case letters, in each of eight bytes.
+const CASE_BITS: u64 = 0x2020_2020_2020_2020;
 
 /// The number of the default stopword at each place, or that of `a` where no stopword is.
 #[tactic(auto, unfolding(fts_words::specs::Stopwords::default_stopwords, crate::specs::Number::numbers))]
@@ -16,70 +24,12 @@ fn numbers() -> &'static [u64]
     ensures { result.now ≡ numbers }
 {
     &[
-        0x726f,
-        0x6564,
-        0x61,
-        0x61,
-        0x65_7261,
-        0x61,
-        0x61,
-        0x72_6f66,
-        0x61,
-        0x7461,
-        0x61,
-        0x73_6177,
-        0x616c,
-        0x7369_6874,
-        0x61,
-        0x7369,
-        0x61,
-        0x666f,
-        0x6e61,
-        0x61,
-        0x7461_6874,
-        0x65_6874,
-        0x61,
-        0x61,
-        0x61,
-        0x61,
-        0x61,
-        0x77_6f68,
-        0x61,
-        0x61,
-        0x61,
-        0x61,
-        0x6c6c_6977,
-        0x65_7265_6877,
-        0x61,
-        0x7469,
-        0x77_7777,
-        0x69,
-        0x61,
-        0x61,
-        0x6d_6f63,
-        0x6874_6977,
-        0x6562,
-        0x61,
-        0x6e69,
-        0x6d6f_7266,
-        0x61,
-        0x61,
-        0x6e6f,
-        0x6f_6877,
-        0x61,
-        0x61,
-        0x74_756f_6261,
-        0x7361,
-        0x7461_6877,
-        0x7962,
-        0x61,
-        0x61,
-        0x61,
-        0x61,
-        0x6e65_6877,
-        0x6f74,
-        0x64_6e75,
-        0x6e65,
+        0x726f, 0x6564, 0x61, 0x61, 0x657261, 0x61, 0x61, 0x726f66, 0x61, 0x7461, 0x61, 0x736177,
+        0x616c, 0x73696874, 0x61, 0x7369, 0x61, 0x666f, 0x6e61, 0x61, 0x74616874, 0x656874, 0x61,
+        0x61, 0x61, 0x61, 0x61, 0x776f68, 0x61, 0x61, 0x61, 0x61, 0x6c6c6977, WHERE, 0x61, 0x7469,
+        0x777777, 0x69, 0x61, 0x61, 0x6d6f63, 0x68746977, 0x6562, 0x61, 0x6e69, 0x6d6f7266, 0x61,
+        0x61, 0x6e6f, 0x6f6877, 0x61, 0x61, ABOUT, 0x7361, 0x74616877, 0x7962, 0x61, 0x61, 0x61,
+        0x61, 0x6e656877, 0x6f74, 0x646e75, 0x6e65,
     ]
 }
 
@@ -110,26 +60,31 @@ pub(crate) fn is_stopword_number(number: u64) -> bool
     number_at(place_of(number)) == number
 }
 
-/// From place 8 - n on, which of eight bytes are the first n.
+/// For each n up to 8, the number that has ones in its first n bytes.
 #[inline(always)]
-fn fronts() -> &'static [u8]
+fn fronts() -> &'static [u64]
     ensures { result.now ≡ fronts }
 {
     &[
-        255, 255, 255, 255, 255, 255, 255, 255, 0, 0, 0, 0, 0, 0, 0, 0,
+        0,
+        0xff,
+        0xffff,
+        0xff_ffff,
+        0xffff_ffff,
+        0xff_ffff_ffff,
+        0xffff_ffff_ffff,
+        0xff_ffff_ffff_ffff,
+        0xffff_ffff_ffff_ffff,
     ]
 }
 
-/// Eight bytes of a text, each with the bit of lower-case letters set, and of them those that eight others keep, as a number.
+/// Eight bytes of a text as a number, the first byte lowest.
 #[inline(always)]
-fn letters_at(text: &[u8], from: usize, kept: &[u8], at: usize) -> u64
-    requires text { from + 8 ≤ length text.now }
-    requires kept { at + 8 ≤ length kept.now }
-    ensures { (i : ℕ) → i < 8 → slice_index (to_le_bytes w64 result) i ≡
-        bit_and (bit_or (slice_index text.now (from + i)) 32) (slice_index kept.now (at + i)) }
+fn bytes_at(text: &[u8], from: usize) -> u64
+    requires { from + 8 ≤ length text.now }
+    ensures { (i : ℕ) → i < 8 → slice_index (to_le_bytes w64 result) i ≡ slice_index text.now (from + i) }
 {
-    let letters = u8x8::from_slice(&text[from..]) | u8x8::splat(0x20);
-    u64::from_le_bytes((letters & u8x8::from_slice(&kept[at..])).to_array())
+    u64::from_le_bytes(u8x8::from_slice(&text[from..]).to_array())
 }
 
 /// The first eight bytes of a word that stands in a text, each with the bit of lower-case letters set, as a number.
@@ -138,5 +93,19 @@ pub(crate) fn number_of(text: &[u8], from: usize, len: usize) -> u64
     requires { from + 8 ≤ length text.now }
     ensures { (i : ℕ) → i < 8 → slice_index (to_le_bytes w64 result) i ≡ letter_at text.now from len i }
 {
-    letters_at(text, from, fronts(), 8 - len.min(8))
+    (bytes_at(text, from) | CASE_BITS) & fronts()[len.min(8)]
+}
+
+/// The same of a word that starts in the last seven bytes of a text, or at its end.
+#[cold]
+#[inline(never)]
+pub(crate) fn last_number_of(text: &[u8], from: usize, len: usize) -> u64
+    requires start { from ≤ length text.now }
+    requires end { length text.now < from + 8 }
+    ensures { (i : ℕ) → i < 8 → slice_index (to_le_bytes w64 result) i ≡ letter_at text.now from len i }
+{
+    let mut last = [0; 8];
+    let rest = &text[from..];
+    last[..rest.len()].copy_from_slice(rest);
+    number_of(&last, 0, len)
 }
