@@ -8,7 +8,7 @@ use Rattle.fts_words.specs.declared.placed.PlacedWord.{PlacedWord}
 use Rattle.fts_words.specs.Byte.{lowered}
 use Rattle.fts_words.specs.RawWords.{bytes_of}
 use Rattle.fts_words.specs.Indexed.{column_text}
-use Rattle.fts_token.specs.Between.{LiesIn}
+use Rattle.fts_token.specs.Row.{LiesIn}
 use Rattle.fts_index.specs.Occurrences.{spot_at, spot_in}
 
 lowered_column : (texts : List (List ℕ)) (column : ℕ) → column_text (map lowered texts) column ≡ lowered (column_text texts column)

@@ -1,7 +1,7 @@
 ghost use Rattle.std.specs.Prelude.{◌≡◌, map, IfOk, OnOk, IsPermutation};
 ghost use Rattle.std.specs.List.Sorted.{IsSortedBy, IsStableBy};
 ghost use Rattle.fts_words.specs.Byte.{lowered};
-ghost use Rattle.fts_token.specs.Between.{LiesIn};
+ghost use Rattle.fts_token.specs.Row.{LiesIn};
 ghost use Rattle.fts_types.specs.Row.{IsRow};
 ghost use Rattle.fts_types.specs.Rules.{rules_of};
 ghost use Rattle.fts_index.specs.Occurrences.{spot_of, spot_at, AreListed, comes_before, AreSorted};

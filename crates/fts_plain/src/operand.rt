@@ -1,7 +1,7 @@
 ghost use Rattle.std.specs.Prelude.{◌≡◌, IfOk};
 ghost use Rattle.std.specs.List.{list_any};
 ghost use Rattle.fts_words.specs.Indexed.{word_of};
-ghost use Rattle.fts_token.specs.Between.{LiesIn};
+ghost use Rattle.fts_token.specs.Row.{LiesIn};
 ghost use Rattle.fts_types.specs.Row.{IsRow};
 ghost use Rattle.fts_types.specs.Rules.{rules_of};
 ghost use Rattle.fts_query.specs.View.{operand_view};

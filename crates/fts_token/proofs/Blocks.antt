@@ -1,174 +1,210 @@
--- What the marks of a block say of the words that are left.
-use Rattle.std.proofs.Common.{◌≡◌, ℕ, ◌+◌, ◌-◌, ◌^◌, ◌<◌, ◌≤◌, true, false, ◌&&◌, List, [], ◌∷◌, length, sym, refl, ap, ◌∙◌, subst, ⊎_elim, arith}
-use Rattle.std.proofs.lemmas.Bool.{cases_lt, cases_Bool, and_from}
+-- What the bounds of a block say of the words that are left.
+use Rattle.std.proofs.Common.{◌≡◌, ℕ, zero, suc, ◌+◌, ◌-◌, ◌^◌, ◌<◌, ◌≤◌, Bool, true, false, List, [], ◌∷◌, length, w64, sym, refl, ap, ◌∙◌, subst, ⊎_elim, arith}
+use Rattle.std.specs.Int.{trailing_zeros}
+use Rattle.std.specs.Int.Bits.{bit_and}
+use Rattle.std.proofs.lemmas.Bool.{cases_lt}
 use Rattle.fts_words.specs.RawWords.{in_word, raw_words_from}
+use Rattle.fts_words.specs.Run.{starts, runs_from}
 use Rattle.fts_words.proofs.RunLemmas.{clash, first_run, no_run, runs_skip, starts_outside}
 use Rattle.fts_words.proofs.WordLemmas.{in_word_past}
-use Rattle.fts_token.specs.Between.{IsBetweenWords}
-use Rattle.fts_token.specs.Ahead.{has_bit, IsLowestRun, IsAhead, IsFound}
-use Rattle.fts_token.proofs.Bits.{has_bit-zero}
-use Rattle.fts_token.proofs.Scan.{between_behind}
+use Rattle.fts_token.specs.Bits.{has_bit, differ}
+use Rattle.fts_token.specs.Bounds.{is_inside, is_bound, IsAhead, IsNextBound, IsFound}
+use Rattle.fts_token.proofs.Bits.{has_bit-zero, lowest_set, lowest_within, none_below, kept_above, cleared}
 
--- a place behind one between words, with no word up to it
-module _ (text : List ℕ) (at from : ℕ) (between : IsBetweenWords text at) (order : at ≤ from) (outside : (k : ℕ) → at ≤ k → k < from → in_word text k ≡ false) where
-  pub between_later : IsBetweenWords text from
-  between_later i next =
+-- behind a text's end no word starts
+pub no_words : (text : List ℕ) (place : ℕ) → length text ≤ place → raw_words_from text place ≡ []
+unfolding runs_from
+no_words text place past = let none : length text - place ≡ 0 = omega arith in rw none refl
+
+same_of_differ : (a b : Bool) → differ a b ≡ false → a ≡ b
+same_of_differ true true e = refl
+same_of_differ true false e = e
+same_of_differ false true e = sym e
+same_of_differ false false e = refl
+
+module _ (text : List ℕ) where
+  -- what the place behind one says of it
+  inside_behind : (k : ℕ) → is_inside text (suc k) ≡ in_word text k
+  unfolding is_inside
+  inside_behind k = refl
+
+  -- without a bound, all places are alike
+  steady : (at n : ℕ) → ((k : ℕ) → at ≤ k → k < at + n → is_bound text k ≡ false) → is_inside text (at + n) ≡ is_inside text at
+  unfolding is_bound
+  steady at zero none = let here : at + 0 ≡ at = omega arith in ap (is_inside text) here
+  steady at (suc n) none =
+      let next : at + suc n ≡ suc (at + n) = omega arith in
+      ap (is_inside text) next ∙ inside_behind (at + n) ∙ same_of_differ (in_word text (at + n)) (is_inside text (at + n)) (none (at + n) (omega arith) (omega arith))
+      ∙ steady at n (λ k low high. none k low (omega arith))
+
+  steady_to : (at k : ℕ) → at ≤ k → ((i : ℕ) → at ≤ i → i < k → is_bound text i ≡ false) → is_inside text k ≡ is_inside text at
+  steady_to at k order none =
+      let place : at + (k - at) ≡ k = omega arith in
+      ap (is_inside text) (sym place) ∙ steady at (k - at) (λ i low high. none i low (omega arith))
+
+  -- the word that two bounds enclose
+  module _ (at from : ℕ) (outside : is_inside text at ≡ false) (order : at ≤ from) (none : (k : ℕ) → at ≤ k → k < from → is_bound text k ≡ false) (bound : is_bound text from ≡ true) where
+    before : (k : ℕ) → at ≤ k → k < from → in_word text k ≡ false
+    before k low high = sym (inside_behind k) ∙ steady_to at (suc k) (omega arith) (λ i from_at less. none i from_at (omega arith)) ∙ outside
+
+    started : in_word text from ≡ true
+    unfolding is_bound
+    started =
+        let not_inside = steady_to at from order none ∙ outside in
+        second (in_word text from) (is_inside text from) not_inside bound
+      where
+        second : (a b : Bool) → b ≡ false → differ a b ≡ true → a ≡ true
+        second true b e d = refl
+        second false b e d = sym e ∙ d
+
+    started_within : from < length text
+    started_within = ⊎_elim (λ (less : from < length text). less) (λ (past : length text ≤ from). clash _ started (in_word_past text from past)) (cases_lt from (length text))
+
+    pub inside_from : is_inside text (from + 1) ≡ true
+    inside_from = let next : from + 1 ≡ suc from = omega arith in ap (is_inside text) next ∙ inside_behind from ∙ started
+
+    each : (k : ℕ) → from ≤ k → ((i : ℕ) → from + 1 ≤ i → i ≤ k → is_bound text i ≡ false) → in_word text k ≡ true
+    each k low alike = sym (inside_behind k) ∙ steady_to (from + 1) (suc k) (omega arith) (λ i above less. alike i above (omega arith)) ∙ inside_from
+
+    -- a word that starts ends
+    pub ends : {P : Type 0} → ((k : ℕ) → from + 1 ≤ k → k ≤ length text → is_bound text k ≡ false) → P
+    ends all =
+        let last = length text in
+        clash (in_word text last) (each last (omega (arith, started_within)) (λ i above up. all i above up)) (in_word_past text last (omega arith))
+
+    module _ (to : ℕ) (some : from + 1 ≤ to) (alike : (k : ℕ) → from + 1 ≤ k → k < to → is_bound text k ≡ false) (last : is_bound text to ≡ true) where
+      inside_word : (k : ℕ) → from ≤ k → k < to → in_word text k ≡ true
+      inside_word k low high = each k low (λ i above up. alike i above (omega arith))
+
+      ended : in_word text to ≡ false
+      unfolding is_bound
+      ended =
+          let still = steady_to (from + 1) to some alike ∙ inside_from in
+          second (in_word text to) (is_inside text to) still last
+        where
+          second : (a b : Bool) → b ≡ true → differ a b ≡ true → a ≡ false
+          second true true e d = sym d
+          second true false e d = sym e
+          second false b e d = refl
+
+      within : to ≤ length text
+      within = ⊎_elim (λ (past : length text < to). clash _ (inside_word (to - 1) (omega arith) (omega arith)) (in_word_past text (to - 1) (omega arith))) (λ (up : to ≤ length text). up) (cases_lt (length text) to)
+
+      rest : raw_words_from text to ≡ raw_words_from text (to + 1)
+      rest = ⊎_elim
+          (λ (less : to < length text). runs_skip (in_word text) (length text) to (to + 1) (omega arith) (omega arith) (λ k low high. let here : to ≡ k = omega arith in subst (λ (x : ℕ). starts (in_word text) x ≡ false) here (starts_outside (in_word text) to ended)))
+          (λ (past : length text ≤ to). no_words text to past ∙ sym (no_words text (to + 1) (omega arith)))
+          (cases_lt to (length text))
+
+      pub found : (start bounds : ℕ) → IsAhead text (to + 1) start bounds → IsFound text at (record { from = from; to = to }) start bounds
+      found start bounds ahead = record {
+        first = first_run (in_word text) (length text) at from to order within before (record {
+          nonempty = omega arith;
+          each = inside_word;
+          before = λ i next. ⊎_elim
+              (λ (less : i < at). let same : suc i ≡ at = omega arith in sym (inside_behind i) ∙ ap (is_inside text) same ∙ outside)
+              (λ (more : at ≤ i). before i more (omega arith))
+              (cases_lt i at);
+          behind = ended;
+        }) ∙ ap (λ t. record { from = from; to = to } ∷ t) rest;
+        order = order;
+        some = omega arith;
+        within = within;
+        outside = let next : to + 1 ≡ suc to = omega arith in ap (is_inside text) next ∙ inside_behind to ∙ ended;
+        ahead = ahead;
+      }
+
+  -- no bound, no word
+  pub none_left : (at : ℕ) → is_inside text at ≡ false → ((k : ℕ) → at ≤ k → k ≤ length text → is_bound text k ≡ false) → raw_words_from text at ≡ []
+  none_left at outside none =
       ⊎_elim
-      (λ (less : i < at). let same : at ≡ from = omega arith in subst (λ (x : ℕ). (in_word text i && in_word text x) ≡ false) same (between i (omega arith)))
-      (λ (more : at ≤ i). let fail = outside i more (omega arith) in rw fail refl)
-      (cases_lt i at)
+      (λ (less : at < length text).
+      no_run (in_word text) (length text) at (omega arith) (λ k low high. sym (inside_behind k) ∙ steady_to at (suc k) (omega arith) (λ i from_at up. none i from_at (omega arith)) ∙ outside))
+      (λ (past : length text ≤ at). no_words text at past)
+      (cases_lt at (length text))
 
-  pub words_later : from ≤ length text → raw_words_from text at ≡ raw_words_from text from
-  words_later within = runs_skip (in_word text) (length text) at from order within (λ k low high. starts_outside (in_word text) k (outside k low high))
-
-  -- the word that starts there
-  pub next_run : (to : ℕ) → from < to → to ≤ length text → ((k : ℕ) → from ≤ k → k < to → in_word text k ≡ true) → in_word text to ≡ false → raw_words_from text at ≡ record { from = from; to = to } ∷ raw_words_from text to
-  next_run to some within each behind =
-      first_run (in_word text) (length text) at from to order within outside (record {
-        nonempty = some;
-        each = each;
-        before = λ i next. ⊎_elim (λ (pass : in_word text i ≡ true). clash _ (and_from (in_word text i) _ pass (each from (omega arith) some)) (between_later i next)) (λ fail. fail) (cases_Bool (in_word text i));
-        behind = behind;
-      })
-
--- of a place of which nothing is known
-pub fresh : (text : List ℕ) (at : ℕ) → at ≤ length text → IsAhead text at at 0
-fresh text at inside = record {
-  order = omega arith;
+-- the first places of a text
+pub first_places : (text : List ℕ) (bounds : ℕ) → ((j : ℕ) → j < 64 → has_bit bounds j ≡ is_bound text (0 + j)) → IsAhead text 0 0 bounds
+first_places text bounds each = record {
   near = omega arith;
-  fits = omega arith;
+  order = omega arith;
+  none = λ k low high. absurd (omega arith);
+  done = λ j less before. absurd (omega arith);
+  each = λ j less more. each j less;
+}
+
+-- behind a text's end no bound stands
+no_bound : (text : List ℕ) (k : ℕ) → length text + 1 ≤ k → is_bound text k ≡ false
+unfolding is_bound is_inside
+no_bound text zero past = absurd (omega arith)
+no_bound text (suc i) past =
+    let here = in_word_past text (suc i) (omega arith) in
+    let last = in_word_past text i (omega arith) in
+    rw (here, last) refl
+
+-- the end of a text
+pub last_place : (text : List ℕ) → IsAhead text (length text + 1) (length text) 0
+last_place text = record {
+  near = omega arith;
+  order = omega arith;
   none = λ k low high. absurd (omega arith);
   done = λ j less before. has_bit-zero j;
-  each = λ j less more. absurd (omega arith);
+  each = λ j less more. has_bit-zero j ∙ sym (no_bound text (length text + j) (omega arith));
 }
 
-module _ (text : List ℕ) (at end marks : ℕ) (ahead : IsAhead text at end marks) where
-  -- no marks, no words
-  pub exhausted : marks ≡ 0 → (k : ℕ) → at ≤ k → k < end → in_word text k ≡ false
+pub outside_over : (text : List ℕ) → is_inside text (length text + 1) ≡ false
+outside_over text =
+    let next : length text + 1 ≡ suc (length text) = omega arith in
+    ap (is_inside text) next ∙ inside_behind text (length text) ∙ in_word_past text (length text) (omega arith)
+
+module _ (text : List ℕ) (at start bounds : ℕ) (ahead : IsAhead text at start bounds) where
+  -- without bits, no bound
+  pub exhausted : bounds ≡ 0 → (k : ℕ) → at ≤ k → k < start + 64 → is_bound text k ≡ false
   exhausted none k low high =
-      ⊎_elim (λ (less : k + 63 < end). ahead.none k low less)
-      (λ (more : end ≤ k + 63).
-      let place : end + (k + 63 - end) - 63 ≡ k = omega arith in
-      sym (ap (in_word text) place) ∙ sym (ahead.each (k + 63 - end) (omega arith) (omega arith)) ∙ ap (λ m. has_bit m (k + 63 - end)) none ∙ has_bit-zero (k + 63 - end))
-      (cases_lt (k + 63) end)
+      ⊎_elim (λ (less : k < start). ahead.none k low less)
+      (λ (more : start ≤ k).
+      let place : start + (k - start) ≡ k = omega arith in
+      sym (ap (is_bound text) place) ∙ sym (ahead.each (k - start) (omega arith) (omega arith)) ∙ ap (λ m. has_bit m (k - start)) none ∙ has_bit-zero (k - start))
+      (cases_lt k start)
 
-  -- the places behind the block
-  pub next_block : marks ≡ 0 → end ≤ length text → (more : ℕ) → more < 2 ^ 63 → ((j : ℕ) → j < 63 → has_bit more j ≡ in_word text (end + j)) → IsAhead text at (end + 63) more
-  next_block none inside_text more fits each = record {
+  -- the block behind one without bits
+  pub next_block : bounds ≡ 0 → start + 64 ≤ length text → (more : ℕ) → ((j : ℕ) → j < 64 → has_bit more j ≡ is_bound text (start + 64 + j)) → IsAhead text at (start + 64) more
+  next_block none inside_text more each = record {
+    near = inside_text;
     order = omega (arith, ahead.order);
-    near = omega arith;
-    fits = fits;
-    none = λ k low high. exhausted none k low (omega arith);
+    none = λ k low high. exhausted none k low high;
     done = λ j less before. absurd (omega (arith, ahead.order));
-    each = λ j less from.
-        let place : end + j ≡ end + 63 + j - 63 = omega arith in
-        each j less ∙ ap (in_word text) place;
+    each = λ j less from. each j less;
   }
 
-  pub none_left : marks ≡ 0 → at ≤ length text → length text ≤ end → raw_words_from text at ≡ []
-  none_left none within over = no_run (in_word text) (length text) at within (λ k low high. exhausted none k low (omega arith))
+  -- whether the places are inside a word is known from the first
+  pub inside_next : bounds ≡ 0 → is_inside text (start + 64) ≡ is_inside text at
+  inside_next none = steady_to text at (start + 64) ahead.order (λ i low high. exhausted none i low high)
 
-  module _ (from to rest : ℕ) (run : IsLowestRun marks from to rest) where
-    -- the run's places were not given yet
-    pub not_done : at + 63 ≤ end + from
+  module _ (some : 0 < bounds) (fits : bounds < 2 ^ 64) where
+    abbrev t : ℕ
+    t = trailing_zeros w64 bounds
+
+    -- the bound was not passed yet
+    not_done : at ≤ start + t
     not_done =
-        ⊎_elim (λ (before : end + from < at + 63). clash (has_bit marks from) (run.each from (omega arith) run.order) (ahead.done from (omega (arith, run.order, run.within)) before)) (λ (more : at + 63 ≤ end + from). more) (cases_lt (end + from) (at + 63))
+        ⊎_elim (λ (before : start + t < at). clash (has_bit bounds t) (lowest_set bounds some fits) (ahead.done t (lowest_within bounds some fits) before)) (λ (more : at ≤ start + t). more) (cases_lt (start + t) at)
 
-    pub outside : (k : ℕ) → at ≤ k → k < end + from - 63 → in_word text k ≡ false
-    outside k low high =
-        ⊎_elim (λ (less : k + 63 < end). ahead.none k low less)
-        (λ (more : end ≤ k + 63).
-        let place : end + (k + 63 - end) - 63 ≡ k = omega arith in
-        sym (ap (in_word text) place) ∙ sym (ahead.each (k + 63 - end) (omega (arith, run.order, run.within)) (omega arith)) ∙ run.before (k + 63 - end) (omega arith))
-        (cases_lt (k + 63) end)
-
-    pub inside : (k : ℕ) → end + from - 63 ≤ k → k < end + to - 63 → in_word text k ≡ true
-    inside k low high =
-        let known = not_done in
-        let place : end + (k + 63 - end) - 63 ≡ k = omega arith in
-        sym (ap (in_word text) place) ∙ sym (ahead.each (k + 63 - end) (omega (arith, run.within)) (omega arith)) ∙ run.each (k + 63 - end) (omega arith) (omega arith)
-
-    pub starts : in_word text (end + from - 63) ≡ true
-    starts = inside (end + from - 63) (omega arith) (omega (arith, run.order, not_done))
-
-    -- what belongs to a word stands in the text
-    pub starts_within : end + from - 63 < length text
-    starts_within = ⊎_elim (λ (less : end + from - 63 < length text). less) (λ (past : length text ≤ end + from - 63). clash _ starts (in_word_past text (end + from - 63) past)) (cases_lt (end + from - 63) (length text))
-
-    module _ (short : to < 63) (between : IsBetweenWords text at) where
-      behind : in_word text (end + to - 63) ≡ false
-      behind = sym (ahead.each to short (omega (arith, not_done, run.order))) ∙ run.behind
-
-      within : end + to - 63 ≤ length text
-      within =
-          let last = end + to - 63 - 1 in
-          ⊎_elim (λ (past : length text < end + to - 63). clash (in_word text last) (inside last (omega (arith, not_done, run.order)) (omega (arith, not_done, run.order))) (in_word_past text last (omega arith))) (λ (up : end + to - 63 ≤ length text). up) (cases_lt (length text) (end + to - 63))
-
-      ahead_behind : IsAhead text (end + to - 63) end rest
-      ahead_behind = record {
-        order = omega (arith, run.within);
+    pub taken : IsNextBound text at (start + t) start (bit_and bounds (bounds - 1))
+    taken = record {
+      order = not_done;
+      none = λ k low high.
+          ⊎_elim (λ (less : k < start). ahead.none k low less)
+          (λ (more : start ≤ k).
+          let place : start + (k - start) ≡ k = omega arith in
+          sym (ap (is_bound text) place) ∙ sym (ahead.each (k - start) (omega (arith, lowest_within bounds some fits)) (omega arith)) ∙ none_below bounds some fits (k - start) (omega arith))
+          (cases_lt k start);
+      bound = sym (ahead.each t (lowest_within bounds some fits) not_done) ∙ lowest_set bounds some fits;
+      ahead = record {
         near = ahead.near;
-        fits = run.fits;
-        none = λ k low high. absurd (omega (arith, not_done, run.order));
-        done = λ j less before. run.done j (omega (arith, not_done, run.order));
-        each = λ j less from. ⊎_elim
-            (λ (more : to < j). run.kept j more ∙ ahead.each j less (omega (arith, not_done, run.order)))
-            (λ (least : j ≤ to).
-            let same : to ≡ j = omega (arith, not_done, run.order) in
-            run.done j least ∙ sym (subst (λ (x : ℕ). in_word text (end + x - 63) ≡ false) same behind))
-            (cases_lt to j);
-      }
-
-      pub found : IsFound text at (record { from = end + from - 63; to = end + to - 63 }) end rest
-      found = record {
-        first = next_run text at (end + from - 63) between (omega (arith, not_done)) outside (end + to - 63) (omega (arith, not_done, run.order)) within inside behind;
-        order = omega (arith, not_done);
-        some = omega (arith, not_done, run.order);
-        within = within;
-        after = between_behind text (end + to - 63) behind;
-        ahead = ahead_behind;
-      }
-
--- a word at a place of which nothing was known
-module _ (text : List ℕ) (from marks : ℕ) (in_text : from ≤ length text) (starts_here : in_word text from ≡ true) (fits : marks < 2 ^ 63) (each : (j : ℕ) → j < 63 → has_bit marks j ≡ in_word text (from + j)) where
-  pub some_marks : 0 < marks
-  some_marks =
-      let here : from + 0 ≡ from = omega arith in
-      ⊎_elim (λ (some : 0 < marks). some)
-      (λ (none : marks ≤ 0).
-      let zeroed : 0 ≡ marks = omega arith in
-      clash (has_bit marks 0) (each 0 (omega arith) ∙ ap (in_word text) here ∙ starts_here) (subst (λ (m : ℕ). has_bit m 0 ≡ false) zeroed (has_bit-zero 0)))
-      (cases_lt 0 marks)
-
-  pub begun : (lowest to rest : ℕ) → IsLowestRun marks lowest to rest → to < 63 → IsBetweenWords text from → IsFound text from (record { from = from; to = from + to }) (from + 63) rest
-  begun lowest to rest run short between =
-      let here : from + 0 ≡ from = omega arith in
-      let set : has_bit marks 0 ≡ true = each 0 (omega arith) ∙ ap (in_word text) here ∙ starts_here in
-      let least : lowest ≡ 0 = ⊎_elim (λ (more : 0 < lowest). clash (has_bit marks 0) set (run.before 0 more)) (λ (none : lowest ≤ 0). omega arith) (cases_lt 0 lowest) in
-      let ahead = next_block text from from 0 (fresh text from in_text) refl in_text marks fits each in
-      let first : from + 63 + lowest - 63 ≡ from = omega arith in
-      let last : from + 63 + to - 63 ≡ from + to = omega arith in
-      subst (λ (x : ℕ). IsFound text from (record { from = x; to = from + to }) (from + 63) rest) first
-      (subst (λ (y : ℕ). IsFound text from (record { from = from + 63 + lowest - 63; to = y }) (from + 63) rest) last
-      (found text from (from + 63) marks ahead lowest to rest run short between))
-
-  pub across : (to : ℕ) → IsBetweenWords text from → from < to → to ≤ length text → ((k : ℕ) → from ≤ k → k < to → in_word text k ≡ true) → in_word text to ≡ false → IsFound text from (record { from = from; to = to }) to 0
-  across to between some within inner behind = record {
-    first = next_run text from from between (omega arith) (λ k low high. absurd (omega arith)) to some within inner behind;
-    order = omega arith;
-    some = some;
-    within = within;
-    after = between_behind text to behind;
-    ahead = fresh text to within;
-  }
-
--- the first word from a place on is the first from an earlier one on
-pub found_later : (text : List ℕ) (at from : ℕ) (word : Rattle.fts_words.specs.declared.span.Span.Span) (end marks : ℕ) → IsBetweenWords text at → at ≤ from → from ≤ length text → ((k : ℕ) → at ≤ k → k < from → in_word text k ≡ false) → IsFound text from word end marks → IsFound text at word end marks
-found_later text at from word end marks between order within outside it = record {
-  first = words_later text at from between order outside within ∙ it.first;
-  order = omega (arith, it.order);
-  some = it.some;
-  within = it.within;
-  after = it.after;
-  ahead = it.ahead;
-}
+        order = omega (arith, lowest_within bounds some fits);
+        none = λ k low high. absurd (omega (arith, not_done));
+        done = λ j less before. cleared bounds some fits j (omega arith);
+        each = λ j less more. kept_above bounds some fits j (omega arith) ∙ ahead.each j less (omega (arith, not_done));
+      };
+    }

@@ -1,9 +1,7 @@
-mod Scan
 mod Rows
 mod Filtered
 mod Held
 mod Lanes
-mod Carry
 mod Bits
 mod Joining
 mod Blocks

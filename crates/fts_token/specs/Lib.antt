@@ -1,4 +1,6 @@
-pub mod Ahead
-pub mod Between
+pub mod Bits
+pub mod Bounds
+pub mod Bytes
+pub mod Chosen
 pub mod Left
-pub mod Run
+pub mod Row

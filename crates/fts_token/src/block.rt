@@ -1,40 +1,50 @@
-//! The words of a text, from the marks of a block of its places.
-ghost use Rattle.std.specs.Prelude.{◌≡◌, ℕ, ◌+◌, ◌^◌, ◌<◌, ◌≤◌, List, [], length, IsTrue, IfNone, IfSome};
-ghost use Rattle.fts_words.specs.RawWords.{in_word, raw_words_from};
-ghost use Rattle.fts_token.specs.Between.{IsBetweenWords};
-ghost use Rattle.fts_token.specs.Ahead.{IsLowestRun, IsAhead, IsFound};
+//! The words of a text, from the bounds of words in a block of its places: the first place of each, and the one behind it.
+ghost use Rattle.std.specs.Prelude.{◌≡◌, ℕ, ◌+◌, ◌<◌, ◌≤◌, List, [], length, IsFalse, IfNone, IfSome};
+ghost use Rattle.fts_words.specs.RawWords.{raw_words_from};
+ghost use Rattle.fts_token.specs.Bounds.{is_inside, is_bound, IsAhead, IsNextBound, IsFound};
 
-use crate::marks::marks_at;
-use crate::raw::word_end;
+use crate::marks::bounds_at;
 use fts_words::Span;
 
 /// How many places a block has.
-const PLACES: usize = 63;
+const PLACES: usize = 64;
 
-/// What is known of the places of a text before `end`: a bit for each of the last 63 that belongs to a word which is yet
-/// to be given.
+/// What is known of the 64 places of a text from `start` on: a bit for each that is a bound of a word and is yet to be passed.
 #[derive(Clone, Copy, Debug)]
 pub(crate) struct Block {
-    pub(crate) end: usize,
-    pub(crate) marks: u64,
+    pub(crate) start: usize,
+    pub(crate) bounds: u64,
 }
 
 impl Block {
-    /// What is known before the text is looked at: nothing.
+    /// The first places of a text.
     #[inline(always)]
-    pub(crate) fn at_start() -> Self
-        ensures { (text : List ℕ) → IsAhead text 0 result.end result.marks }
+    pub(crate) fn first(text: &[u8]) -> Self
+        ensures { IsAhead text.now 0 result.start result.bounds }
     {
-        Block { end: 0, marks: 0 }
+        Block {
+            start: 0,
+            bounds: bounds_at(text, 0, false),
+        }
+    }
+
+    /// The end of a text.
+    #[inline(always)]
+    pub(crate) fn last(text: &[u8]) -> Self
+        ensures { IsAhead text.now (length text.now + 1) result.start result.bounds }
+    {
+        Block {
+            start: text.len(),
+            bounds: 0,
+        }
     }
 }
 
-/// A run of bits, and the bits above it.
+/// A bound, and what is known of the places behind it.
 #[derive(Clone, Copy)]
-struct Run {
-    from: usize,
-    to: usize,
-    rest: u64,
+struct Bound {
+    place: usize,
+    block: Block,
 }
 
 /// A word, and what is known of the places behind it.
@@ -44,109 +54,102 @@ pub(crate) struct Found {
     pub(crate) block: Block,
 }
 
-/// The lowest run of bits.
+/// The block that has the next bound, or one without bounds at the text's end. It is told whether the place before belongs to
+/// a word.
 #[inline(always)]
-fn lowest_run(marks: u64) -> Run
-    requires some { 0 < marks }
-    requires fits { marks < 2 ^ 63 }
-    ensures { IsLowestRun marks result.from result.to result.rest }
-{
-    let from = marks.trailing_zeros();
-    // The sum carries through the run, up to the place behind it.
-    let carried = marks + (1 << from);
-    Run {
-        from: from as usize,
-        to: carried.trailing_zeros() as usize,
-        rest: marks & carried,
-    }
-}
-
-/// The block that has the next word, from one on that may have none.
-#[inline(always)]
-fn later_with_word(text: &[u8], at: usize, block: Block) -> Block
-    requires between { IsBetweenWords text.now at }
-    requires ahead { IsAhead text.now at block.end block.marks }
-    ensures ahead { IsAhead text.now at result.end result.marks }
-    ensures none { result.marks ≡ 0 → length text.now ≤ result.end }
+fn with_bound(text: &[u8], at: usize, inside: bool, block: Block) -> Block
+    requires inside { inside ≡ is_inside text.now at }
+    requires ahead { IsAhead text.now at block.start block.bounds }
+    ensures ahead { IsAhead text.now at result.start result.bounds }
+    ensures none { result.bounds ≡ 0 → length text.now < result.start + 64 }
 {
     let mut block = block;
-    while block.marks == 0 && block.end < text.len() {
+    while block.bounds == 0 && text.len() - block.start >= PLACES {
+        let start = block.start + PLACES;
         block = Block {
-            end: block.end + PLACES,
-            marks: marks_at(text, block.end),
+            start,
+            bounds: bounds_at(text, start, inside),
         };
     }
     block
 }
 
-/// The block that has the next word, or one without marks at the text's end.
+/// The lowest bound of a block that has one.
 #[inline(always)]
-fn with_word(text: &[u8], at: usize, block: Block) -> Block
-    requires between { IsBetweenWords text.now at }
-    requires ahead { IsAhead text.now at block.end block.marks }
-    ensures ahead { IsAhead text.now at result.end result.marks }
-    ensures none { result.marks ≡ 0 → length text.now ≤ result.end }
+fn lowest_bound(text: &[u8], at: usize, block: Block) -> Bound
+    requires some { 0 < block.bounds }
+    requires ahead { IsAhead text.now at block.start block.bounds }
+    ensures { IsNextBound text.now at result.place result.block.start result.block.bounds }
 {
-    if block.marks != 0 {
-        return block;
-    }
-    later_with_word(text, at, block)
-}
-
-/// The word that starts at a place, where its end isn't known.
-#[inline(always)]
-fn word_across(text: &[u8], from: usize) -> Found
-    requires within { from < length text.now }
-    requires between { IsBetweenWords text.now from }
-    requires starts { IsTrue (in_word text.now from) }
-    ensures { IsFound text.now from result.word result.block.end result.block.marks }
-{
-    let run = lowest_run(marks_at(text, from));
-    if run.to < PLACES {
-        return Found {
-            word: Span {
-                from,
-                to: from + run.to,
-            },
-            block: Block {
-                end: from + PLACES,
-                marks: run.rest,
-            },
-        };
-    }
-    let to = word_end(text, from);
-    Found {
-        word: Span { from, to },
-        block: Block { end: to, marks: 0 },
+    Bound {
+        place: block.start + block.bounds.trailing_zeros() as usize,
+        block: Block {
+            start: block.start,
+            bounds: block.bounds & (block.bounds - 1),
+        },
     }
 }
 
-/// The first raw word that starts at a place between words or behind it.
+/// The first bound at a place or behind it. It is told whether the place before belongs to a word.
 #[inline(always)]
-pub(crate) fn first_word(text: &[u8], at: usize, block: Block) -> Option<Found>
-    requires within { at ≤ length text.now }
-    requires between { IsBetweenWords text.now at }
-    requires ahead { IsAhead text.now at block.end block.marks }
-    ensures none { IfNone result (raw_words_from text.now at ≡ []) }
-    ensures some { IfSome result (λ found. IsFound text.now at found.word found.block.end found.block.marks) }
+fn next_bound(text: &[u8], at: usize, inside: bool, block: Block) -> Option<Bound>
+    requires inside { inside ≡ is_inside text.now at }
+    requires ahead { IsAhead text.now at block.start block.bounds }
+    ensures none { IfNone result ((k : ℕ) → at ≤ k → k ≤ length text.now → IsFalse (is_bound text.now k)) }
+    ensures some { IfSome result (λ bound. IsNextBound text.now at bound.place bound.block.start bound.block.bounds) }
 {
-    let block = with_word(text, at, block);
-    if block.marks == 0 {
+    let block = with_bound(text, at, inside, block);
+    if block.bounds == 0 {
         return None;
     }
-    let run = lowest_run(block.marks);
-    let from = block.end + run.from - PLACES;
-    if run.to == PLACES {
-        return Some(word_across(text, from));
-    }
-    Some(Found {
+    Some(lowest_bound(text, at, block))
+}
+
+/// The word that two bounds enclose, where the place before the first belongs to no word.
+#[inline(always)]
+fn between(text: &[u8], at: usize, start: Bound, behind: Bound) -> Found
+    requires outside { IsFalse (is_inside text.now at) }
+    requires start { IsNextBound text.now at start.place start.block.start start.block.bounds }
+    requires behind { IsNextBound text.now (start.place + 1) behind.place behind.block.start behind.block.bounds }
+    ensures { IsFound text.now at result.word result.block.start result.block.bounds }
+{
+    Found {
         word: Span {
-            from,
-            to: block.end + run.to - PLACES,
+            from: start.place,
+            to: behind.place,
         },
-        block: Block {
-            end: block.end,
-            marks: run.rest,
-        },
-    })
+        block: behind.block,
+    }
+}
+
+/// The same as `first_word` where the block may end before the word does.
+#[inline(always)]
+fn later_word(text: &[u8], at: usize, block: Block) -> Option<Found>
+    requires outside { IsFalse (is_inside text.now at) }
+    requires ahead { IsAhead text.now at block.start block.bounds }
+    ensures none { IfNone result (raw_words_from text.now at ≡ []) }
+    ensures some { IfSome result (λ found. IsFound text.now at found.word found.block.start found.block.bounds) }
+{
+    let start = next_bound(text, at, false, block)?;
+    let behind = next_bound(text, start.place + 1, true, start.block)?;
+    Some(between(text, at, start, behind))
+}
+
+/// The first raw word that starts at a place or behind it, where the place before belongs to no word.
+#[inline(always)]
+pub(crate) fn first_word(text: &[u8], at: usize, block: Block) -> Option<Found>
+    requires outside { IsFalse (is_inside text.now at) }
+    requires ahead { IsAhead text.now at block.start block.bounds }
+    ensures none { IfNone result (raw_words_from text.now at ≡ []) }
+    ensures some { IfSome result (λ found. IsFound text.now at found.word found.block.start found.block.bounds) }
+{
+    if block.bounds == 0 {
+        return later_word(text, at, block);
+    }
+    let start = lowest_bound(text, at, block);
+    if start.block.bounds == 0 {
+        return later_word(text, at, block);
+    }
+    let behind = lowest_bound(text, start.place + 1, start.block);
+    Some(between(text, at, start, behind))
 }

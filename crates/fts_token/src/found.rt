@@ -1,7 +1,7 @@
 ghost use Rattle.std.specs.Prelude.{◌≡◌, ◌<◌, ◌≤◌, ◌++◌, [], length, take};
 ghost use Rattle.fts_token.specs.Left.{columns_of, placed_words_left, placed_words_behind, indexed_among};
 
-use crate::indexable::is_indexable_at;
+use crate::indexable::Choice;
 use crate::placed::PlacedWords;
 use fts_types::Settings;
 use fts_words::PlacedWord;
@@ -28,6 +28,7 @@ fn find_in_column(
     ensures column { words.new.column ≡ words.old.column }
     ensures row { columns_of words.new ≡ columns_of words.old }
 {
+    let choice = Choice::of(settings);
     let text = words.text();
     // A copy can stay in registers.
     let mut ahead = *words;
@@ -37,7 +38,7 @@ fn find_in_column(
             break;
         };
         found[count] = word;
-        count += usize::from(is_indexable_at(settings, text, &word.span));
+        count += usize::from(choice.has_at(text, &word.span));
     }
     *words = ahead;
     count

@@ -13,7 +13,6 @@ mod lower;
 mod marks;
 mod placed;
 mod raw;
-mod run;
 #[cfg(test)]
 mod tests;
 mod words;

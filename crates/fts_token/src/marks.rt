@@ -1,17 +1,14 @@
-//! Which places of a text belong to words, many at once: a mark is one bit a place, from the lowest on.
-ghost use Rattle.std.specs.Prelude.{◌≡◌, ℕ, ◌+◌, ◌-◌, ◌^◌, ◌<◌, ◌≤◌, ◌||◌, ◌&&◌, length, slice_index};
+//! What a block of a text's places says of its words, many places at once: a bit each, from the lowest on.
+ghost use Rattle.std.specs.Prelude.{◌≡◌, ℕ, ◌+◌, ◌<◌, ◌≤◌, ◌||◌, ◌&&◌, length, slice_index};
 ghost use Rattle.fts_words.specs.Byte.{word_at, apostrophe_at};
-ghost use Rattle.fts_words.specs.RawWords.{in_word};
-ghost use Rattle.fts_token.specs.Between.{IsBetweenWords};
-ghost use Rattle.fts_token.specs.Ahead.{has_bit};
+ghost use Rattle.fts_token.specs.Bits.{has_bit, differ, one_before, one_behind};
+ghost use Rattle.fts_token.specs.Bounds.{is_inside, is_bound};
 
+use crate::raw::has_word_byte;
 use std::simd::prelude::*;
 
 /// How many bytes are looked at together.
 const LANES: usize = 64;
-
-/// All bits but the highest.
-const KNOWN: u64 = 0x7FFF_FFFF_FFFF_FFFF;
 
 /// Which of 64 bytes are word bytes.
 #[inline(always)]
@@ -36,29 +33,29 @@ fn apostrophe_marks(text: &[u8], at: usize) -> u64
     bytes.simd_eq(u8x64::splat(b'\'')).to_bitmask()
 }
 
-/// Adds to the word bytes the apostrophes between two of them. The last place is left out: what is behind it isn't known.
+/// Adds to the word bytes the apostrophes between two of them. It is told of the places before the first and behind the last
+/// whether they have word bytes.
 #[inline(always)]
-fn joined(words: u64, apostrophes: u64) -> u64
-    ensures fits { result < 2 ^ 63 }
-    ensures first { has_bit result 0 ≡ has_bit words 0 }
-    ensures others { (j : ℕ) → 1 ≤ j → j < 63 → has_bit result j ≡
-        (has_bit words j || (has_bit apostrophes j && (has_bit words (j - 1) && has_bit words (j + 1)))) }
+fn joined(words: u64, apostrophes: u64, before: bool, behind: bool) -> u64
+    ensures { (j : ℕ) → j < 64 → has_bit result j ≡ (has_bit words j ||
+        (has_bit apostrophes j && (one_before before (has_bit words) j && one_behind behind (has_bit words) j))) }
 {
-    (words | (apostrophes & ((words << 1) & (words >> 1)))) & KNOWN
+    let left = (words << 1) | u64::from(before);
+    let right = (words >> 1) | (u64::from(behind) << 63);
+    words | (apostrophes & (left & right))
 }
 
-/// Which of 63 places belong to words, if the first of them is no apostrophe in a word.
+/// Which of the places differ from the one before them. It is told of the place before the first.
 #[inline(always)]
-fn marks_in(text: &[u8], at: usize) -> u64
-    requires { at + 64 ≤ length text.now }
-    ensures fits { result < 2 ^ 63 }
-    ensures first { has_bit result 0 ≡ word_at text.now at }
-    ensures others { (j : ℕ) → 1 ≤ j → j < 63 → has_bit result j ≡ in_word text.now (at + j) }
+fn changes(marks: u64, before: bool) -> u64
+    ensures { (j : ℕ) → j < 64 → has_bit result j ≡ differ (has_bit marks j) (one_before before (has_bit marks) j) }
 {
-    joined(word_marks(text, at), apostrophe_marks(text, at))
+    marks ^ ((marks << 1) | u64::from(before))
 }
 
 /// The last bytes of a text, filled up with zeros.
+#[cold]
+#[inline(never)]
 fn padded(text: &[u8], at: usize) -> [u8; 64]
     requires within { at ≤ length text.now }
     requires few { length text.now < at + 64 }
@@ -74,17 +71,22 @@ fn padded(text: &[u8], at: usize) -> [u8; 64]
     last
 }
 
-/// Which of the 63 places from one between words on belong to words. None does behind the text's end.
+/// Which of the 64 places from one on are bounds of words. It is told whether the place before belongs to a word.
 #[inline(never)]
-pub(crate) fn marks_at(text: &[u8], at: usize) -> u64
+pub(crate) fn bounds_at(text: &[u8], at: usize, inside: bool) -> u64
     requires within { at ≤ length text.now }
-    requires between { IsBetweenWords text.now at }
-    ensures fits { result < 2 ^ 63 }
-    ensures each { (j : ℕ) → j < 63 → has_bit result j ≡ in_word text.now (at + j) }
+    requires inside { inside ≡ is_inside text.now at }
+    ensures { (j : ℕ) → j < 64 → has_bit result j ≡ is_bound text.now (at + j) }
 {
-    if text.len() - at >= LANES {
-        marks_in(text, at)
-    } else {
-        marks_in(&padded(text, at), 0)
+    // The place before an apostrophe has a word byte just if it belongs to a word.
+    if text.len() - at < LANES {
+        let last = padded(text, at);
+        let words = word_marks(&last, 0);
+        let apostrophes = apostrophe_marks(&last, 0);
+        return changes(joined(words, apostrophes, inside, false), inside);
     }
+    let words = word_marks(text, at);
+    let apostrophes = apostrophe_marks(text, at);
+    let behind = has_word_byte(text, at + LANES);
+    changes(joined(words, apostrophes, inside, behind), inside)
 }

@@ -1,7 +1,6 @@
-ghost use Rattle.std.specs.Prelude.{◌≡◌, ◌+◌, ◌<◌, ◌≤◌, ◌∷◌, length, nat_lt, sum_by, IfNone, IfSome};
+ghost use Rattle.std.specs.Prelude.{◌≡◌, ◌+◌, ◌<◌, ◌≤◌, ◌∷◌, length, nat_lt, sum_by, IsFalse, IfNone, IfSome};
 ghost use Rattle.fts_words.specs.Indexed.{column_text, column_offset};
-ghost use Rattle.fts_token.specs.Between.{IsBetweenWords};
-ghost use Rattle.fts_token.specs.Ahead.{IsAhead};
+ghost use Rattle.fts_token.specs.Bounds.{is_inside, IsAhead};
 
 use crate::block::{Block, first_word};
 use fts_types::RowTexts;
@@ -20,10 +19,22 @@ pub struct PlacedWords<'a> {
     ghost short: { sum_by (λ text. length text + 1) columns.now ≤ 65543 },
     ghost column_within: { column ≤ length columns.now },
     ghost offset_is: { offset ≡ column_offset columns.now column },
-    ghost within: { at ≤ length (column_text columns.now column) },
-    ghost between: { IsBetweenWords (column_text columns.now column) at },
-    ghost ahead: { IsAhead (column_text columns.now column) at block.end block.marks },
+    ghost within: { at ≤ length (column_text columns.now column) + 1 },
+    ghost outside: { IsFalse (is_inside (column_text columns.now column) at) },
+    ghost ahead: { IsAhead (column_text columns.now column) at block.start block.bounds },
     ghost counted: { number ≤ at },
+}
+
+/// The text of a column, or no bytes behind the last one.
+#[inline(always)]
+fn text_of(columns: &RowTexts, column: usize) -> &[u8]
+    ensures { result.now ≡ column_text columns.now column }
+{
+    if column < columns.len() {
+        columns.text(column)
+    } else {
+        &[]
+    }
 }
 
 impl<'a> PlacedWords<'a> {
@@ -44,7 +55,7 @@ impl<'a> PlacedWords<'a> {
             column: 0,
             offset: 0,
             at: 0,
-            block: Block::at_start(),
+            block: Block::first(text_of(columns, 0)),
             number: 0,
         }
     }
@@ -57,17 +68,30 @@ impl<'a> PlacedWords<'a> {
         self.column < self.columns.len()
     }
 
-    /// The text of the column that it is in.
+    /// The text of the column that it is in, or no bytes behind the last one.
     #[inline(always)]
     pub(crate) fn text(&self) -> &'a [u8]
-        requires { self.now.column < length (columns_of self.now) }
         ensures { result.now ≡ column_text (columns_of self.now) self.now.column }
     {
-        self.columns.text(self.column)
+        text_of(self.columns, self.column)
     }
 
-    /// The next word of the column that it is in, or nothing, which changes nothing, at the column's end. It is passed the
-    /// column's text, which can stay in registers then.
+    /// Passes all words of the column that it is in. It is passed the column's text.
+    #[inline(always)]
+    fn pass(&mut self, text: &[u8])
+        requires inside { self.old.column < length (columns_of self.old) }
+        requires text { text.now ≡ column_text (columns_of self.old) self.old.column }
+        ensures left { placed_words_left self.new ≡ placed_words_behind self.old }
+        ensures behind { placed_words_behind self.new ≡ placed_words_behind self.old }
+        ensures column { self.new.column ≡ self.old.column }
+        ensures row { columns_of self.new ≡ columns_of self.old }
+    {
+        self.at = text.len() + 1;
+        self.block = Block::last(text);
+    }
+
+    /// The next word of the column that it is in, or nothing at the column's end. It is passed the column's text, which can
+    /// stay in registers then.
     #[inline(always)]
     pub(crate) fn next_in_column(&mut self, text: &[u8]) -> Option<PlacedWord>
         requires inside { self.old.column < length (columns_of self.old) }
@@ -76,19 +100,23 @@ impl<'a> PlacedWords<'a> {
         ensures here { IfSome result (λ word. word.column ≡ self.old.column) }
         ensures order { IfSome result (λ word. word.span.from ≤ word.span.to) }
         ensures within { IfSome result (λ word. word.span.to ≤ length text.now) }
-        ensures none { IfNone result (placed_words_left self.old ≡ placed_words_behind self.old) }
-        ensures unmoved { IfNone result (self.new ≡ self.old) }
+        ensures none { IfNone result (placed_words_left self.new ≡ placed_words_behind self.new) }
+        ensures stays { IfNone result (placed_words_left self.new ≡ placed_words_left self.old) }
         ensures column { self.new.column ≡ self.old.column }
         ensures row { columns_of self.new ≡ columns_of self.old }
     {
-        let found = first_word(text, self.at, self.block)?;
+        let Some(found) = first_word(text, self.at, self.block) else {
+            // What stays is then known from the text, so a loop need not keep where it stood.
+            self.pass(text);
+            return None;
+        };
         let word = PlacedWord {
             column: self.column,
             span: found.word,
             number: self.number,
             position: self.offset + found.word.from as u32,
         };
-        self.at = found.word.to;
+        self.at = found.word.to + 1;
         self.block = found.block;
         self.number += 1;
         Some(word)
@@ -101,11 +129,10 @@ impl<'a> PlacedWords<'a> {
         ensures column { self.new.column ≡ self.old.column + 1 }
         ensures row { columns_of self.new ≡ columns_of self.old }
     {
-        let text = self.columns.text(self.column);
-        self.offset += text.len() as u32 + 1;
+        self.offset += self.text().len() as u32 + 1;
         self.column += 1;
         self.at = 0;
-        self.block = Block::at_start();
+        self.block = Block::first(text_of(self.columns, self.column));
         self.number = 0;
     }
 

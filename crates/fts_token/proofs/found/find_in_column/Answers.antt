@@ -1,9 +1,10 @@
-use Rattle.std.proofs.Common.{◌≡◌, Bool, List, ℕ, sym, ap, ap₂, ◌∙◌, arith, rules}
+use Rattle.std.proofs.Common.{◌≡◌, Bool, List, ◌++◌, ℕ, take, sym, ap, ap₂, ◌∙◌, arith, rules}
+use Rattle.std.specs.Prelude.{filter}
 use Rattle.std.proofs.lemmas.List.{length-set}
 use Rattle.fts_words.specs.declared.placed.PlacedWord.{PlacedWord}
 use Rattle.fts_words.specs.Byte.{lowered}
 use Rattle.fts_words.specs.RawWords.{bytes_of}
-use Rattle.fts_words.specs.Indexed.{column_text, is_indexable, word_of}
+use Rattle.fts_words.specs.Indexed.{Rules, column_text, is_indexable, word_of}
 use Rattle.fts_types.specs.declared.settings.Settings.{Settings}
 use Rattle.fts_types.specs.Rules.{rules_of}
 use Rattle.fts_token.specs.Left.{columns_of, indexed_among}
@@ -23,8 +24,8 @@ loop-count-preserved c =
     let some = c.in-Some.ensures in
     let text : c.text-text.result.now ≡ column_text (columns_of c.next_in_column.new.self) word.column =
     c.text-text.ensures ∙ ap₂ column_text (sym (some.row ∙ loop.invariant.row)) (sym (some.here ∙ loop.invariant.column)) in
-    let passes : c.is_indexable_at.result ≡ is_kept settings (columns_of c.next_in_column.new.self) word =
-    c.is_indexable_at.ensures ∙ ap (λ (t : List ℕ). is_indexable (rules_of settings) (lowered (bytes_of t word.span))) text in
+    let passes : c.has_at.result ≡ is_kept settings (columns_of c.next_in_column.new.self) word =
+    c.has_at.ensures ∙ ap₂ (λ (rules : Rules) (t : List ℕ). is_indexable rules (lowered (bytes_of t word.span))) c.of-choice.ensures text in
     record {
       long = length-set loop.found loop.count word ∙ loop.invariant.long;
       within = search rules;
@@ -32,3 +33,14 @@ loop-count-preserved c =
       column = some.column ∙ loop.invariant.column;
       row = some.row ∙ loop.invariant.row;
     }
+
+-- the column has no more words, and nothing that is left has changed
+pub returns-in_default-clause-left : goal.returns-in_default-clause-left
+unfolding indexed_among is_kept
+returns-in_default-clause-left c =
+    let settings = c.args.settings.now in
+    let loop = c.loop-count in
+    let none = c.in_default.ensures in
+    let same : indexed_among settings c.next_in_column.new.self ≡ indexed_among settings loop.ahead =
+    ap₂ (λ (columns : List (List ℕ)) (words : List PlacedWord). filter (is_kept settings columns) words) none.row none.stays in
+    ap (λ (t : List PlacedWord). take loop.count loop.found ++ t) same ∙ loop.invariant.left

@@ -32,4 +32,4 @@ unfolding indexed_among kept_of placed_words_left placed_words_behind
 returns-clause-none c = λ _.
     let here = c.loop-words.words in
     let over : length here.columns.now ≤ here.column = ltb-false here.column (length here.columns.now) (sym c.has_column.ensures ∙ c.loop-words-test.false) in
-    ap (kept_of c.args.settings.now here.columns.now) (nothing_left here.columns.now here.column here.offset here.number here.at over here.within)
+    ap (kept_of c.args.settings.now here.columns.now) (nothing_left here.columns.now here.column here.offset here.number here.at over)

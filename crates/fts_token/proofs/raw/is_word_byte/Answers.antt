@@ -1,7 +1,7 @@
 use Rattle.std.proofs.Common.{Bool, List, ℕ, length, get_or, ap, ap₂, ◌∙◌, arith, false}
 use Rattle.std.proofs.lemmas.List.FromFn.{get_or-map-range_with_len, length-map-range_with_len}
 use Rattle.fts_words.specs.Byte.{is_word_byte}
-use Rattle.fts_token.specs.Run.{word_bytes}
+use Rattle.fts_token.specs.Bytes.{word_bytes}
 use Rattle.fts_token.proofs.raw.is_word_byte.Goals as goal
 
 pub bounds-word_bytes-from : goal.bounds-word_bytes-from

@@ -9,5 +9,5 @@ unfolding placed_words_left placed_words_behind
 returns c =
     let here = c.loop-self.self in
     let over : length here.columns.now ≤ here.column = ltb-false here.column (length here.columns.now) (sym c.has_column.ensures ∙ c.loop-self-test.false) in
-    let none = nothing_left here.columns.now here.column here.offset here.number here.at over here.within in
+    let none = nothing_left here.columns.now here.column here.offset here.number here.at over in
     record { steps = (sym c.loop-self.invariant.left ∙ none, none) }
