@@ -1,7 +1,8 @@
-//! The program: makes both devices of the folder that the first word names, and does what the words ask for.
+//! The program: makes both devices of the folder that the first word names, and does what the words
+//! ask for.
 #![tactic(auto)]
 
-use fts_host::{HostDisk, StdSink, StdSource};
+use fts_host::{HostDisk, OpenStreams, Refusal, StdSink, StdSource};
 use fts_io::OpenGate;
 use fts_top::{Status, fts_once};
 use std::alloc::AllocError;
@@ -10,19 +11,19 @@ use std::io::{self, ErrorKind};
 use std::process::ExitCode;
 
 fn main(rt: HostRuntime) -> ExitCode {
-    let status = match words(&rt) {
-        Ok(words) => match execute(&rt, &words) {
-            Ok(status) => status,
-            Err(AllocError) => Status::NoMemory,
-        },
-        Err(error) if error.kind() == ErrorKind::OutOfMemory => Status::NoMemory,
-        // A word that isn't UTF-8 belongs to no command.
-        Err(_) => Status::Usage,
+    // Held to the end, so that no file gets the number of a stream that was closed.
+    let streams = match OpenStreams::hold(&rt) {
+        Ok(streams) => streams,
+        Err(refusal) => return ended(&rt, Status::DiskFault, Some(refusal)),
     };
-    if status != Status::Done {
-        let _ = eprintln!(rt; "fts: {status}");
-    }
-    ExitCode::from(status.number())
+    let code = match words(&rt) {
+        Ok(words) => execute(&rt, &words),
+        Err(error) if error.kind() == ErrorKind::OutOfMemory => ended(&rt, Status::NoMemory, None),
+        // A word that isn't UTF-8 belongs to no command.
+        Err(_) => ended(&rt, Status::Usage, None),
+    };
+    drop(streams);
+    code
 }
 
 // The words behind the program's name.
@@ -34,16 +35,58 @@ fn words(rt: &HostRuntime) -> io::Result<Vec<String>> {
     Ok(words)
 }
 
-fn execute(rt: &HostRuntime, words: &[String]) -> Result<Status, AllocError> {
-    let alloc = rt.alloc();
+fn execute(rt: &HostRuntime, words: &[String]) -> ExitCode {
     let folder = match words.first() {
         Some(word) => word.as_str(),
         None => "",
     };
-    let rows = HostDisk::rows(alloc, rt.clone()?, folder)?;
-    let index = HostDisk::index(alloc, rt.clone()?, folder)?;
+    match devices(rt, folder) {
+        Ok((rows, index)) => on_devices(rt, words, rows, index),
+        Err(AllocError) => ended(rt, Status::NoMemory, None),
+    }
+}
+
+// Both devices of a folder.
+fn devices(
+    rt: &HostRuntime,
+    folder: &str,
+) -> Result<(HostDisk<HostRuntime>, HostDisk<HostRuntime>), AllocError> {
+    HostDisk::pair(rt.alloc(), rt.clone()?, rt.clone()?, folder)
+}
+
+fn on_devices(
+    rt: &HostRuntime,
+    words: &[String],
+    rows: HostDisk<HostRuntime>,
+    index: HostDisk<HostRuntime>,
+) -> ExitCode {
     let mut input = StdSource::new(rt.stdin());
     let mut out = StdSink::new(rt.stdout());
-    let (status, _, _) = fts_once(alloc, words, &mut input, &mut out, rows, index, &OpenGate);
-    Ok(status)
+    let (status, rows, index) = fts_once(
+        rt.alloc(),
+        words,
+        &mut input,
+        &mut out,
+        rows,
+        index,
+        &OpenGate,
+    );
+    let refusal = match status {
+        Status::ReadFault => input.refusal(),
+        Status::WriteFault => out.refusal(),
+        Status::DiskFault => rows.refusal().or(index.refusal()),
+        _ => None,
+    };
+    ended(rt, status, refusal)
+}
+
+// Says how the program ends, and what the system refused.
+fn ended(rt: &HostRuntime, status: Status, refusal: Option<Refusal<'_>>) -> ExitCode {
+    if status != Status::Done {
+        let _ = eprintln!(rt; "fts: {status}");
+    }
+    if let Some(refusal) = refusal {
+        let _ = eprintln!(rt; "fts: {refusal}");
+    }
+    ExitCode::from(status.number())
 }

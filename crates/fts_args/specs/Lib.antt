@@ -1,4 +1,3 @@
 pub mod Line
 pub mod Options
 pub mod Asked
-pub mod Ranges

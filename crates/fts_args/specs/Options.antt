@@ -1,5 +1,6 @@
 -- What the options of a subcommand are, of the rows that `clap` has for them.
-use Rattle.std.specs.Prelude.{◌&&◌, ◌^◌, ℕ, Bool, true, false, List, Option, Some, None, if◌then◌else◌, nat_lt, codes, option_and_then}
+use Rattle.std.specs.Prelude.{◌&&◌, ◌^◌, ℕ, Bool, true, false, List, Option, Some, None, if◌then◌else◌, nat_lt, codes}
+use Rattle.std.specs.Prelude.{option_and_then}
 use Rattle.std.specs.Str.{bytes_eq}
 use Rattle.std.specs.Str.Parse.{digits_value, without_leading_plus}
 use Rattle.clap.specs.ValueTests.{is_numeral}

@@ -2,7 +2,6 @@ ghost use Rattle.std.specs.Prelude.{◌≡◌, IfOk, IfSome, IfNone, codes, map}
 ghost use Rattle.std.specs.String.{string_bytes};
 ghost use Rattle.clap.specs.Words.{found_of, rows_of, subcommand_rows_of};
 ghost use Rattle.fts_args.specs.Asked.{Asks, HasOptions, HasSettings, IsAsked, IsCommand};
-ghost use Rattle.fts_args.specs.Ranges.{HasRanges};
 ghost use Rattle.fts_args.specs.declared.command.Command.{Command};
 ghost use Rattle.fts_types.specs.declared.settings.Settings.{Settings};
 
@@ -20,8 +19,8 @@ use std::alloc::{AllocError, Global};
 /// None is a faulty command line. What the folder is, is not looked at.
 pub fn command_of(alloc: Global, words: &[String]) -> Result<Option<Command>, AllocError>
     ensures found { IfOk result (λ found. IfSome found (Asks (map string_bytes words.now))) }
-    ensures none { IfOk result (λ found. IfNone found ((command : Command) → Asks (map string_bytes words.now) command → ⊥)) }
-    ensures ranges { IfOk result (λ found. IfSome found HasRanges) }
+    ensures none { IfOk result (λ found. IfNone found
+        ((command : Command) → Asks (map string_bytes words.now) command → ⊥)) }
 {
     match command_line(alloc)?.try_get_matches_from(words) {
         Ok(matches) => asked(alloc, &matches),
@@ -37,7 +36,8 @@ pub fn command_of(alloc: Global, words: &[String]) -> Result<Option<Command>, Al
 /// What the matches ask for.
 fn asked(alloc: Global, matches: &ArgMatches) -> Result<Option<Command>, AllocError>
     ensures found { IfOk result (λ found. IfSome found (IsAsked (subcommand_rows_of matches.now))) }
-    ensures none { IfOk result (λ found. IfNone found ((command : Command) → IsAsked (subcommand_rows_of matches.now) command → ⊥)) }
+    ensures none { IfOk result (λ found. IfNone found
+        ((command : Command) → IsAsked (subcommand_rows_of matches.now) command → ⊥)) }
 {
     match matches.subcommand() {
         Some((name, options)) => asked_of(alloc, name, options),
@@ -47,8 +47,10 @@ fn asked(alloc: Global, matches: &ArgMatches) -> Result<Option<Command>, AllocEr
 
 /// What a subcommand with these options asks for.
 fn asked_of(alloc: Global, name: &str, options: &ArgMatches) -> Result<Option<Command>, AllocError>
-    ensures found { IfOk result (λ found. IfSome found (IsCommand (name.now, rows_of (found_of options.now)))) }
-    ensures none { IfOk result (λ found. IfNone found ((command : Command) → IsCommand (name.now, rows_of (found_of options.now)) command → ⊥)) }
+    ensures found { IfOk result (λ found. IfSome found
+        (IsCommand (name.now, rows_of (found_of options.now)))) }
+    ensures none { IfOk result (λ found. IfNone found
+        ((command : Command) → IsCommand (name.now, rows_of (found_of options.now)) command → ⊥)) }
 {
     match name {
         "create" => created_by(alloc, options),
@@ -59,8 +61,11 @@ fn asked_of(alloc: Global, name: &str, options: &ArgMatches) -> Result<Option<Co
 
 /// The command `create` with these options.
 fn created_by(alloc: Global, options: &ArgMatches) -> Result<Option<Command>, AllocError>
-    ensures found { IfOk result (λ found. IfSome found (IsCommand (codes "create", rows_of (found_of options.now)))) }
-    ensures none { IfOk result (λ found. IfNone found ((command : Command) → IsCommand (codes "create", rows_of (found_of options.now)) command → ⊥)) }
+    ensures found { IfOk result (λ found. IfSome found
+        (IsCommand (codes "create", rows_of (found_of options.now)))) }
+    ensures none { IfOk result (λ found. IfNone found
+        ((command : Command) → IsCommand (codes "create", rows_of (found_of options.now)) command
+        → ⊥)) }
 {
     match settings_of(alloc, options)? {
         Some(settings) => Ok(Some(Command::Create { settings })),
@@ -70,8 +75,10 @@ fn created_by(alloc: Global, options: &ArgMatches) -> Result<Option<Command>, Al
 
 /// The settings that the options of `create` name.
 fn settings_of(alloc: Global, options: &ArgMatches) -> Result<Option<Settings>, AllocError>
-    ensures found { IfOk result (λ found. IfSome found (HasSettings (rows_of (found_of options.now)))) }
-    ensures none { IfOk result (λ found. IfNone found ((settings : Settings) → HasSettings (rows_of (found_of options.now)) settings → ⊥)) }
+    ensures found { IfOk result (λ found. IfSome found
+        (HasSettings (rows_of (found_of options.now)))) }
+    ensures none { IfOk result (λ found. IfNone found
+        ((settings : Settings) → HasSettings (rows_of (found_of options.now)) settings → ⊥)) }
 {
     let Some(names) = options.get_str("columns") else {
         return Ok(None);
@@ -90,7 +97,8 @@ fn settings_of(alloc: Global, options: &ArgMatches) -> Result<Option<Settings>, 
 fn settings_with(columns: Names, options: &ArgMatches) -> Option<Settings>
     ensures columns { IfSome result (λ settings. settings.columns ≡ columns) }
     ensures options { IfSome result (HasOptions (rows_of (found_of options.now))) }
-    ensures none { IfNone result ((settings : Settings) → HasOptions (rows_of (found_of options.now)) settings → ⊥) }
+    ensures none { IfNone result ((settings : Settings)
+        → HasOptions (rows_of (found_of options.now)) settings → ⊥) }
 {
     let min = byte(options, "min")?;
     let max = byte(options, "max")?;

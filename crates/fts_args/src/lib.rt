@@ -1,7 +1,7 @@
 //! The program's command line: what its words ask for.
 //!
-//! The words are read by [`clap`], from the description of the command line that stands in `src/line.rt`. The grammar
-//! is in `docs/LANGUAGE.md`, "The command line".
+//! The words are read by [`clap`], from the description of the command line that stands in
+//! `src/line.rt`. The grammar is in `docs/LANGUAGE.md`, "The command line".
 #![tactic(auto)]
 
 mod asked;

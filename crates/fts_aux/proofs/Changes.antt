@@ -5,7 +5,7 @@ use Rattle.std.specs.Ordering.{is_eq}
 use Rattle.std.specs.Vec.{vec_len, vec_capacity}
 use Rattle.std.specs.declared.vec.Vec.{Vec}
 use Rattle.std.proofs.lemmas.Bool.{cases_Bool, true≢false}
-use Rattle.fts_aux.specs.Node.{Docs, byte_order}
+use Rattle.fts_ilist.specs.Node.{Docs, byte_order}
 use Rattle.fts_aux.specs.Table.{items_of, spare_of}
 use Rattle.fts_aux.proofs.Ordered.{same_word, equal_itself}
 

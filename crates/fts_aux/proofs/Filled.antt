@@ -1,7 +1,7 @@
 -- Words with nodes among entries.
 use Rattle.std.proofs.Common.{◌≡◌, ℕ, true, cond, List, [], ◌∷◌, ◌++◌, refl, sym, ap, ◌∙◌, append_assoc}
 use Rattle.std.specs.declared.vec.Vec.{Vec}
-use Rattle.fts_aux.specs.Node.{Docs}
+use Rattle.fts_ilist.specs.Node.{Docs}
 use Rattle.fts_aux.specs.Table.{filled, filled_as, begins, front}
 
 filled_as_more : (w : List ℕ) (ns : List Docs) (rest : List (List ℕ × List Docs)) → filled_as w ns [] ++ rest ≡ filled_as w ns rest

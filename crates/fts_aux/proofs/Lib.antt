@@ -1,5 +1,4 @@
 mod Ascending
-mod Few
 mod Filled
 mod Ordered
 mod Prefixed

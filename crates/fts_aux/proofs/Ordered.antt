@@ -15,7 +15,7 @@ use Rattle.std.proofs.lemmas.Option.{none-some}
 use Rattle.std.proofs.lemmas.Map.Keys.{sorted_head, sorted_tail}
 use Rattle.std.proofs.lemmas.Map.Entries.{lookup-filter-keys}
 use Rattle.std.proofs.lemmas.Map.Lookups.{exact_bytes}
-use Rattle.fts_aux.specs.Node.{Docs, byte_order}
+use Rattle.fts_ilist.specs.Node.{Docs, byte_order}
 use Rattle.fts_aux.specs.Table.{items_of, filled, filled_as, nodes_at, IsNext, IsLast}
 
 module _ {X : Type 0} where

@@ -8,8 +8,8 @@ use Rattle.std.specs.declared.vec.Vec.{Vec}
 use Rattle.std.proofs.lemmas.Bool.{ne_eqb, eq-eqb}
 use Rattle.fts_types.specs.Table.{table_of}
 use Rattle.fts_aux.specs.declared.table.Table.{Table}
-use Rattle.fts_aux.specs.Node.{Docs, NodesAfter, last_of}
-use Rattle.fts_aux.specs.Node.{byte_order}
+use Rattle.fts_ilist.specs.Node.{Docs, NodesAfter, last_of}
+use Rattle.fts_ilist.specs.Node.{byte_order}
 use Rattle.fts_aux.specs.Table.{items_of, spare_of, nodes_in, room_in}
 use Rattle.fts_aux.specs.Tables.{Held, shown, entry_from, nodes_or_none, room_or_none, nodes, room, from_table, nodes_from, room_from, PlacedFrom, AreTables}
 use Rattle.fts_aux.proofs.Changes.{everywhere}

@@ -11,7 +11,7 @@ use Rattle.std.specs.Cmp.{nat_cmp_is}
 use Rattle.std.specs.declared.vec.Vec.{Vec}
 use Rattle.std.proofs.lemmas.Bool.{false≢true, true≢false, cases_Bool, cases_lt, cases_eq, eqb-true, eq-eqb, ne_eqb}
 use Rattle.std.proofs.lemmas.List.Elements.{All-from_recursion}
-use Rattle.fts_aux.specs.Node.{Docs, byte_order}
+use Rattle.fts_ilist.specs.Node.{Docs, byte_order}
 use Rattle.fts_aux.specs.Table.{items_of, filled, begins, front, nodes_at, IsListing}
 use Rattle.fts_aux.proofs.Ordered.{AllBehind, Ascends, sorted_to, ascends-filter, ascends-filled, all_filled, nodes_at-filled, items-filter}
 

@@ -10,7 +10,7 @@ use Rattle.std.specs.BTreeMap.{get, is_at}
 use Rattle.std.specs.declared.vec.Vec.{Vec}
 use Rattle.std.specs.Vec.{vec_len, vec_capacity}
 use Rattle.fts_aux.specs.declared.table.Table.{Table}
-use Rattle.fts_aux.specs.Node.{Docs, byte_order}
+use Rattle.fts_ilist.specs.Node.{Docs, byte_order}
 
 abbrev pub items_of : {Z : Type 0} → Option (Vec Docs Z) → List Docs
 items_of None = []

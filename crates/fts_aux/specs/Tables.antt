@@ -4,12 +4,11 @@ use Rattle.std.specs.List.{All}
 use Rattle.std.specs.Map.{lookup}
 use Rattle.std.specs.BTreeMap.{is_at}
 use Rattle.std.specs.Vec.{vec_len, vec_capacity}
-use Rattle.std.specs.Ordering.{is_gt}
-use Rattle.std.specs.Prelude.{false, Option, Some, None}
+use Rattle.std.specs.Prelude.{Option, Some, None}
 use Rattle.fts_types.specs.Table.{table_of}
 use Rattle.fts_aux.specs.declared.table.Table.{Table}
-use Rattle.fts_aux.specs.Node.{Docs, NodesAfter, last_of, byte_order}
-use Rattle.fts_aux.specs.Table.{nodes_in, room_in}
+use Rattle.fts_ilist.specs.Node.{Docs, NodesAfter, last_of, byte_order}
+use Rattle.fts_aux.specs.Table.{nodes_in, room_in, IsNext, IsLast}
 
 -- what a table holds for a word: its nodes, and how many more it can take without memory
 abbrev pub Entry : Type 0
@@ -74,12 +73,12 @@ HasRoom held batch = All (λ g. length g.1 ≤ room held g.0) batch
 abbrev pub ComesAfter : Held → List (List ℕ × List Docs) → Type 0
 ComesAfter held batch = All (λ g. NodesAfter (last_of 0 (nodes held g.0)) g.1) batch
 
--- a word is no greater than another, where there is one
-abbrev pub AtMost : Option (List ℕ) → List ℕ → Type 0
-AtMost None other = ⊥
-AtMost (Some word) other = is_gt (byte_order word other) ≡ false
+-- the least word behind this one in the first of some tables that has one
+abbrev pub IsNextIn : List Table → List ℕ → List ℕ → Type 0
+IsNextIn [] word next = ⊥
+IsNextIn (t ∷ ts) word next = IsNext (nodes_in t) word next ⊎ (IsLast (nodes_in t) word × IsNextIn ts word next)
 
--- one of the tables has nodes of the word
-abbrev pub IsSomewhere : List Table → List ℕ → Type 0
-IsSomewhere [] word = ⊥
-IsSomewhere (t ∷ ts) word = (nodes_in t word ≢ []) ⊎ IsSomewhere ts word
+-- no word behind this one is in some tables
+abbrev pub IsLastIn : List Table → List ℕ → Type 0
+IsLastIn [] word = Unit {0}
+IsLastIn (t ∷ ts) word = IsLast (nodes_in t) word × IsLastIn ts word

@@ -1,17 +1,20 @@
 //! One of the six tables.
-ghost use Rattle.std.specs.Prelude.{◌≡◌, ◌≢◌, ℕ, ◌≤◌, ◌++◌, [], map, List, length, ◌+◌, OnOk, IfOk, IfSome, IfNone, slice_get};
+ghost use Rattle.std.specs.Prelude.{◌≡◌, ◌≢◌, ℕ, ◌≤◌, ◌++◌, [], map, List, length, ◌+◌, OnOk, IfOk};
+ghost use Rattle.std.specs.Prelude.{IfSome, IfNone, slice_get};
 ghost use Rattle.std.specs.Option.{option_map};
 ghost use Rattle.std.specs.Vec.{vec_len, vec_capacity};
-ghost use Rattle.fts_aux.specs.Table.{nodes_in, room_in, filled, filled_as, front, IsListing, IsNext, IsLast};
+ghost use Rattle.fts_aux.specs.Table.{nodes_in, room_in, filled, filled_as, front, IsListing};
+ghost use Rattle.fts_aux.specs.Table.{IsNext, IsLast};
 
-use crate::node::Node;
+use fts_ilist::Node;
 use fts_types::Word;
 use std::alloc::{AllocError, Global};
 use std::collections::BTreeMap;
 use std::collections::btree_map::Range;
 use std::ops::Bound;
 
-/// Words with their nodes, in byte order. A word without nodes is there for its room alone, and counts as absent.
+/// Words with their nodes, in byte order. A word without nodes is there for its room alone, and
+/// counts as absent.
 #[derive(Drop)]
 pub struct Table {
     alloc: Global,
@@ -37,7 +40,8 @@ fn push_filled<'a>(
     word: &'a Word,
     nodes: &'a [Node],
 ) -> Result<(), AllocError>
-    ensures { OnOk result (map (λ p. (p.0.now, p.1.now)) found.new.items ≡ map (λ p. (p.0.now, p.1.now)) found.old.items ++ filled_as word.now nodes.now []) }
+    ensures { OnOk result (map (λ p. (p.0.now, p.1.now)) found.new.items
+        ≡ map (λ p. (p.0.now, p.1.now)) found.old.items ++ filled_as word.now nodes.now []) }
 {
     if nodes.is_empty() {
         return Ok(());
@@ -52,7 +56,8 @@ fn filled_with_prefix<'a>(
     rest: Range<'a, Word, Vec<Node>>,
     prefix: &[u8],
 ) -> Result<Vec<(&'a Word, &'a [Node])>, AllocError>
-    ensures { IfOk result (λ found. map (λ p. (p.0.now, p.1.now)) found.items ≡ filled (front prefix.now rest.entry)) }
+    ensures { IfOk result (λ found. map (λ p. (p.0.now, p.1.now)) found.items
+        ≡ filled (front prefix.now rest.entry)) }
 {
     let mut rest = rest;
     let mut found = Vec::new(alloc);
@@ -119,7 +124,8 @@ impl Table {
         alloc: Global,
         prefix: &Word,
     ) -> Result<Vec<(&Word, &[Node])>, AllocError>
-        ensures { IfOk result (λ found. IsListing (nodes_in self.now) prefix.now (map (λ p. (p.0.now, p.1.now)) found.items)) }
+        ensures { IfOk result (λ found. IsListing (nodes_in self.now) prefix.now
+            (map (λ p. (p.0.now, p.1.now)) found.items)) }
     {
         let rest = self
             .words
@@ -127,7 +133,8 @@ impl Table {
         filled_with_prefix(alloc, rest, prefix.as_bytes())
     }
 
-    /// Makes room for so many more nodes of a word. The nodes stay as they are, with or without memory for it.
+    /// Makes room for so many more nodes of a word. The nodes stay as they are, with or without
+    /// memory for it.
     pub fn reserve(&mut self, word: &Word, more: usize) -> Result<(), AllocError>
         ensures nodes { (other : List ℕ) → nodes_in self.new other ≡ nodes_in self.old other }
         ensures room { (other : List ℕ) → room_in self.old other ≤ room_in self.new other }
@@ -148,20 +155,25 @@ impl Table {
     pub fn append(&mut self, word: &Word, nodes: Vec<Node>)
         requires { length nodes.items ≤ room_in self.old word.now }
         ensures nodes { nodes_in self.new word.now ≡ nodes_in self.old word.now ++ nodes.items }
-        ensures others { (other : List ℕ) → other ≢ word.now → nodes_in self.new other ≡ nodes_in self.old other }
-        ensures room { (other : List ℕ) → other ≢ word.now → room_in self.new other ≡ room_in self.old other }
+        ensures others { (other : List ℕ) → other ≢ word.now
+            → nodes_in self.new other ≡ nodes_in self.old other }
+        ensures room { (other : List ℕ) → other ≢ word.now
+            → room_in self.new other ≡ room_in self.old other }
     {
         if let Some(held) = self.words.get_mut(word) {
             append(held, nodes);
         }
     }
 
-    /// Replaces the nodes of a word that has some. Without nodes, the word is taken out. It takes no memory.
+    /// Replaces the nodes of a word that has some. Without nodes, the word is taken out. It takes
+    /// no memory.
     pub fn replace(&mut self, word: &Word, reworked: Vec<Node>)
         requires { nodes_in self.old word.now ≢ [] }
         ensures nodes { nodes_in self.new word.now ≡ reworked.items }
-        ensures others { (other : List ℕ) → other ≢ word.now → nodes_in self.new other ≡ nodes_in self.old other }
-        ensures room { (other : List ℕ) → other ≢ word.now → room_in self.new other ≡ room_in self.old other }
+        ensures others { (other : List ℕ) → other ≢ word.now
+            → nodes_in self.new other ≡ nodes_in self.old other }
+        ensures room { (other : List ℕ) → other ≢ word.now
+            → room_in self.new other ≡ room_in self.old other }
     {
         if reworked.is_empty() {
             self.words.remove(word);

@@ -5,17 +5,29 @@ mod checks;
 
 use super::*;
 use checks::{are_after, ascend, come_after};
-use fts_ilist::Ilist;
+use fts_ilist::{Ilist, Node, Nodes, WordNodes};
 use fts_types::Word;
 use std::alloc::Global;
 use std::collections::BTreeMap;
 use std::process::Abort;
 use std::test::Fail;
 
-// Words of all six tables, in byte order.
-const WORDS: [&[u8]; 12] = [
-    b"9ab", b"_x", b"apple", b"apply", b"fig", b"jay", b"kiwi", b"owl", b"pear", b"tea", b"urn",
+// Words of all six tables, in byte order. The last one stands in the first table, behind all
+// others.
+const WORDS: [&[u8]; 13] = [
+    b"9ab",
+    b"_x",
+    b"apple",
+    b"apply",
+    b"fig",
+    b"jay",
+    b"kiwi",
+    b"owl",
+    b"pear",
+    b"tea",
+    b"urn",
     b"yak",
+    b"\xc3\xa9t",
 ];
 
 // Words that are reworked, with the first ids of their new nodes.
@@ -38,19 +50,6 @@ fn node(alloc: Global, id: u64) -> Result<Node, Fail>
     let mut list = Ilist::new(alloc);
     list.push(id, &[7])?;
     Ok(Node::new(list))
-}
-
-// A node's list, its first and last id and its number of documents.
-#[test]
-fn a_node_agrees_with_its_list(rt: HostRuntime) -> Result<(), Fail> {
-    let alloc = rt.alloc();
-    let mut list = Ilist::new(alloc);
-    list.push(300, &[7])?;
-    list.push(306, &[7])?;
-    let node = Node::new(list);
-    assert_eq!(rt; (node.first(), node.last(), node.count()), (300, 306, 2));
-    assert_eq!(rt; node.list().docs().count(), 2);
-    Ok(())
 }
 
 // Room for a word doesn't make it a word of the tables.
@@ -178,7 +177,7 @@ fn a_batch_lies_behind_what_is_held(rt: HostRuntime) -> Result<(), Fail> {
     let alloc = rt.alloc();
     let mut plain = BTreeMap::new(alloc);
     let tables = filled(&rt, alloc, &mut plain)?;
-    assert_eq!(rt; plain.len(), 12);
+    assert_eq!(rt; plain.len(), 13);
     holds(&rt, alloc, &tables, &plain)
 }
 
@@ -195,7 +194,8 @@ fn a_prefix_finds_the_words_that_have_nodes(rt: HostRuntime) -> Result<(), Fail>
     Ok(())
 }
 
-// Replaces the nodes of a word by those that begin with these ids, which are noted in place of the old ones.
+// Replaces the nodes of a word by those that begin with these ids, which are noted in place of the
+// old ones.
 fn rework(
     rt: &impl Abort,
     alloc: Global,
@@ -226,6 +226,6 @@ fn a_reworked_word_has_its_new_nodes_alone(rt: HostRuntime) -> Result<(), Fail> 
     for (word, ids) in REWORKED {
         rework(&rt, alloc, &mut tables, &mut plain, word, ids)?;
     }
-    assert_eq!(rt; plain.len(), 10);
+    assert_eq!(rt; plain.len(), 11);
     holds(&rt, alloc, &tables, &plain)
 }

@@ -1,7 +1,9 @@
 //! One document's words.
-ghost use Rattle.std.specs.Prelude.{◌≡◌, ◌+◌, ◌*◌, ◌^◌, ◌<◌, ◌≤◌, ◌==◌, ◌++◌, [], ◌∷◌, length, map, slice_get, Some, IsTrue, ◌↔◌, OnOk, OnErr};
+ghost use Rattle.std.specs.Prelude.{◌≡◌, ◌+◌, ◌*◌, ◌^◌, ◌<◌, ◌≤◌, ◌==◌, ◌++◌, [], ◌∷◌, length, map};
+ghost use Rattle.std.specs.Prelude.{slice_get, Some, IsTrue, ◌↔◌, OnOk, OnErr};
 ghost use Rattle.fts_ilist.specs.Spelling.{ArePositions};
-ghost use Rattle.fts_cache.specs.Document.{Document, WordPositions, document_size, EndsBefore, CanPush, IsDocument};
+ghost use Rattle.fts_cache.specs.Document.{Document, WordPositions, document_size, EndsBefore};
+ghost use Rattle.fts_cache.specs.Document.{CanPush, IsDocument};
 
 use fts_ilist::LAST_POSITION;
 use std::alloc::{AllocError, Global};
@@ -14,7 +16,8 @@ struct WordPlaces {
     positions: Vec<u32>,
 }
 
-/// One document's words, in the order of their bytes, each with its positions, and the document's size in the cache.
+/// One document's words, in the order of their bytes, each with its positions, and the document's
+/// size in the cache.
 #[derive(Debug, Drop)]
 pub struct DocWords {
     id: u64,
@@ -29,14 +32,25 @@ impl Model for DocWords {
 
     ghost Value = { Document };
 
-    ghost view = { λ d. record { id = d.id; words = map (λ w. record { word = w.word.items; positions = w.positions.items }) d.words.items } };
+    ghost view = { λ d. record {
+      id = d.id;
+      words = map
+          (λ w. record { word = w.word.items; positions = w.positions.items }) d.words.items;
+    } };
 
-    ghost invariant = { λ d. (let shown : Document = record { id = d.id; words = map (λ w. record { word = w.word.items; positions = w.positions.items }) d.words.items } in IsDocument shown × (d.size ≡ document_size shown)) };
+    ghost invariant = { λ d. (let shown : Document = record {
+      id = d.id;
+      words = map (λ w. record
+          { word = w.word.items; positions = w.positions.items }) d.words.items;
+    } in IsDocument shown
+        × (d.size ≡ document_size shown)) };
 }
 
 /// Whether a word comes behind the last of these, if any.
 fn is_behind(words: &[WordPlaces], word: &[u8]) -> bool
-    ensures { IsTrue result ↔ EndsBefore (map (λ w. record { word = w.word.items; positions = w.positions.items }) words.now) word.now }
+    ensures { IsTrue result ↔ EndsBefore
+        (map (λ w. record { word = w.word.items; positions = w.positions.items }) words.now)
+        word.now }
 {
     match words.last() {
         Some(places) => places.word.as_slice().cmp(&word).is_lt(),
@@ -115,7 +129,8 @@ impl DocWords {
     /// A word, by its place from 0, and its positions.
     pub fn word_at(&self, place: usize) -> (&[u8], &[u32])
         requires { place < length self.now.words }
-        ensures value { slice_get self.now.words place ≡ Some (record { word = result.0.now; positions = result.1.now }) }
+        ensures value { slice_get self.now.words place
+            ≡ Some (record { word = result.0.now; positions = result.1.now }) }
         ensures positions { ArePositions result.1.now }
         ensures few { length result.1.now ≤ 131072 }
     {
@@ -123,8 +138,9 @@ impl DocWords {
         (&places.word, &places.positions)
     }
 
-    /// Whether a word with these positions can be added behind the last: it comes behind the last word in the order of
-    /// bytes, its positions are at least one, ascending and at most 131,071, and the size stays below 2^32.
+    /// Whether a word with these positions can be added behind the last: it comes behind the last
+    /// word in the order of bytes, its positions are at least one, ascending and at most 131,071,
+    /// and the size stays below 2^32.
     pub fn can_push(&self, word: &[u8], positions: &[u32]) -> bool
         ensures { IsTrue result ↔ CanPush self.now word.now positions.now }
     {
@@ -140,7 +156,11 @@ impl DocWords {
     /// Adds a word behind the last. Where there is no memory for it, the document stays as it was.
     pub fn push(&mut self, word: Vec<u8>, positions: Vec<u32>) -> Result<(), AllocError>
         requires { CanPush self.old word.items positions.items }
-        ensures ok { OnOk result (self.new ≡ record self.old { words = self.old.words ++ record { word = word.items; positions = positions.items } ∷ [] }) }
+        ensures ok { OnOk result (self.new
+            ≡ record self.old {
+              words = self.old.words ++ record
+                  { word = word.items; positions = positions.items } ∷ [];
+            }) }
         ensures err { OnErr result (self.new ≡ self.old) }
     {
         let size = positions.len() as u32 * (word.len() as u32 + 8);

@@ -1,4 +1,5 @@
-//! The words of documents that are not yet flushed to the tables of the index (InnoDB: the full-text index cache).
+//! The words of documents that are not yet flushed to the tables of the index (InnoDB: the
+//! full-text index cache).
 #![tactic(auto)]
 
 mod cache;

@@ -72,7 +72,8 @@ fn filled(rt: &impl Abort, alloc: Global) -> Result<Cache, Fail> {
     Ok(cache)
 }
 
-// Words with positions that can't be put behind `apple`: one that stands there, one before it, and faulty positions.
+// Words with positions that can't be put behind `apple`: one that stands there, one before it, and
+// faulty positions.
 const REFUSED: [(&[u8], &[u32]); 5] = [
     (b"apple", &[0]),
     (b"ape", &[0]),
@@ -146,6 +147,24 @@ fn a_prefix_finds_the_words_that_are_held(rt: HostRuntime) -> Result<(), Fail> {
     begin_with(&rt, &cache, b"appl", &[b"apple", b"apples", b"apply"])?;
     cache.drop_until(4);
     begin_with(&rt, &cache, b"", &[b"apply", b"pear"])?;
+    Ok(())
+}
+
+// The words of the documents up to this one are these.
+fn leave(rt: &impl Abort, cache: &Cache, doc: u64, expected: &[&[u8]]) -> Result<(), Fail> {
+    assert_eq!(rt; cache.words_until(doc)?.as_slice(), expected);
+    Ok(())
+}
+
+#[test]
+fn the_words_of_the_first_documents_are_told(rt: HostRuntime) -> Result<(), Fail> {
+    let mut cache = filled(&rt, rt.alloc())?;
+    leave(&rt, &cache, 2, &[])?;
+    leave(&rt, &cache, 3, &[b"apple", b"pear"])?;
+    leave(&rt, &cache, 4, &[b"apple", b"apples", b"pear"])?;
+    cache.drop_until(4);
+    leave(&rt, &cache, 899, &[])?;
+    leave(&rt, &cache, 900, &[b"apply", b"pear"])?;
     Ok(())
 }
 

@@ -1,10 +1,14 @@
-use Rattle.std.specs.Prelude.{ℕ, ◌+◌, ◌==◌, Bool, not, nat_lt, if◌then◌else◌, List, [], ◌∷◌, ◌++◌, length, filter, fold, sum_by, Option, Some, None, Result, Ok, Err, IsOk}
+use Rattle.std.specs.Prelude.{ℕ, ◌+◌, ◌==◌, Bool, not, nat_lt, if◌then◌else◌, List, [], ◌∷◌, ◌++◌, length, filter, fold}
+use Rattle.std.specs.Prelude.{sum_by, Option, Some, None, Result, Ok, Err, IsOk}
 use Rattle.std.specs.List.{list_any}
 use Rattle.std.specs.Result.{result_unwrap_or}
 use Rattle.fts_types.specs.declared.limits.Limits.{Limits}
 use Rattle.fts_types.specs.Limits.{standard_limits}
 use Rattle.fts_commits.specs.declared.change.Change.{Change}
 use Rattle.fts_commits.specs.declared.change.Change.TheVariants.{Insert, Update, Delete}
+use Rattle.fts_commits.specs.declared.refusal.Refusal.{Refusal}
+use Rattle.fts_commits.specs.declared.refusal.Refusal.TheVariants.{DuplicateKey, DocIdOrder, DocIdGap, IdsFull}
+use Rattle.fts_commits.specs.declared.refusal.Refusal.TheVariants.{TextTooLong, RowsFull}
 
 -- a commit: the changes of one transaction, in their order
 abbrev pub Commit : Type 0
@@ -20,15 +24,6 @@ pub record Row : Type 0 where
 pub record Rows : Type 0 where
   pub list : List Row
   pub largest : ℕ
-
--- why a commit is refused; its changes count from 1
-pub data Refused : Type 0 where
-  duplicate_key : ℕ → ℕ → Refused
-  doc_id_order : ℕ → ℕ → Refused
-  doc_id_gap : ℕ → ℕ → Refused
-  ids_full : ℕ → Refused
-  text_too_long : ℕ → ℕ → Refused
-  rows_full : ℕ → Refused
 
 -- a database without rows
 abbrev pub no_rows : Rows
@@ -53,27 +48,27 @@ with_row key doc texts rows =
 
 -- the id of a new document. One that is given must be above the largest that was used, and at most 65,535 above it;
 -- else it is the next after the largest. No id is above the limit
-abbrev pub doc_within : ℕ → ℕ → ℕ → Result ℕ Refused
-doc_within limit largest doc = if nat_lt limit doc then Err (ids_full largest) else Ok doc
+abbrev pub doc_within : ℕ → ℕ → ℕ → Result ℕ Refusal
+doc_within limit largest doc = if nat_lt limit doc then Err (IdsFull largest) else Ok doc
 
-abbrev pub doc_for : ℕ → ℕ → Option ℕ → Result ℕ Refused
+abbrev pub doc_for : ℕ → ℕ → Option ℕ → Result ℕ Refusal
 doc_for limit largest None = doc_within limit largest (largest + 1)
 doc_for limit largest (Some given) =
     if nat_lt largest given
-    then (if nat_lt (largest + 65535) given then Err (doc_id_gap given largest) else doc_within limit largest given)
-    else Err (doc_id_order given largest)
+    then (if nat_lt (largest + 65535) given then Err (DocIdGap given largest) else doc_within limit largest given)
+    else Err (DocIdOrder given largest)
 
 -- the rows with one more, unless its texts are longer than 65,535 bytes together
-abbrev pub with_texts : ℕ → ℕ → ℕ → List (List ℕ) → Rows → Result Rows Refused
+abbrev pub with_texts : ℕ → ℕ → ℕ → List (List ℕ) → Rows → Result Rows Refusal
 with_texts number key doc texts rows =
     if nat_lt 65535 (sum_by length texts)
-    then Err (text_too_long number (sum_by length texts))
+    then Err (TextTooLong number (sum_by length texts))
     else Ok (with_row key doc texts rows)
 
 -- the rows with one more, or without an id for it
-abbrev pub with_document : ℕ → ℕ → Result ℕ Refused → List (List ℕ) → Rows → Result Rows Refused
+abbrev pub with_document : ℕ → ℕ → Result ℕ Refusal → List (List ℕ) → Rows → Result Rows Refusal
 with_document number key (Ok doc) texts rows = with_texts number key doc texts rows
-with_document number key (Err refused) texts rows = Err refused
+with_document number key (Err why) texts rows = Err why
 
 -- the texts of a row whose columns are set, where they are; the others are kept
 abbrev pub updated : List (Option (List ℕ)) → List (List ℕ) → List (List ℕ)
@@ -89,41 +84,41 @@ set_bytes (Some text ∷ news) = length text + set_bytes news
 set_bytes (None ∷ news) = set_bytes news
 
 -- an UPDATE gives its row a new id, and puts it behind all others; without a row it changes nothing
-abbrev pub after_update : ℕ → ℕ → ℕ → List (Option (List ℕ)) → List Row → Rows → Result Rows Refused
+abbrev pub after_update : ℕ → ℕ → ℕ → List (Option (List ℕ)) → List Row → Rows → Result Rows Refusal
 after_update limit number key news [] rows =
-    if nat_lt 65535 (set_bytes news) then Err (text_too_long number (set_bytes news)) else Ok rows
+    if nat_lt 65535 (set_bytes news) then Err (TextTooLong number (set_bytes news)) else Ok rows
 after_update limit number key news (row ∷ others) rows =
     with_document number key (doc_for limit rows.largest None) (updated news row.texts)
     (record { list = without_key key rows.list; largest = rows.largest })
 
 -- one change of a commit, the change of this number
-abbrev pub after_change : ℕ → ℕ → Change → Rows → Result Rows Refused
+abbrev pub after_change : ℕ → ℕ → Change → Rows → Result Rows Refusal
 after_change limit number (Insert key doc texts) rows =
     if has_key key rows.list
-    then Err (duplicate_key number key)
+    then Err (DuplicateKey number key)
     else with_document number key (doc_for limit rows.largest doc) texts rows
 after_change limit number (Update key news) rows = after_update limit number key news (with_key key rows.list) rows
 after_change limit number (Delete key) rows = Ok (record { list = without_key key rows.list; largest = rows.largest })
 
 -- what follows on the rows that were left, unless these were refused
-abbrev pub on_rows : Result Rows Refused → (Rows → Result Rows Refused) → Result Rows Refused
+abbrev pub on_rows : Result Rows Refusal → (Rows → Result Rows Refusal) → Result Rows Refusal
 on_rows (Ok rows) follows = follows rows
-on_rows (Err refused) follows = Err refused
+on_rows (Err why) follows = Err why
 
 -- the changes from one number on, each on the rows that the earlier ones left: the first that is refused refuses all
-abbrev pub after_changes : ℕ → ℕ → List Change → Rows → Result Rows Refused
+abbrev pub after_changes : ℕ → ℕ → List Change → Rows → Result Rows Refusal
 after_changes limit number [] rows = Ok rows
 after_changes limit number (change ∷ changes) rows =
     on_rows (after_change limit number change rows) (after_changes limit (number + 1) changes)
 
 -- not more rows than the limit
-abbrev pub within_rows : ℕ → Result Rows Refused → Result Rows Refused
+abbrev pub within_rows : ℕ → Result Rows Refusal → Result Rows Refusal
 within_rows limit (Ok rows) =
-    if nat_lt limit (length rows.list) then Err (rows_full (length rows.list)) else Ok rows
-within_rows limit (Err refused) = Err refused
+    if nat_lt limit (length rows.list) then Err (RowsFull (length rows.list)) else Ok rows
+within_rows limit (Err why) = Err why
 
 -- a commit gives new rows, or is refused
-abbrev pub after_commit : Limits → Commit → Rows → Result Rows Refused
+abbrev pub after_commit : Limits → Commit → Rows → Result Rows Refusal
 after_commit limits commit rows = within_rows limits.rows (after_changes limits.ids 1 commit rows)
 
 -- the rows after a commit; a refused one changes nothing

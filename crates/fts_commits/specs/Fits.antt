@@ -34,9 +34,14 @@ pub record IsCommit (columns : ℕ) (commit : List Change) : Type 0 where
   pub fit : All (FitsColumns columns) commit
   pub plain : All IsPlainInsert commit
 
+-- a document id that is given has eight bytes
+abbrev pub FitsId : Option ℕ → Type 0
+FitsId (Some doc) = doc < 2 ^ 64
+FitsId None = Unit {0}
+
 -- the numbers of a change are those of eight bytes
 abbrev pub FitsNumbers : Change → Type 0
-FitsNumbers (Insert key doc texts) = key < 2 ^ 64
+FitsNumbers (Insert key doc texts) = (key < 2 ^ 64) × FitsId doc
 FitsNumbers (Update key news) = key < 2 ^ 64
 FitsNumbers (Delete key) = key < 2 ^ 64
 

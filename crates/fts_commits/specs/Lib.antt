@@ -1,4 +1,5 @@
 pub mod Text
+pub mod Refusal
 pub mod Commit
 pub mod NewText
 pub mod Fits

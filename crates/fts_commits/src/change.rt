@@ -1,4 +1,5 @@
-ghost use Rattle.std.specs.Prelude.{◌≡◌, ◌<◌, ℕ, List, Option, Some, None, MatchOption, length, map, slice_index_or};
+ghost use Rattle.std.specs.Prelude.{◌≡◌, ◌<◌, ℕ, List, Option, Some, None, MatchOption, length};
+ghost use Rattle.std.specs.Prelude.{map, slice_index_or};
 ghost use Rattle.fts_commits.specs.NewText.{new_text};
 
 use fts_types::{DocId, Key, RowTexts};
@@ -7,13 +8,15 @@ use std::marker::Model;
 /// One change of a commit.
 #[derive(Debug, Drop)]
 pub enum Change {
-    /// A new row with this key, this document id (or the next one, where none is given) and a text for each column.
+    /// A new row with this key, this document id (or the next one, where none is given) and a text
+    /// for each column.
     Insert {
         key: Key,
         doc: Option<DocId>,
         texts: RowTexts,
     },
-    /// New texts for some columns of the row with this key, if there is one. The row gets a new document id.
+    /// New texts for some columns of the row with this key, if there is one. The row gets a new
+    /// document id.
     Update {
         key: Key,
         texts: NewTexts,
@@ -24,7 +27,8 @@ pub enum Change {
     },
 }
 
-/// For each column of a row a new text, or none where the old one is kept. Contracts see the list of them.
+/// For each column of a row a new text, or none where the old one is kept. Contracts see the list
+/// of them.
 #[derive(Debug, Drop)]
 pub struct NewTexts {
     texts: Vec<Option<Vec<u8>>>,
@@ -55,7 +59,8 @@ impl NewTexts {
     /// The new text of a column by its place, from 0, or none where the old one is kept.
     pub fn text(&self, place: usize) -> Option<&[u8]>
         requires { place < length self.now }
-        ensures { MatchOption result (slice_index_or self.now place None ≡ None) (λ text. slice_index_or self.now place None ≡ Some text.now) }
+        ensures { MatchOption result (slice_index_or self.now place None ≡ None)
+            (λ text. slice_index_or self.now place None ≡ Some text.now) }
     {
         match &self.texts[place] {
             None => None,

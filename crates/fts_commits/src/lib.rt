@@ -1,10 +1,15 @@
-//! Rows and commits, and what a search finds: the definitions that each layer above is proved against.
+//! Rows and commits, and what a search finds: the definitions that each layer above is proved
+//! against.
 #![tactic(auto)]
 
 mod change;
 mod changes;
+mod laws;
+mod refusal;
 mod text;
 
 pub use change::{Change, NewTexts};
 pub use changes::Changes;
+pub use laws::ids_ascend;
+pub use refusal::Refusal;
 pub use text::{Text, is_text_byte};

@@ -13,6 +13,10 @@ pub record OnFile (file : ℕ) (step : List ℕ → List ℕ → Type 0) (old ne
 abbrev pub Holds : ℕ → List ℕ → List ℕ → List ℕ → Type 0
 Holds at bytes old new = new ≡ take at old ++ bytes ++ drop (at + length bytes) old
 
+-- the file is cut to n bytes
+abbrev pub Cut : ℕ → List ℕ → List ℕ → Type 0
+Cut n old new = new ≡ take n old
+
 -- a write of n bytes at a place that was cut short: its range may hold any bytes, the rest stays,
 -- and the length lies between the old one and the one that the write wanted
 pub record Torn (at n : ℕ) (old new : List ℕ) : Type 0 where

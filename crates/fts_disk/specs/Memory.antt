@@ -1,5 +1,5 @@
-use Rattle.std.specs.Prelude.{◌≡◌, ◌+◌, ◌-◌, ◌^◌, ◌⊎◌, ℕ, List, length, min, slice_index, slice_set, Contains, Bool, true, false, Result, IsErr, OnOk, OnErr}
-use Rattle.fts_faults.specs.Count.{Rose}
+use Rattle.std.specs.Prelude.{◌≡◌, ◌+◌, ◌-◌, ◌^◌, ◌⊎◌, ℕ, List, length, min, slice_index, slice_set, Contains, Bool}
+use Rattle.std.specs.Prelude.{true, false, Result, IsErr, OnOk, OnErr}
 use Rattle.fts_disk.specs.Device.{Files}
 use Rattle.fts_disk.specs.Contents.{contents}
 use Rattle.fts_disk.specs.Crash.{Images}
@@ -90,20 +90,35 @@ mem_faults disk = disk.counters.faults
 abbrev pub mem_refused : MemDisk → ℕ
 mem_refused disk = disk.counters.refused
 
--- a call of a kind fails exactly where the list names it or no memory is found for it; one that succeeds is no
--- fault; the list stays, and the call is counted
+-- one more, or the last value of a u64
+abbrev pub next_count : ℕ → ℕ
+next_count count = min (count + 1) (2 ^ 64 - 1)
+
+-- a call of a kind fails exactly where the list names it or no memory is found for it, which `refused` counts; one that
+-- fails is one more fault, and one that succeeds none; the list stays, and the call is counted
 pub record AnswersAsListed {T E : Type 0} (kind : Kind) (old new : MemDisk) (result : Result T E) : Type 0 where
   pub named : IsNamed kind (mem_fails old) (mem_made old) → IsErr result
-  pub listed : IsErr result → IsNamed kind (mem_fails old) (mem_made old) ⊎ Rose (mem_refused old) (mem_refused new)
+  pub listed : OnErr result (
+      IsNamed kind (mem_fails old) (mem_made old) ⊎ (mem_refused new ≡ next_count (mem_refused old)))
+  pub no_refusal : OnOk result (mem_refused new ≡ mem_refused old)
   pub no_fault : OnOk result (mem_faults new ≡ mem_faults old)
+  pub fault : OnErr result (mem_faults new ≡ next_count (mem_faults old))
   pub fails : mem_fails new ≡ mem_fails old
   pub made : mem_made new ≡ one_more kind (mem_made old)
 
--- a call that answers Ok stands at the end of the record, as done; one that fails stands there as not done, or no memory
--- was found for it and the record has nothing more; what the files held at first stays
-pub record IsNoted {T E : Type 0} (IsCall : Bool → Call → Type 0) (old new : MemDisk) (result : Result T E) : Type 0 where
-  pub done : OnOk result (Entered (IsCall true) (mem_calls old) (mem_calls new))
-  pub failed : OnErr result (
-      (Entered (IsCall false) (mem_calls old) (mem_calls new) × (mem_refused new ≡ mem_refused old))
-      ⊎ ((mem_calls new ≡ mem_calls old) × Rose (mem_refused old) (mem_refused new)))
-  pub first : mem_first new ≡ mem_first old
+-- a call that answers Ok stands at the end of the record, as done; one that fails stands there as not done, or no
+-- memory was found for it and the record has nothing more; what the files held at first stays
+pub record IsNoted {T E : Type 0} (IsCall : Bool → Call → Type 0) (old new : MemDisk) (result : Result T E) : Type 0
+  where
+    pub done : OnOk result (Entered (IsCall true) (mem_calls old) (mem_calls new))
+    pub failed : OnErr result (
+        (Entered (IsCall false) (mem_calls old) (mem_calls new) × (mem_refused new ≡ mem_refused old))
+        ⊎ ((mem_calls new ≡ mem_calls old) × (mem_refused new ≡ next_count (mem_refused old))))
+    pub first : mem_first new ≡ mem_first old
+
+-- a call of a kind answers as the list says, and is noted
+pub record Answers {T E : Type 0} (kind : Kind) (IsCall : Bool → Call → Type 0) (old new : MemDisk)
+    (result : Result T E)
+    : Type 0 where
+  pub listed : AnswersAsListed kind old new result
+  pub noted : IsNoted IsCall old new result

@@ -1,5 +1,5 @@
 -- What a crash at any moment of a run of calls leaves.
-use Rattle.std.specs.Prelude.{◌⊎◌, ℕ, ◌≤◌}
+use Rattle.std.specs.Prelude.{◌≡◌, ◌⊎◌, ℕ, ◌≤◌}
 use Rattle.fts_disk.specs.Device.{Files}
 use Rattle.fts_disk.specs.Crash.{Images, Within}
 use Rattle.fts_disk.specs.declared.disk.Disk.{Ghosts}
@@ -15,3 +15,9 @@ pub record LeavesOnly {D : Type 0} (disk : Ghosts D) (old new : D) (P : Images) 
 pub record LeavesAsBefore {D : Type 0} (disk : Ghosts D) (old new : D) : Type 0 where
   pub within : Within (disk.images old) (disk.images new)
   pub any_moment : LeavesOnly disk old new (disk.images old)
+
+-- calls that only look: the device reads as before, and a crash during them or after them leaves what it could leave
+-- before
+pub record Looks {D : Type 0} (disk : Ghosts D) (old new : D) : Type 0 where
+  pub seen : disk.seen new ≡ disk.seen old
+  pub crash : LeavesAsBefore disk old new

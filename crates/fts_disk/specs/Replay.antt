@@ -1,5 +1,6 @@
 -- What a record of calls makes of the files of a device, and what a crash leaves of them.
-use Rattle.std.specs.Prelude.{◌≡◌, ◌⊎◌, ℕ, ◌+◌, ◌<◌, ◌≤◌, Bool, Vec, List, [], ◌∷◌, ◌++◌, length, take, drop, true, false, if◌then◌else◌, ◌==◌}
+use Rattle.std.specs.Prelude.{◌≡◌, ◌⊎◌, ℕ, ◌+◌, ◌<◌, ◌≤◌, Bool, Vec, List, [], ◌∷◌, ◌++◌, length, take, drop, true}
+use Rattle.std.specs.Prelude.{false, if◌then◌else◌, ◌==◌}
 use Rattle.std.specs.declared.alloc.Global.{Global}
 use Rattle.fts_disk.specs.Device.{Files, OnFile, Torn, Shortened}
 use Rattle.fts_disk.specs.Crash.{Images}

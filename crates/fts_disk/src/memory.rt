@@ -1,8 +1,10 @@
-ghost use Rattle.std.specs.Prelude.{◌≡◌, ◌⊎◌, ◌+◌, ◌^◌, ◌<◌, ◌≤◌, ◌↔◌, [], true, length, replicate, take, drop, IsTrue, IfOk, OnOk, OnErr, IsErr};
-ghost use Rattle.fts_disk.specs.Device.{Files, OnFile, Holds, Torn, Shortened};
+ghost use Rattle.std.specs.Prelude.{◌≡◌, ◌⊎◌, ◌+◌, ◌^◌, ◌<◌, ◌≤◌, ◌↔◌, [], true};
+ghost use Rattle.std.specs.Prelude.{length, replicate, take, drop, IsTrue, IfOk, OnOk, OnErr};
+ghost use Rattle.std.specs.Prelude.{IsErr};
+ghost use Rattle.fts_disk.specs.Device.{Files, OnFile, Holds, Cut, Torn, Shortened};
 ghost use Rattle.fts_disk.specs.Crash.{Within, Follows, Only, Elapses};
 ghost use Rattle.fts_disk.specs.Contents.{contents};
-ghost use Rattle.fts_faults.specs.Count.{HasCause, Rose};
+ghost use Rattle.fts_faults.specs.Count.{HasCause};
 
 mod pick;
 mod recorded;
@@ -22,7 +24,8 @@ pub enum Kind {
     Sync,
 }
 
-/// A call that a `MemDisk` answered. `done` says that it answered `Ok`; else the list of failing calls named it.
+/// A call that a `MemDisk` answered. `done` says that it answered `Ok`; else the list of failing
+/// calls named it.
 #[derive(Debug, Drop, PartialEq, Eq)]
 pub enum Call {
     Len {
@@ -62,8 +65,9 @@ struct Counters {
 
 /// A device in memory, which tells its content and keeps a record of its calls.
 ///
-/// A list names the calls that fail, by their kind and by their number among the calls of this kind, from 1.
-/// Such a call is a fault, and changes nothing. So is a call for which the disk finds no memory.
+/// A list names the calls that fail, by their kind and by their number among the calls of this
+/// kind, from 1. Such a call is a fault, and changes nothing. So is a call for which the disk finds
+/// no memory.
 #[derive(Debug, Drop)]
 pub struct MemDisk {
     recorded: Recorded,
@@ -71,7 +75,7 @@ pub struct MemDisk {
 }
 
 impl Counters {
-    ghost use Rattle.fts_disk.specs.Memory.{IsNamed, one_more};
+    ghost use Rattle.fts_disk.specs.Memory.{IsNamed, next_count, one_more};
 
     // Counts a call, and returns whether the list names it.
     fn is_named(&mut self, kind: Kind) -> bool
@@ -90,10 +94,10 @@ impl Counters {
     // Answers a call: it failed if it was named, or if it found no memory.
     fn settle(&mut self, named: bool, outcome: Result<(), AllocError>) -> Result<(), Failed>
         ensures failed { IsErr result ↔ (IsTrue named ⊎ IsErr outcome) }
-        ensures counted { IsErr result → Rose self.old.faults self.new.faults }
         ensures kept { OnOk result (self.new ≡ self.old) }
-        ensures never_falls { self.old.faults ≤ self.new.faults }
-        ensures refused { OnErr outcome (Rose self.old.refused self.new.refused) }
+        ensures fault { OnErr result (self.new.faults ≡ next_count self.old.faults) }
+        ensures cause { HasCause self.old.faults self.new.faults result }
+        ensures refused { OnErr outcome (self.new.refused ≡ next_count self.old.refused) }
         ensures not_refused { OnOk outcome (self.new.refused ≡ self.old.refused) }
         ensures list { self.new.fails ≡ self.old.fails }
         ensures made { self.new.made ≡ self.old.made }
@@ -109,10 +113,12 @@ impl Counters {
 }
 
 impl MemDisk {
-    ghost use Rattle.fts_disk.specs.Memory.{mem_files, mem_first, mem_calls, mem_fails, mem_made, mem_faults, mem_refused, IsNamed, one_more};
+    ghost use Rattle.fts_disk.specs.Memory.{mem_files, mem_first, mem_calls, mem_fails, mem_made};
+    ghost use Rattle.fts_disk.specs.Memory.{mem_faults, mem_refused, IsNamed, one_more};
     ghost use Rattle.fts_disk.specs.Replay.{IsLeftIn};
 
-    /// A device with these files, from file 0 on, and with the calls that fail. It has no calls and no faults.
+    /// A device with these files, from file 0 on, and with the calls that fail. It has no calls and
+    /// no faults.
     pub fn from_files(
         alloc: Global,
         files: Vec<Vec<u8>>,
@@ -144,22 +150,26 @@ impl MemDisk {
         self.recorded.bytes(file)
     }
 
-    /// The calls that it answered, in their order. One for which it found no memory does not stand here.
+    /// The calls that it answered, in their order. One for which it found no memory does not stand
+    /// here.
     pub fn calls(&self) -> &[Call]
         ensures { result.now ≡ mem_calls self.now }
     {
         &self.recorded.calls
     }
 
-    /// The disk as a stop in the call of this place in the record may leave it, from 0, with no calls that fail.
+    /// The disk as a stop in the call of this place in the record may leave it, from 0, with no
+    /// calls that fail.
     ///
-    /// A number chooses. Each write and cut since the last sync that was done takes a digit of it to the base 16,
-    /// the lowest first. The digit's remainder by 4 says how much of the call was done: nothing, half of its bytes,
-    /// all but one, or all. Its quotient by 4 says what stands in the rest of a write's range: what stood there, zeros,
-    /// ones or `ff`. A stop in a sync leaves what was pending before it.
+    /// A number chooses. Each write and cut since the last sync that was done takes a digit of it
+    /// to the base 16, the lowest first. The digit's remainder by 4 says how much of the call was
+    /// done: nothing, half of its bytes, all but one, or all. Its quotient by 4 says what stands in
+    /// the rest of a write's range: what stood there, zeros, ones or `ff`. A stop in a sync leaves
+    /// what was pending before it.
     pub fn pick_image(&self, call: usize, choice: u64) -> Result<MemDisk, AllocError>
         requires { call < length (mem_calls self.now) }
-        ensures image { IfOk result (λ disk. IsLeftIn call (mem_calls self.now) (mem_first self.now) (mem_files disk)) }
+        ensures image { IfOk result
+            (λ disk. IsLeftIn call (mem_calls self.now) (mem_first self.now) (mem_files disk)) }
         ensures durable { IfOk result (λ disk. mem_first disk ≡ mem_files disk) }
         ensures calls { IfOk result (λ disk. mem_calls disk ≡ []) }
         ensures fails { IfOk result (λ disk. mem_fails disk ≡ []) }
@@ -180,7 +190,9 @@ impl MemDisk {
 }
 
 impl Disk for MemDisk {
-    ghost use Rattle.fts_disk.specs.Memory.{mem_files, mem_images, mem_moment, mem_left_since, mem_fails, mem_made, mem_faults, mem_refused, IsNamed, AnswersAsListed, IsNoted};
+    ghost use Rattle.fts_disk.specs.Memory.{mem_files, mem_images, mem_moment, mem_left_since};
+    ghost use Rattle.fts_disk.specs.Memory.{mem_fails, mem_made, mem_faults, mem_refused, IsNamed};
+    ghost use Rattle.fts_disk.specs.Memory.{Answers};
     ghost use Rattle.fts_disk.specs.Replay.{IsLenOf, IsReadOf, IsWriteOf, IsCutOf, IsSyncOf};
     ghost use Rattle.fts_disk.specs.ReplayLaws.{seen_stays, left_now, left_only_now};
 
@@ -202,11 +214,11 @@ impl Disk for MemDisk {
         ensures length { IfOk result (λ n. n ≡ length (mem_files self.old file)) }
         ensures seen { mem_files self.new ≡ mem_files self.old }
         ensures crash { Within (mem_images self.old) (mem_images self.new) }
-        ensures time { Elapses (mem_moment self.old) (mem_moment self.new) (mem_left_since self.old) (mem_left_since self.new) (mem_images self.new) }
+        ensures time { Elapses (mem_moment self.old) (mem_moment self.new)
+            (mem_left_since self.old) (mem_left_since self.new) (mem_images self.new) }
         ensures ticks { OnOk result (mem_moment self.old < mem_moment self.new) }
         ensures cause { HasCause (mem_faults self.old) (mem_faults self.new) result }
-        ensures listed { AnswersAsListed Kind.Len self.old self.new result }
-        ensures noted { IsNoted (IsLenOf file) self.old self.new result }
+        ensures answers { Answers Kind.Len (IsLenOf file) self.old self.new result }
     {
         let named = self.counters.is_named(Kind::Len);
         let noted = self.recorded.note(Call::Len { file, done: !named });
@@ -217,14 +229,16 @@ impl Disk for MemDisk {
     fn read_at(&mut self, file: u32, at: u64, buf: &mut [u8]) -> Result<(), Failed>
         requires file { file < 16 }
         requires within { at + length buf.old ≤ length (mem_files self.old file) }
-        ensures bytes { OnOk result (buf.new ≡ take (length buf.old) (drop at (mem_files self.old file))) }
+        ensures bytes { OnOk result
+            (buf.new ≡ take (length buf.old) (drop at (mem_files self.old file))) }
         ensures seen { mem_files self.new ≡ mem_files self.old }
         ensures crash { Within (mem_images self.old) (mem_images self.new) }
-        ensures time { Elapses (mem_moment self.old) (mem_moment self.new) (mem_left_since self.old) (mem_left_since self.new) (mem_images self.new) }
+        ensures time { Elapses (mem_moment self.old) (mem_moment self.new)
+            (mem_left_since self.old) (mem_left_since self.new) (mem_images self.new) }
         ensures ticks { OnOk result (mem_moment self.old < mem_moment self.new) }
         ensures cause { HasCause (mem_faults self.old) (mem_faults self.new) result }
-        ensures listed { AnswersAsListed Kind.Read self.old self.new result }
-        ensures noted { IsNoted (IsReadOf file at (length buf.old)) self.old self.new result }
+        ensures answers { Answers Kind.Read (IsReadOf file at (length buf.old)) self.old self.new
+            result }
     {
         let named = self.counters.is_named(Kind::Read);
         let noted = self.recorded.note(Call::Read {
@@ -242,15 +256,19 @@ impl Disk for MemDisk {
     fn write_at(&mut self, file: u32, at: u64, bytes: &[u8]) -> Result<(), Failed>
         requires file { file < 16 }
         requires within { at ≤ length (mem_files self.old file) }
-        ensures written { OnOk result (OnFile file (Holds at bytes.now) (mem_files self.old) (mem_files self.new)) }
-        ensures torn { OnErr result (OnFile file (Torn at (length bytes.now)) (mem_files self.old) (mem_files self.new)) }
+        ensures written { OnOk result
+            (OnFile file (Holds at bytes.now) (mem_files self.old) (mem_files self.new)) }
+        ensures torn { OnErr result
+            (OnFile file (Torn at (length bytes.now)) (mem_files self.old) (mem_files self.new)) }
         ensures kept { OnErr result (mem_files self.new ≡ mem_files self.old) }
-        ensures crash { Follows (OnFile file (Torn at (length bytes.now))) (mem_images self.old) (mem_images self.new) }
-        ensures time { Elapses (mem_moment self.old) (mem_moment self.new) (mem_left_since self.old) (mem_left_since self.new) (mem_images self.new) }
+        ensures crash { Follows (OnFile file (Torn at (length bytes.now)))
+            (mem_images self.old) (mem_images self.new) }
+        ensures time { Elapses (mem_moment self.old) (mem_moment self.new)
+            (mem_left_since self.old) (mem_left_since self.new) (mem_images self.new) }
         ensures ticks { OnOk result (mem_moment self.old < mem_moment self.new) }
         ensures cause { HasCause (mem_faults self.old) (mem_faults self.new) result }
-        ensures listed { AnswersAsListed Kind.Write self.old self.new result }
-        ensures noted { IsNoted (IsWriteOf file at bytes.now) self.old self.new result }
+        ensures answers { Answers Kind.Write (IsWriteOf file at bytes.now) self.old self.new
+            result }
     {
         let named = self.counters.is_named(Kind::Write);
         let written = self.recorded.write(file, at, bytes, !named);
@@ -260,15 +278,18 @@ impl Disk for MemDisk {
     fn cut(&mut self, file: u32, len: u64) -> Result<(), Failed>
         requires file { file < 16 }
         requires within { len ≤ length (mem_files self.old file) }
-        ensures shorter { OnOk result (OnFile file (λ old new. new ≡ take len old) (mem_files self.old) (mem_files self.new)) }
-        ensures either { OnErr result ((mem_files self.new ≡ mem_files self.old) ⊎ OnFile file (λ old new. new ≡ take len old) (mem_files self.old) (mem_files self.new)) }
+        ensures shorter { OnOk result
+            (OnFile file (Cut len) (mem_files self.old) (mem_files self.new)) }
+        ensures either { OnErr result ((mem_files self.new ≡ mem_files self.old)
+            ⊎ OnFile file (Cut len) (mem_files self.old) (mem_files self.new)) }
         ensures kept { OnErr result (mem_files self.new ≡ mem_files self.old) }
-        ensures crash { Follows (OnFile file (Shortened len)) (mem_images self.old) (mem_images self.new) }
-        ensures time { Elapses (mem_moment self.old) (mem_moment self.new) (mem_left_since self.old) (mem_left_since self.new) (mem_images self.new) }
+        ensures crash { Follows (OnFile file (Shortened len)) (mem_images self.old)
+            (mem_images self.new) }
+        ensures time { Elapses (mem_moment self.old) (mem_moment self.new)
+            (mem_left_since self.old) (mem_left_since self.new) (mem_images self.new) }
         ensures ticks { OnOk result (mem_moment self.old < mem_moment self.new) }
         ensures cause { HasCause (mem_faults self.old) (mem_faults self.new) result }
-        ensures listed { AnswersAsListed Kind.Cut self.old self.new result }
-        ensures noted { IsNoted (IsCutOf file len) self.old self.new result }
+        ensures answers { Answers Kind.Cut (IsCutOf file len) self.old self.new result }
     {
         let named = self.counters.is_named(Kind::Cut);
         let shortened = self.recorded.cut(file, len, !named);
@@ -280,11 +301,11 @@ impl Disk for MemDisk {
         ensures durable { OnOk result (Only (mem_files self.new) (mem_images self.new)) }
         ensures pending { OnErr result (Within (mem_images self.new) (mem_images self.old)) }
         ensures crash { Within (mem_images self.old) (mem_images self.new) }
-        ensures time { Elapses (mem_moment self.old) (mem_moment self.new) (mem_left_since self.old) (mem_left_since self.new) (mem_images self.new) }
+        ensures time { Elapses (mem_moment self.old) (mem_moment self.new)
+            (mem_left_since self.old) (mem_left_since self.new) (mem_images self.new) }
         ensures ticks { OnOk result (mem_moment self.old < mem_moment self.new) }
         ensures cause { HasCause (mem_faults self.old) (mem_faults self.new) result }
-        ensures listed { AnswersAsListed Kind.Sync self.old self.new result }
-        ensures noted { IsNoted IsSyncOf self.old self.new result }
+        ensures answers { Answers Kind.Sync IsSyncOf self.old self.new result }
     {
         let named = self.counters.is_named(Kind::Sync);
         let noted = self.recorded.sync(!named);

@@ -6,7 +6,8 @@ use Rattle.std.proofs.lemmas.Bool.{ltb-true, false≢true}
 use Rattle.std.specs.Prelude.{Bool, true, false, nat_lt, Result, Ok, Err, IsOk, fold, sum_by, All}
 use Rattle.fts_types.specs.declared.limits.Limits.{Limits}
 use Rattle.fts_types.specs.Limits.{standard_limits}
-use Rattle.fts_commits.specs.Commit.{Commit, Row, Rows, Refused, no_rows, has_key, with_key, without_key, doc_within, doc_for, with_texts, with_document, updated, after_update, after_change, on_rows, after_changes, within_rows, after_commit, rows_after, replay, AreAccepted}
+use Rattle.fts_commits.specs.declared.refusal.Refusal.{Refusal}
+use Rattle.fts_commits.specs.Commit.{Commit, Row, Rows, no_rows, has_key, with_key, without_key, doc_within, doc_for, with_texts, with_document, updated, after_update, after_change, on_rows, after_changes, within_rows, after_commit, rows_after, replay, AreAccepted}
 use Rattle.fts_commits.specs.Fits.{IsPlainInsert, FitsNumbers, CanCommit}
 use Rattle.fts_commits.specs.declared.change.Change.{Change}
 use Rattle.fts_commits.specs.declared.change.Change.TheVariants.{Insert, Update, Delete}
@@ -32,7 +33,7 @@ doc_more limit limit' largest new (Some given) less ok = given_more (nat_lt larg
     given_more true false is is' =
         rw (is, is') (within_more limit limit' largest given new (nat_lt limit given) (nat_lt limit' given) refl refl less (rw (is, is') at ok))
 
-document_more : (number key : ℕ) (texts : List (List ℕ)) (rows after : Rows) (doc doc' : Result ℕ Refused)
+document_more : (number key : ℕ) (texts : List (List ℕ)) (rows after : Rows) (doc doc' : Result ℕ Refusal)
     → ((new : ℕ) → doc ≡ Ok new → doc' ≡ Ok new) → with_document number key doc texts rows ≡ Ok after → with_document number key doc' texts rows ≡ Ok after
 document_more number key texts rows after (Err why) doc' more ok = absurd cc
 document_more number key texts rows after (Ok new) doc' more ok = rw (more new refl) ok
@@ -58,12 +59,12 @@ change_more limit limit' number (Update key news) rows after less ok = update_mo
 change_more limit limit' number (Delete key) rows after less ok = ok
 
 -- rows came of what follows: there were rows before it
-pub record Went (next : Result Rows Refused) (follows : Rows → Result Rows Refused) (after : Rows) : Type 0 where
+pub record Went (next : Result Rows Refusal) (follows : Rows → Result Rows Refusal) (after : Rows) : Type 0 where
   pub middle : Rows
   pub first : next ≡ Ok middle
   pub last : follows middle ≡ Ok after
 
-pub went : (next : Result Rows Refused) (follows : Rows → Result Rows Refused) (after : Rows) → on_rows next follows ≡ Ok after → Went next follows after
+pub went : (next : Result Rows Refusal) (follows : Rows → Result Rows Refusal) (after : Rows) → on_rows next follows ≡ Ok after → Went next follows after
 went (Err why) follows after ok = absurd cc
 went (Ok middle) follows after ok = record { middle = middle; first = refl; last = ok }
 
@@ -81,7 +82,7 @@ rows_more limit limit' rows after false true is is' less ok =
     absurd (let more = ltb-true limit' (length rows.list) is' in let b : nat_lt limit (length rows.list) ≡ true = grind (arith, more, less) in false≢true (sym is ∙ b))
 rows_more limit limit' rows after false false is is' less ok = rw is' (rw is at ok)
 
-commit_more : (inner outer : Limits) (changes : List Change) (rows after : Rows) (next : Result Rows Refused) → after_changes inner.ids 1 changes rows ≡ next → AreWithin outer inner
+commit_more : (inner outer : Limits) (changes : List Change) (rows after : Rows) (next : Result Rows Refusal) → after_changes inner.ids 1 changes rows ≡ next → AreWithin outer inner
     → within_rows inner.rows next ≡ Ok after → after_commit outer changes rows ≡ Ok after
 commit_more inner outer changes rows after (Err why) is less ok = absurd cc
 commit_more inner outer changes rows after (Ok next) is less ok =
@@ -119,7 +120,7 @@ taken_texts : (number key new : ℕ) (texts : List (List ℕ)) (rows after : Row
 taken_texts number key new texts rows after true is ok = absurd (let no = (rw is at ok) in cc)
 taken_texts number key new texts rows after false is ok = short_texts texts (grind (arith, is))
 
-taken_document : (number key : ℕ) (texts : List (List ℕ)) (rows after : Rows) (doc : Result ℕ Refused) → with_document number key doc texts rows ≡ Ok after → All FitsText texts
+taken_document : (number key : ℕ) (texts : List (List ℕ)) (rows after : Rows) (doc : Result ℕ Refusal) → with_document number key doc texts rows ≡ Ok after → All FitsText texts
 taken_document number key texts rows after (Err why) ok = absurd cc
 taken_document number key texts rows after (Ok new) ok = taken_texts number key new texts rows after (nat_lt 65535 (sum_by length texts)) refl ok
 
@@ -129,7 +130,8 @@ taken_insert limit number key doc texts rows after true is ok = absurd (let no =
 taken_insert limit number key doc texts rows after false is ok = taken_document number key texts rows after (doc_for limit rows.largest doc) (rw is at ok)
 
 taken_change : (limit number : ℕ) (change : Change) (rows after : Rows) → FitsNumbers change → IsPlainInsert change → after_change limit number change rows ≡ Ok after → FitsBytes change
-taken_change limit number (Insert key doc texts) rows after fits plain ok = (fits, taken_insert limit number key doc texts rows after (has_key key rows.list) refl ok)
+taken_change limit number (Insert key doc texts) rows after fits plain ok =
+    (fits.0, taken_insert limit number key doc texts rows after (has_key key rows.list) refl ok, fits.1)
 taken_change limit number (Update key news) rows after fits plain ok = absurd plain
 taken_change limit number (Delete key) rows after fits plain ok = absurd plain
 
@@ -140,7 +142,7 @@ taken_changes limit number (change ∷ changes) rows after fits plain ok =
     All-cons FitsBytes change changes (taken_change limit number change rows w.middle (All-head FitsNumbers change changes fits) (All-head IsPlainInsert change changes plain) w.first)
     (taken_changes limit (number + 1) changes w.middle after (All-tail FitsNumbers change changes fits) (All-tail IsPlainInsert change changes plain) w.last)
 
-taken_commit : (limits : Limits) (changes : List Change) (rows after : Rows) (next : Result Rows Refused) → after_changes limits.ids 1 changes rows ≡ next → All FitsNumbers changes → All IsPlainInsert changes
+taken_commit : (limits : Limits) (changes : List Change) (rows after : Rows) (next : Result Rows Refusal) → after_changes limits.ids 1 changes rows ≡ next → All FitsNumbers changes → All IsPlainInsert changes
     → within_rows limits.rows next ≡ Ok after → All FitsBytes changes
 taken_commit limits changes rows after (Err why) is fits plain ok = absurd cc
 taken_commit limits changes rows after (Ok next) is fits plain ok = taken_changes limits.ids 1 changes rows next fits plain is

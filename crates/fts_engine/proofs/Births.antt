@@ -5,7 +5,8 @@ use Rattle.std.proofs.lemmas.List.Elements.{All-nil, All-cons, All-append, All-h
 use Rattle.std.specs.Prelude.{Bool, true, false, nat_lt, Result, Ok, Err, sum_by, All}
 use Rattle.fts_types.specs.declared.limits.Limits.{Limits}
 use Rattle.fts_types.specs.Limits.{standard_limits}
-use Rattle.fts_commits.specs.Commit.{Row, Rows, Refused, has_key, doc_within, doc_for, with_row, with_texts, with_document, after_change, after_changes, within_rows, after_commit}
+use Rattle.fts_commits.specs.declared.refusal.Refusal.{Refusal}
+use Rattle.fts_commits.specs.Commit.{Row, Rows, has_key, doc_within, doc_for, with_row, with_texts, with_document, after_change, after_changes, within_rows, after_commit}
 use Rattle.fts_commits.specs.Fits.{FitsColumns, IsPlainInsert, IsCommit}
 use Rattle.fts_commits.specs.declared.change.Change.{Change}
 use Rattle.fts_commits.specs.declared.change.Change.TheVariants.{Insert, Update, Delete}
@@ -52,7 +53,7 @@ module _ (columns : ℕ) (some : 1 ≤ columns) (few : columns ≤ 8) (limit : �
       one_added rows (record { key = key; doc = new; texts = texts }) after (ap (λ (r : Rows). r.list) (sym same))
       (record { limit = omega (arith, within, limited); texts = record { some = omega (arith, count, some); few = omega (arith, count, few); short = short } })
 
-  document_added : (number key : ℕ) (texts : List (List ℕ)) (rows after : Rows) (doc : Result ℕ Refused) → ((new : ℕ) → doc ≡ Ok new → new ≤ limit) → length texts ≡ columns
+  document_added : (number key : ℕ) (texts : List (List ℕ)) (rows after : Rows) (doc : Result ℕ Refusal) → ((new : ℕ) → doc ≡ Ok new → new ≤ limit) → length texts ≡ columns
       → with_document number key doc texts rows ≡ Ok after → Added rows after
   document_added number key texts rows after (Err why) within count ok = absurd cc
   document_added number key texts rows after (Ok new) within count ok =
@@ -88,7 +89,7 @@ module _ (columns : ℕ) (some : 1 ≤ columns) (few : columns ≤ 8) (limit : �
       let same : next ≡ after = (let e = (rw is at ok) in cc) in
       subst (λ (r : Rows). Added rows r) same added
 
-  all_added : (most : ℕ) (changes : List Change) (rows after : Rows) (next : Result Rows Refused) → after_changes limit 1 changes rows ≡ next → IsCommit columns changes
+  all_added : (most : ℕ) (changes : List Change) (rows after : Rows) (next : Result Rows Refusal) → after_changes limit 1 changes rows ≡ next → IsCommit columns changes
       → within_rows most next ≡ Ok after → Added rows after
   all_added most changes rows after (Err why) is made ok = absurd cc
   all_added most changes rows after (Ok next) is made ok =

@@ -1,20 +1,23 @@
 -- What a commit makes of an engine that stands for a state.
-use Rattle.std.proofs.Common.{◌≡◌, ◌⊎◌, ℕ, ◌+◌, ◌-◌, ◌<◌, List, [], ◌∷◌, ◌++◌, refl, ap, subst, sym, ◌∙◌, length, arith, inl, inr}
+use Rattle.std.proofs.Common.{◌≡◌, ◌⊎◌, ℕ, ◌+◌, ◌-◌, ◌<◌, List, [], ◌∷◌, ◌++◌, refl, ap, subst, sym, ◌∙◌, length, arith, inl, inr, length-append}
 use Rattle.std.proofs.lemmas.List.{map-append, length-map}
 use Rattle.std.proofs.lemmas.List.Elements.{All-push}
 use Rattle.std.proofs.lemmas.Bool.{ltb-true, false_from_ne_true}
 use Rattle.std.specs.Prelude.{Bool, true, false, nat_lt, Result, Ok}
+use Rattle.fts_disk.specs.Device.{Files}
+use Rattle.fts_disk.specs.Crash.{Images}
 use Rattle.fts_disk.specs.declared.disk.Disk.{Ghosts}
 use Rattle.fts_types.specs.declared.limits.Limits.{Limits}
 use Rattle.fts_types.specs.declared.settings.Settings.{Settings}
 use Rattle.fts_types.specs.Rules.{rules_of}
 use Rattle.fts_types.specs.Limits.{standard_limits}
-use Rattle.fts_commits.specs.Commit.{Commit, Rows, Refused, after_commit, replay, no_rows}
+use Rattle.fts_commits.specs.Commit.{Commit, Rows, after_commit, replay, no_rows}
 use Rattle.fts_commits.specs.Fits.{CanCommit}
 use Rattle.fts_commits.specs.Scan.{scan}
-use Rattle.fts_log.specs.Record.{IsLog, IsLogOfEither, log_end}
+use Rattle.fts_log.specs.Record.{IsLog, log_end}
+use Rattle.fts_log.specs.Crash.{IsBeforeOrAfter}
 use Rattle.fts_log.specs.Log as log
-use Rattle.fts_log.specs.Log.{StandsFor, device_of, magic_of, limit_of, end_of}
+use Rattle.fts_log.specs.Log.{StandsFor, device_of, magic_of, limit_of, count_of, end_of}
 use Rattle.fts_log.specs.Frame.{payload_of}
 use Rattle.fts_log.specs.declared.frame.Framed.{Framed}
 use Rattle.fts_log.specs.declared.log.Log.{Log}
@@ -22,14 +25,15 @@ use Rattle.fts_log.proofs.Bytes.{length-front-push}
 use Rattle.fts_rowcodec.specs.Payload.{commit_payload, settings_payload, IsWritten}
 use Rattle.fts_steps.specs.State.{State, payloads, rows_magic, end_after, with_commits, IsSound}
 use Rattle.fts_steps.specs.Step.{Answer, to_commit, to_find, committed, full, found, plain_answer, after, MayAnswer}
+use Rattle.fts_commits.specs.declared.refusal.Refusal.{Refusal}
 use Rattle.fts_rows.specs.declared.error.PlanError.{PlanError}
-use Rattle.fts_rows.specs.declared.error.PlanError.TheVariants.{NoMemory, DuplicateKey, DocIdOrder, DocIdGap, IdsFull, TextTooLong, RowsFull}
+use Rattle.fts_rows.specs.declared.error.PlanError.TheVariants.{NoMemory, Refused}
 use Rattle.fts_rows.specs.Refusal.{IsNoPlan}
 use Rattle.fts_engine.specs.Refusing.{refusal_answer}
 use Rattle.fts_engine.specs.declared.engine.Engine.{Engine}
 use Rattle.fts_engine.specs.Bounds.{AreWithin}
 use Rattle.fts_engine.specs.Kept.{kept_settings, kept_rows, kept_limits}
-use Rattle.fts_engine.specs.Stands.{Stands, Reads, engine_limits}
+use Rattle.fts_engine.specs.Stands.{Keeps, MayHold, engine_limits}
 use Rattle.fts_engine.proofs.Accepting.{accepted_more, accepted_fits, replay_accepted, AreAccepted-push}
 
 -- the entries of a state with one commit more
@@ -57,11 +61,11 @@ module _ (state : State) (commit : Commit) (limits : Limits) (after : Rows) (ok 
   pub is_committed : (limits.log_bytes < end_after state commit → ⊥) → plain_answer limits state (to_commit commit) ≡ committed (length state.commits + 1)
   is_committed within = answered false (false_from_ne_true _ (λ past. within (ltb-true limits.log_bytes _ past)))
 
-module _ {D : Type 0} {disk : Ghosts D} (state : State) (engine : Engine D disk) (stands : Stands state engine) (commit : Commit) where
+module _ {D : Type 0} {disk : Ghosts D} (state : State) (engine : Engine D disk) (keeps : Keeps state engine) (commit : Commit) where
   -- the end that the log computes is the one that the state has
   pub same_end : (framed : Framed) → payload_of framed ≡ commit_payload commit → log.end_after engine.log framed ≡ end_after state commit
   same_end framed payload =
-      let is : end_of engine.log ≡ log_end rows_magic (payloads state) = stands.log.«end» ∙ ap (λ (m : List ℕ). log_end m (payloads state)) stands.magic in
+      let is = keeps.«end» in
       let long : length (payload_of framed) ≡ length (commit_payload commit) = ap length payload in
       let pushed = length-front-push rows_magic (payloads state) (commit_payload commit) in
       omega (arith, is, long, pushed)
@@ -71,106 +75,104 @@ module _ {D : Type 0} {disk : Ghosts D} (state : State) (engine : Engine D disk)
       → (limit_of engine.log < log.end_after engine.log framed → ⊥) → (engine_limits engine).log_bytes < end_after state commit → ⊥
   not_past framed payload within past =
       let same = same_end framed payload in
-      let limit = stands.limit in
+      let limit = keeps.limit in
       within (omega (arith, same, limit, past))
 
-  -- the number of entries is that of the commits and one
-  pub same_count : log.count_of engine.log ≡ length state.commits + 1
-  same_count = stands.log.count ∙ omega (arith, length-map state.commits commit_payload)
-
   -- what the rows that are kept accept, the rows of the state accept
-  pub same_rows : (answer : Result Rows Refused) → after_commit (engine_limits engine) commit (kept_rows engine.kept) ≡ answer
+  pub same_rows : (answer : Result Rows Refusal) → after_commit (engine_limits engine) commit (kept_rows engine.kept) ≡ answer
       → after_commit (engine_limits engine) commit (replay state.commits) ≡ answer
-  same_rows answer is = ap (λ (rows : Rows). after_commit (engine_limits engine) commit rows) (sym stands.rows) ∙ is
+  same_rows answer is = ap (λ (rows : Rows). after_commit (engine_limits engine) commit rows) (sym keeps.rows) ∙ is
 
   module _ (can : CanCommit (length state.settings.columns) commit) (after : Rows) (ok : after_commit (engine_limits engine) commit (kept_rows engine.kept) ≡ Ok after) where
     accepted : after_commit standard_limits commit (replay state.commits) ≡ Ok after
-    accepted = accepted_more (engine_limits engine) standard_limits commit (replay state.commits) after stands.within (same_rows (Ok after) ok)
+    accepted = accepted_more (engine_limits engine) standard_limits commit (replay state.commits) after keeps.within (same_rows (Ok after) ok)
 
     written : IsWritten (length state.settings.columns) commit
     written = accepted_fits (length state.settings.columns) (engine_limits engine) commit (replay state.commits) after can (same_rows (Ok after) ok)
 
-    -- the engine after the commit stands for the state after it
-    pub stands_after : (new : Engine D disk) → kept_settings new.kept ≡ kept_settings engine.kept → kept_rows new.kept ≡ after → kept_limits new.kept ≡ kept_limits engine.kept
-        → magic_of new.log ≡ magic_of engine.log → limit_of new.log ≡ limit_of engine.log
-        → StandsFor (payloads state ++ commit_payload commit ∷ []) new.log → Stands (with_commits state (commit ∷ [])) new
-    stands_after new settings kept limits magic limit logged = record {
-      sound = sound-push state commit after stands.sound written accepted;
-      settings = stands.settings ∙ sym settings;
+    -- the state after the commit is sound
+    pub sound_after : IsSound (with_commits state (commit ∷ []))
+    sound_after = sound-push state commit after keeps.sound written accepted
+
+    -- the engine after the commit keeps the state after it
+    pub keeps_after : (new : Engine D disk) → kept_settings new.kept ≡ kept_settings engine.kept → kept_rows new.kept ≡ after → kept_limits new.kept ≡ kept_limits engine.kept
+        → magic_of new.log ≡ magic_of engine.log → limit_of new.log ≡ limit_of engine.log → count_of new.log ≡ count_of engine.log + 1
+        → (framed : Framed) → payload_of framed ≡ commit_payload commit → end_of new.log ≡ log.end_after engine.log framed → Keeps (with_commits state (commit ∷ [])) new
+    keeps_after new settings kept limits magic limit count framed payload ended = record {
+      sound = sound_after;
+      settings = keeps.settings ∙ sym settings;
       rows = kept ∙ sym (replay_accepted state.commits commit after accepted);
-      within = subst (λ (l : Limits). AreWithin standard_limits l) (sym limits) stands.within;
-      limit = limit ∙ stands.limit ∙ ap (λ (l : Limits). l.log_bytes) (sym limits);
-      magic = magic ∙ stands.magic;
-      log = subst (λ (entries : List (List ℕ)). StandsFor entries new.log) (sym (payloads-push state commit)) logged;
+      within = subst (λ (l : Limits). AreWithin standard_limits l) (sym limits) keeps.within;
+      count = omega (arith, count, keeps.count, length-append state.commits (commit ∷ []));
+      «end» = ended ∙ same_end framed payload ∙ ap (log_end rows_magic) (sym (payloads-push state commit));
+      limit = limit ∙ keeps.limit ∙ ap (λ (l : Limits). l.log_bytes) (sym limits);
+      magic = magic ∙ keeps.magic;
     }
 
-    -- what a fault of the device leaves
-    pub reads_either : (new : Engine D disk)
-        → IsLogOfEither (magic_of engine.log) (payloads state) (commit_payload commit) (disk.seen (device_of new.log) 0)
-        → Reads state new ⊎ Reads (with_commits state (commit ∷ [])) new
-    reads_either new (inl before) =
-        inl (record { sound = stands.sound; log = subst (λ (m : List ℕ). IsLog m (payloads state) (disk.seen (device_of new.log) 0)) stands.magic before })
-    reads_either new (inr behind) =
+    -- the entries of a log of the commit behind the state's are those of the state after it
+    pub logged_after : (new : Log D disk) → StandsFor (payloads state ++ commit_payload commit ∷ []) new → StandsFor (payloads (with_commits state (commit ∷ []))) new
+    logged_after new logged = subst (λ (entries : List (List ℕ)). StandsFor entries new) (sym (payloads-push state commit)) logged
+
+    -- a crash that leaves the old entries or these and the commit's leaves the one database or the other
+    pub holds_either : (images : Images) (files c : Files) → IsBeforeOrAfter (magic_of engine.log) (payloads state) (commit_payload commit) images files c → MayHold state (commit ∷ []) c
+    holds_either images files c (inl before) =
+        inl (record { sound = keeps.sound; log = subst (λ (m : List ℕ). IsLog m (payloads state) (c 0)) keeps.magic before.is_log })
+    holds_either images files c (inr behind) =
         inr (record {
-          sound = sound-push state commit after stands.sound written accepted;
-          log = subst (λ (entries : List (List ℕ)). IsLog rows_magic entries (disk.seen (device_of new.log) 0)) (sym (payloads-push state commit))
-              (subst (λ (m : List ℕ). IsLog m (payloads state ++ commit_payload commit ∷ []) (disk.seen (device_of new.log) 0)) stands.magic behind);
+          sound = sound_after;
+          log = subst (λ (entries : List (List ℕ)). IsLog rows_magic entries (c 0)) (sym (payloads-push state commit))
+              (subst (λ (m : List ℕ). IsLog m (payloads state ++ commit_payload commit ∷ []) (c 0)) keeps.magic behind.is_log);
         })
 
-  -- an engine with the same log and the same rows stands for the same state
-  pub stands_still : (new : Engine D disk) → kept_settings new.kept ≡ kept_settings engine.kept → kept_rows new.kept ≡ kept_rows engine.kept → kept_limits new.kept ≡ kept_limits engine.kept
-      → new.log ≡ engine.log → Stands state new
-  stands_still new settings kept limits same = record {
-    sound = stands.sound;
-    settings = stands.settings ∙ sym settings;
-    rows = kept ∙ stands.rows;
-    within = subst (λ (l : Limits). AreWithin standard_limits l) (sym limits) stands.within;
-    limit = ap limit_of same ∙ stands.limit ∙ ap (λ (l : Limits). l.log_bytes) (sym limits);
-    magic = ap magic_of same ∙ stands.magic;
-    log = subst (λ (l : Log D disk). StandsFor (payloads state) l) (sym same) stands.log;
+  -- an engine with the same rows and the same numbers of its log keeps the same state
+  pub keeps_still : (new : Engine D disk) → kept_settings new.kept ≡ kept_settings engine.kept → kept_rows new.kept ≡ kept_rows engine.kept → kept_limits new.kept ≡ kept_limits engine.kept
+      → magic_of new.log ≡ magic_of engine.log → limit_of new.log ≡ limit_of engine.log → count_of new.log ≡ count_of engine.log → end_of new.log ≡ end_of engine.log → Keeps state new
+  keeps_still new settings kept limits magic limit count ended = record {
+    sound = keeps.sound;
+    settings = keeps.settings ∙ sym settings;
+    rows = kept ∙ keeps.rows;
+    within = subst (λ (l : Limits). AreWithin standard_limits l) (sym limits) keeps.within;
+    count = count ∙ keeps.count;
+    «end» = ended ∙ keeps.«end»;
+    limit = limit ∙ keeps.limit ∙ ap (λ (l : Limits). l.log_bytes) (sym limits);
+    magic = magic ∙ keeps.magic;
   }
 
-  pub stands_in : (state' : State) → state' ≡ state → (new : Engine D disk) → kept_settings new.kept ≡ kept_settings engine.kept → kept_rows new.kept ≡ kept_rows engine.kept
-      → kept_limits new.kept ≡ kept_limits engine.kept → new.log ≡ engine.log → Stands state' new
-  stands_in state' is new settings kept limits same = subst (λ (s : State). Stands s new) (sym is) (stands_still new settings kept limits same)
+  pub keeps_in : (state' : State) → state' ≡ state → (new : Engine D disk) → kept_settings new.kept ≡ kept_settings engine.kept → kept_rows new.kept ≡ kept_rows engine.kept
+      → kept_limits new.kept ≡ kept_limits engine.kept → new.log ≡ engine.log → Keeps state' new
+  keeps_in state' is new settings kept limits same =
+      subst (λ (s : State). Keeps s new) (sym is) (keeps_still new settings kept limits (ap magic_of same) (ap limit_of same) (ap log.count_of same) (ap end_of same))
 
-module _ {D : Type 0} {disk : Ghosts D} (state : State) (engine : Engine D disk) (stands : Stands state engine) (word : List ℕ) where
+  -- no call of the device: a crash leaves the database of the state
+  pub held_now : StandsFor (payloads state) engine.log → (c : Files) → disk.images (device_of engine.log) c → MayHold state (commit ∷ []) c
+  held_now logged c may =
+      inl (record {
+        sound = keeps.sound;
+        log = subst (λ (file : List ℕ). IsLog rows_magic (payloads state) file) (sym (logged.durable c may))
+            (subst (λ (m : List ℕ). IsLog m (payloads state) (disk.seen (device_of engine.log) 0)) keeps.magic logged.is_log);
+      })
+
+module _ {D : Type 0} {disk : Ghosts D} (state : State) (engine : Engine D disk) (keeps : Keeps state engine) (word : List ℕ) where
   pub same_number : log.count_of engine.log - 1 ≡ length state.commits
-  same_number = let count = stands.log.count in omega (arith, length-map state.commits commit_payload)
+  same_number = let count = keeps.count in omega (arith)
 
   pub is_found : (number : ℕ) (docs : List ℕ) → number ≡ length state.commits → docs ≡ scan (rules_of (kept_settings engine.kept)) word (kept_rows engine.kept)
       → plain_answer (engine_limits engine) state (to_find word) ≡ found number docs
   is_found number docs numbered same =
       let settings : scan (rules_of state.settings) word (replay state.commits) ≡ scan (rules_of (kept_settings engine.kept)) word (replay state.commits) =
-      ap (λ (s : Settings). scan (rules_of s) word (replay state.commits)) stands.settings in
+      ap (λ (s : Settings). scan (rules_of s) word (replay state.commits)) keeps.settings in
       let rows : scan (rules_of (kept_settings engine.kept)) word (kept_rows engine.kept) ≡ scan (rules_of (kept_settings engine.kept)) word (replay state.commits) =
-      ap (scan (rules_of (kept_settings engine.kept)) word) stands.rows in
+      ap (scan (rules_of (kept_settings engine.kept)) word) keeps.rows in
       let docs' : scan (rules_of state.settings) word (replay state.commits) ≡ docs = settings ∙ sym rows ∙ sym same in
       ap (λ (n : ℕ). found n (scan (rules_of state.settings) word (replay state.commits))) (sym numbered) ∙ ap (found number) docs'
 
 -- a refusal by the rows leaves the state
 pub refusal_stays : (state : State) (commit : Commit) (error : PlanError) (answer : Answer) → answer ≡ refusal_answer error → after state (to_commit commit) answer ≡ state
 refusal_stays state commit NoMemory answer is = rw is refl
-refusal_stays state commit (DuplicateKey change key) answer is = rw is refl
-refusal_stays state commit (DocIdOrder given largest) answer is = rw is refl
-refusal_stays state commit (DocIdGap given largest) answer is = rw is refl
-refusal_stays state commit (IdsFull largest) answer is = rw is refl
-refusal_stays state commit (TextTooLong change long) answer is = rw is refl
-refusal_stays state commit (RowsFull rows) answer is = rw is refl
+refusal_stays state commit (Refused refusal) answer is = rw is refl
 
 -- a refusal by the rows is the commit's
 pub refusal_answers : (limits : Limits) (state : State) (commit : Commit) (error : PlanError) (answer : Answer) → answer ≡ refusal_answer error
     → IsNoPlan (after_commit limits commit (replay state.commits)) error → MayAnswer limits state (to_commit commit) answer
 refusal_answers limits state commit NoMemory answer is why = rw is tt
-refusal_answers limits state commit (DuplicateKey change key) answer is (inr why) = rw is (rw why refl)
-refusal_answers limits state commit (DocIdOrder given largest) answer is (inr why) = rw is (rw why refl)
-refusal_answers limits state commit (DocIdGap given largest) answer is (inr why) = rw is (rw why refl)
-refusal_answers limits state commit (IdsFull largest) answer is (inr why) = rw is (rw why refl)
-refusal_answers limits state commit (TextTooLong change long) answer is (inr why) = rw is (rw why refl)
-refusal_answers limits state commit (RowsFull rows) answer is (inr why) = rw is (rw why refl)
-refusal_answers limits state commit (DuplicateKey change key) answer is (inl why) = absurd cc
-refusal_answers limits state commit (DocIdOrder given largest) answer is (inl why) = absurd cc
-refusal_answers limits state commit (DocIdGap given largest) answer is (inl why) = absurd cc
-refusal_answers limits state commit (IdsFull largest) answer is (inl why) = absurd cc
-refusal_answers limits state commit (TextTooLong change long) answer is (inl why) = absurd cc
-refusal_answers limits state commit (RowsFull rows) answer is (inl why) = absurd cc
+refusal_answers limits state commit (Refused refusal) answer is why = rw is (rw why refl)

@@ -4,3 +4,4 @@ pub mod Committing
 pub mod Loading
 pub mod Gates
 pub mod Single
+pub mod Steps

@@ -1,24 +1,27 @@
 -- What is known of a log when its first entries were loaded.
 use Rattle.std.proofs.Common.{◌≡◌, ◌⊎◌, ℕ, ◌+◌, ◌<◌, List, [], ◌∷◌, ◌++◌, refl, ap, subst, sym, ◌∙◌, length, arith, map, take, drop, get_or, add-one, inl, inr, length-append}
-use Rattle.std.proofs.lemmas.List.{take_all, take_more, length-map}
+use Rattle.std.proofs.lemmas.List.{take_all, take_more, take-take, length-take-le, get_or-take, length-map}
 use Rattle.std.proofs.lemmas.List.Elements.{All-head, All-tail}
 use Rattle.std.specs.Prelude.{Result, Ok, Err, IsOk, All, fold}
 use Rattle.fts_types.specs.declared.settings.Settings.{Settings}
 use Rattle.fts_types.specs.Settings.{AreSettings}
 use Rattle.fts_types.specs.Limits.{standard_limits}
 use Rattle.fts_types.specs.declared.limits.Limits.{Limits}
-use Rattle.fts_commits.specs.Commit.{Commit, Rows, Refused, no_rows, after_commit, rows_after, replay, AreAccepted}
+use Rattle.fts_commits.specs.Commit.{Commit, Rows, no_rows, after_commit, rows_after, replay, AreAccepted}
 use Rattle.fts_rowcodec.specs.Payload.{commit_payload, settings_payload, IsWritten}
 use Rattle.fts_rowcodec.specs.declared.error.DecodeError.{DecodeError}
 use Rattle.fts_rowcodec.specs.declared.error.DecodeError.TheVariants as decode
 use Rattle.fts_rowcodec.proofs.Unique.{payload_has_one_commit, payload_has_one_settings}
+use Rattle.fts_commits.specs.declared.refusal.Refusal.{Refusal}
 use Rattle.fts_rows.specs.declared.error.PlanError.{PlanError}
-use Rattle.fts_rows.specs.declared.error.PlanError.TheVariants.{NoMemory, DuplicateKey, DocIdOrder, DocIdGap, IdsFull, TextTooLong, RowsFull}
+use Rattle.fts_rows.specs.declared.error.PlanError.TheVariants.{NoMemory, Refused}
 use Rattle.fts_rows.specs.Refusal.{IsNoPlan}
 use Rattle.fts_steps.specs.State.{State, payloads, with_commits, IsSound}
 use Rattle.fts_engine.specs.declared.kept.Kept.{Kept}
 use Rattle.fts_engine.specs.Kept.{kept_settings, kept_rows, kept_limits}
-use Rattle.fts_engine.specs.Loading.{BeginsWith, IsLoaded, AreNoState}
+use Rattle.fts_engine.specs.Loading.{BeginsWith, IsLoaded, IsWrongEntry}
+use Rattle.fts_steps.specs.Fault.{AreNoState, AreOfState}
+use Rattle.fts_log.specs.Record.{gate_at}
 use Rattle.fts_engine.proofs.Accepting.{replay_accepted}
 use Rattle.fts_engine.proofs.Committing.{payloads-push, sound-push}
 
@@ -56,15 +59,9 @@ accepted_at rows [] commit rest accepted = accepted.0
 accepted_at rows (first ∷ front) commit rest accepted = accepted_at (rows_after rows first) front commit rest accepted.1
 
 -- what was refused was not accepted
-refused_not : (answer : Result Rows Refused) (error : PlanError) → (error ≡ NoMemory → ⊥) → IsNoPlan answer error → IsOk answer → ⊥
-refused_not answer error other (inl memory) ok = other memory
-refused_not answer NoMemory other (inr why) ok = why
-refused_not answer (DuplicateKey change key) other (inr why) ok = (let no = (rw why at ok) in cc)
-refused_not answer (DocIdOrder given largest) other (inr why) ok = (let no = (rw why at ok) in cc)
-refused_not answer (DocIdGap given largest) other (inr why) ok = (let no = (rw why at ok) in cc)
-refused_not answer (IdsFull largest) other (inr why) ok = (let no = (rw why at ok) in cc)
-refused_not answer (TextTooLong change long) other (inr why) ok = (let no = (rw why at ok) in cc)
-refused_not answer (RowsFull rows) other (inr why) ok = (let no = (rw why at ok) in cc)
+refused_not : (answer : Result Rows Refusal) (error : PlanError) → (error ≡ NoMemory → ⊥) → IsNoPlan answer error → IsOk answer → ⊥
+refused_not answer NoMemory other why ok = other refl
+refused_not answer (Refused refusal) other why ok = (let no = (rw why at ok) in cc)
 
 module _ (all : List (List ℕ)) (k : ℕ) (kept : Kept) (l : IsLoaded all k kept) (within : k < length all) where
   -- the settings of a sound state with these entries are those that were loaded
@@ -122,7 +119,7 @@ module _ (all : List (List ℕ)) (k : ℕ) (kept : Kept) (l : IsLoaded all k kep
       let ok : IsOk (after_commit standard_limits commit (replay l.state.commits)) =
       subst (λ (c : Commit). IsOk (after_commit standard_limits c (replay l.state.commits))) same (accepted_at no_rows l.state.commits next.commit next.rest accepted) in
       refused_not (after_commit standard_limits commit (replay l.state.commits)) error other
-      (subst (λ (answer : Result Rows Refused). IsNoPlan answer error) (same_answer commit) refused) ok
+      (subst (λ (answer : Result Rows Refusal). IsNoPlan answer error) (same_answer commit) refused) ok
 
   -- one commit more is loaded
   pub one_more : (payload : List ℕ) (commit : Commit) (kept' : Kept) → payload ≡ get_or all k [] → IsWritten (length (kept_settings kept).columns) commit
@@ -141,6 +138,74 @@ module _ (all : List (List ℕ)) (k : ℕ) (kept : Kept) (l : IsLoaded all k kep
         rows = sym (replay_accepted l.state.commits commit (kept_rows kept') accepted);
         limits = limits ∙ l.limits;
       }
+
+-- what was loaded stands at the front of fewer entries too
+cut : (all : List (List ℕ)) (k : ℕ) (kept : Kept) → IsLoaded all k kept → IsLoaded (take (k + 1) all) k kept
+cut all k kept l = record {
+  state = l.state;
+  sound = l.sound;
+  same = l.same;
+  loaded = l.loaded ∙ sym (take-take k (k + 1) all (omega arith));
+  count = l.count;
+  rows = l.rows;
+  limits = l.limits;
+}
+
+module _ (magic : List ℕ) (all : List (List ℕ)) (k at : ℕ) (kept : Kept) (l : IsLoaded all k kept) (within : k < length all) (place : at ≡ gate_at magic all k)
+    (payload : List ℕ) (is : payload ≡ get_or all k []) where
+  within_cut : k < length (take (k + 1) all)
+  within_cut = omega (arith, length-take-le (k + 1) all (omega (arith, within)))
+
+  is_cut : payload ≡ get_or (take (k + 1) all) k []
+  is_cut = is ∙ sym (get_or-take (k + 1) all k [] (omega arith))
+
+  -- an entry that is no commit is the first at fault
+  pub wrong_commit : (result : Result Commit DecodeError)
+      → ((commit : Commit) → IsWritten (length (kept_settings kept).columns) commit → payload ≡ commit_payload commit → (result ≡ Ok commit) ⊎ (result ≡ Err decode.NoMemory))
+      → result ≡ Err decode.Bad → IsWrongEntry magic all at
+  wrong_commit result exact bad = record {
+    k = k;
+    within = within;
+    place = place;
+    before = inr (l.state, l.sound, l.loaded);
+    wrong = no_commit (take (k + 1) all) k kept (cut all k kept l) within_cut payload result is_cut exact bad;
+    none = no_commit all k kept l within payload result is exact bad;
+  }
+
+  -- and so is a commit that the rows refuse
+  pub wrong_accepted : (commit : Commit) (error : PlanError) → IsWritten (length (kept_settings kept).columns) commit → payload ≡ commit_payload commit
+      → (error ≡ NoMemory → ⊥) → IsNoPlan (after_commit (kept_limits kept) commit (kept_rows kept)) error → IsWrongEntry magic all at
+  wrong_accepted commit error written spelled other refused = record {
+    k = k;
+    within = within;
+    place = place;
+    before = inr (l.state, l.sound, l.loaded);
+    wrong = no_accepted (take (k + 1) all) k kept (cut all k kept l) within_cut payload commit error is_cut written spelled other refused;
+    none = no_accepted all k kept l within payload commit error is written spelled other refused;
+  }
+
+-- a first entry that is no settings: no sound state has it
+no_settings : (all : List (List ℕ)) (payload : List ℕ) (result : Result Settings DecodeError) → payload ≡ get_or all 0 []
+    → ((settings : Settings) → AreSettings settings → payload ≡ settings_payload settings → (result ≡ Ok settings) ⊎ (result ≡ Err decode.NoMemory))
+    → result ≡ Err decode.Bad → AreNoState all
+no_settings all payload result is exact bad state sound same =
+    elim (exact state.settings sound.settings (is ∙ ap (λ (entries : List (List ℕ)). get_or entries 0 []) (sym same))) [
+      | inl e ↦ (let f = bad in cc)
+      | inr e ↦ (let f = bad in cc)
+    ]
+
+pub wrong_settings : (magic : List ℕ) (all : List (List ℕ)) (at : ℕ) (payload : List ℕ) (result : Result Settings DecodeError) → 0 < length all → at ≡ gate_at magic all 0
+    → payload ≡ get_or all 0 []
+    → ((settings : Settings) → AreSettings settings → payload ≡ settings_payload settings → (result ≡ Ok settings) ⊎ (result ≡ Err decode.NoMemory))
+    → result ≡ Err decode.Bad → IsWrongEntry magic all at
+wrong_settings magic all at payload result some place is exact bad = record {
+  k = 0;
+  within = some;
+  place = place;
+  before = inl refl;
+  wrong = no_settings (take 1 all) payload result (is ∙ sym (get_or-take 1 all 0 [] (omega arith))) exact bad;
+  none = no_settings all payload result is exact bad;
+}
 
 -- the settings are loaded
 pub settings_begin : (all : List (List ℕ)) (payload : List ℕ) (settings : Settings) → 0 < length all → payload ≡ get_or all 0 []

@@ -9,7 +9,8 @@ use Rattle.fts_index.specs.Births.{AreBirths}
 use Rattle.fts_index.specs.Index.{WillIndex}
 use Rattle.fts_engine.specs.declared.kept.NextKept.{NextKept}
 
--- a commit makes these rows of those that are held, and adds the words of the new ones to the index; there is room for both
+-- a commit makes these rows of those that are held, and adds the words of the new ones to the index; there is room for
+-- both
 pub record WillHold (settings : Settings) (held : Held) (index : Index) (next : NextKept) (after : Rows) : Type 0 where
   pub plan : PlanFor held next.plan after
   pub words : WillIndex (rules_of settings) next.plan.births index next.words

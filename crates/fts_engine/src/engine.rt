@@ -1,11 +1,12 @@
-ghost use Rattle.std.specs.Prelude.{false, length, ◌≡◌, ◌≤◌, ◌⊎◌, ℕ, [], ◌∷◌, IsTrue, IsErrOf, IfOk, Err};
+ghost use Rattle.std.specs.Prelude.{◌≡◌, ◌≤◌, ℕ, [], ◌∷◌, length, IsTrue, IsErr, IsErrOf, OnOk};
+ghost use Rattle.std.specs.Prelude.{IfOk, Err};
 ghost use Rattle.fts_engine.specs.Refusing.{refusal_answer};
-ghost use Rattle.fts_faults.specs.Count.{Rose};
+ghost use Rattle.fts_faults.specs.Count.{CountsFault};
 ghost use Rattle.fts_log.specs.Frame.{payload_of};
 ghost use Rattle.fts_commits.specs.Fits.{CanCommit};
 ghost use Rattle.fts_rowcodec.specs.Payload.{IsWritten, commit_payload};
-ghost use Rattle.fts_steps.specs.State.{State, IsDatabase, with_commits};
-ghost use Rattle.fts_steps.specs.Step.{to_commit, to_find, after, MayAnswer, is_disk_fault};
+ghost use Rattle.fts_steps.specs.State.{State, with_commits};
+ghost use Rattle.fts_steps.specs.Step.{to_commit, to_find, MayAnswer, Steps};
 ghost use Rattle.fts_steps.specs.Answers.{commit_answer_of, view_answer_of};
 
 use crate::kept::Kept;
@@ -18,7 +19,8 @@ use fts_steps::{CommitError, View};
 use fts_types::Settings;
 use std::alloc::{AllocError, Global};
 
-/// A database that is open: its rows log, and its settings, its rows and the index of their words in memory.
+/// A database that is open: its rows log, and its settings, its rows and the index of their words
+/// in memory.
 #[derive(Drop)]
 pub struct Engine<D: Disk> {
     pub(crate) alloc: Global,
@@ -27,24 +29,46 @@ pub struct Engine<D: Disk> {
 }
 
 impl<D: Disk> Engine<D> {
-    ghost use Rattle.fts_engine.specs.Stands.{Stands, Reads, engine_limits, engine_faults, engine_device};
+    ghost use Rattle.fts_disk.specs.Crash.{Only};
+    ghost use Rattle.fts_disk.specs.Moments.{LeavesOnly};
+    ghost use Rattle.fts_engine.specs.Stands.{Keeps, Stands, MayHold, engine_log, engine_limits};
+    ghost use Rattle.fts_engine.specs.Stands.{engine_faults, engine_device};
 
-    /// Makes a commit of these changes, and returns its number, from 1. The changes fit the table: each INSERT has a text
-    /// for each column.
+    /// Makes a commit of these changes, and returns its number, from 1. The changes fit the table:
+    /// each INSERT has a text for each column. At `Ok` the commit is durable. All memory is taken
+    /// before the device is touched.
+    ///
+    /// A crash at any moment of the call leaves the database without the commit, or with it.
+    ///
+    /// # Errors
+    ///
+    /// After each of them the engine keeps what it kept.
+    ///
+    /// - `NoMemory` if memory ran out. The log is untouched.
+    /// - `Refused` exactly where the rows refuse the commit. The log is untouched.
+    /// - `LogFull` exactly where the log would end above its limit. The log is untouched.
+    /// - `DiskFault` if the device failed. Whether the commit is in the log is known from a new
+    ///   opening alone.
     pub fn commit(&mut self, changes: &[Change]) -> Result<u64, CommitError>
-        requires commit { (columns : ℕ) × CanCommit columns changes.now }
-        requires ready { IsTrue D.tells → (state : State) × Stands state self.old × CanCommit (length state.settings.columns) changes.now }
-        ensures answers { IsTrue D.tells → (state : State) → Stands state self.old → CanCommit (length state.settings.columns) changes.now
-            → MayAnswer (engine_limits self.old) state (to_commit changes.now) (commit_answer_of result) }
-        ensures stands { IsTrue D.tells → (state : State) → Stands state self.old → CanCommit (length state.settings.columns) changes.now
-            → is_disk_fault (commit_answer_of result) ≡ false
-            → Stands (after state (to_commit changes.now) (commit_answer_of result)) self.new }
-        ensures doubt { IsTrue D.tells → (state : State) → Stands state self.old → CanCommit (length state.settings.columns) changes.now
-            → IsErrOf result CommitError.DiskFault
-            → Reads state self.new ⊎ Reads (with_commits state (changes.now ∷ [])) self.new }
+        requires { (columns : ℕ) × CanCommit columns changes.now }
+        ensures steps { (state : State) → Keeps state self.old
+            → CanCommit (length state.settings.columns) changes.now
+            → Steps Keeps (engine_limits self.old) state
+            (to_commit changes.now) (commit_answer_of result) self.new }
+        ensures acknowledged { OnOk result (IsTrue D.tells → (state : State) → Stands state self.old
+            → CanCommit (length state.settings.columns) changes.now
+            → Stands (with_commits state (changes.now ∷ [])) self.new) }
+        ensures durable { OnOk result (IsTrue D.tells
+            → Only (D.seen (engine_device self.new)) (D.images (engine_device self.new))) }
+        ensures any_moment { IsTrue D.tells → (state : State) → Stands state self.old
+            → CanCommit (length state.settings.columns) changes.now
+            → LeavesOnly D.Disk (engine_device self.old) (engine_device self.new)
+            (MayHold state (changes.now ∷ [])) }
+        ensures untouched { IsErr result → (IsErrOf result CommitError.DiskFault → ⊥)
+            → engine_log self.new ≡ engine_log self.old }
         ensures limits { engine_limits self.new ≡ engine_limits self.old }
-        ensures failed { IsErrOf result CommitError.DiskFault → Rose (engine_faults self.old) (engine_faults self.new) }
-        ensures never_falls { engine_faults self.old ≤ engine_faults self.new }
+        ensures faults { CountsFault (IsErrOf result CommitError.DiskFault)
+            (engine_faults self.old) (engine_faults self.new) }
     {
         let next = match self.kept.plan(changes) {
             Ok(next) => next,
@@ -66,7 +90,7 @@ impl<D: Disk> Engine<D> {
 
     /// Looks for the rows that have the word.
     pub fn view(&self, word: &[u8]) -> Result<View, AllocError>
-        ensures { IsTrue D.tells → (state : State) → Stands state self.now
+        ensures { (state : State) → Keeps state self.now
             → MayAnswer (engine_limits self.now) state (to_find word.now) (view_answer_of result) }
     {
         let docs = self.kept.find(word)?;
@@ -78,7 +102,7 @@ impl<D: Disk> Engine<D> {
 
     /// How many commits there are.
     pub fn commits(&self) -> u64
-        ensures { IsTrue D.tells → (state : State) → Stands state self.now → result ≡ length state.commits }
+        ensures { (state : State) → Keeps state self.now → result ≡ length state.commits }
     {
         self.log.count().saturating_sub(1)
     }
@@ -87,16 +111,14 @@ impl<D: Disk> Engine<D> {
     pub fn settings(&self) -> &Settings
         ensures some { 1 ≤ length result.now.columns }
         ensures few { length result.now.columns ≤ 8 }
-        ensures settings { (state : State) → Stands state self.now → state.settings ≡ result.now }
+        ensures settings { (state : State) → Keeps state self.now → state.settings ≡ result.now }
     {
         self.kept.settings()
     }
 
-    /// The device, which reads as the database of what the engine stood for.
+    /// The device.
     pub fn close(self) -> D
-        ensures device { result ≡ engine_device self }
-        ensures reads { IsTrue D.tells → (state : State) → Reads state self → IsDatabase state (D.seen result 0) }
-        ensures faults { D.faults result ≡ engine_faults self }
+        ensures { result ≡ engine_device self }
     {
         let Engine {
             alloc: _,
@@ -113,12 +135,7 @@ fn refusal_of(error: PlanError) -> CommitError
 {
     match error {
         PlanError::NoMemory => CommitError::NoMemory,
-        PlanError::DuplicateKey { change, key } => CommitError::DuplicateKey { change, key },
-        PlanError::DocIdOrder { given, largest } => CommitError::DocIdOrder { given, largest },
-        PlanError::DocIdGap { given, largest } => CommitError::DocIdGap { given, largest },
-        PlanError::IdsFull { largest } => CommitError::IdsFull { largest },
-        PlanError::TextTooLong { change, length } => CommitError::TextTooLong { change, length },
-        PlanError::RowsFull { rows } => CommitError::RowsFull { rows },
+        PlanError::Refused { refusal } => CommitError::Refused { refusal },
     }
 }
 

@@ -80,8 +80,12 @@ impl Kept {
     /// What a commit makes of the rows and their words, with the room for it.
     pub fn plan(&mut self, changes: &[Change]) -> Result<NextKept, PlanError>
         requires { (columns : ℕ) × (1 ≤ columns) × (columns ≤ 8) × IsCommit columns changes.now }
-        ensures planned { IfOk result (λ next. (after : RowList) × (after_commit (kept_limits self.old) changes.now (kept_rows self.old) ≡ Ok after) × WillKeep self.new next after) }
-        ensures refused { IfErr result (IsNoPlan (after_commit (kept_limits self.old) changes.now (kept_rows self.old))) }
+        ensures planned { IfOk result
+            (λ next. (after : RowList)
+            × (after_commit (kept_limits self.old) changes.now (kept_rows self.old) ≡ Ok after)
+            × WillKeep self.new next after) }
+        ensures refused { IfErr result
+            (IsNoPlan (after_commit (kept_limits self.old) changes.now (kept_rows self.old))) }
         ensures rows { kept_rows self.new ≡ kept_rows self.old }
         ensures settings { kept_settings self.new ≡ kept_settings self.old }
         ensures limits { kept_limits self.new ≡ kept_limits self.old }
@@ -99,7 +103,8 @@ impl Kept {
     /// Keeps what a commit made of the rows and their words.
     pub fn install(&mut self, next: NextKept)
         requires { (after : RowList) × WillKeep self.old next after }
-        ensures rows { (after : RowList) → WillKeep self.old next after → kept_rows self.new ≡ after }
+        ensures rows { (after : RowList) → WillKeep self.old next after
+            → kept_rows self.new ≡ after }
         ensures settings { kept_settings self.new ≡ kept_settings self.old }
         ensures limits { kept_limits self.new ≡ kept_limits self.old }
     {
@@ -109,8 +114,10 @@ impl Kept {
     /// Makes a commit that stands in the log already.
     pub fn replay(&mut self, changes: &[Change]) -> Result<(), PlanError>
         requires { (columns : ℕ) × (1 ≤ columns) × (columns ≤ 8) × IsCommit columns changes.now }
-        ensures rows { OnOk result (after_commit (kept_limits self.old) changes.now (kept_rows self.old) ≡ Ok (kept_rows self.new)) }
-        ensures refused { IfErr result (IsNoPlan (after_commit (kept_limits self.old) changes.now (kept_rows self.old))) }
+        ensures rows { OnOk result (after_commit (kept_limits self.old) changes.now
+            (kept_rows self.old) ≡ Ok (kept_rows self.new)) }
+        ensures refused { IfErr result
+            (IsNoPlan (after_commit (kept_limits self.old) changes.now (kept_rows self.old))) }
         ensures settings { kept_settings self.new ≡ kept_settings self.old }
         ensures limits { kept_limits self.new ≡ kept_limits self.old }
     {
@@ -125,7 +132,8 @@ impl Kept {
 
     /// The document ids of the rows that have the word.
     pub fn find(&self, word: &[u8]) -> Result<DocIds, AllocError>
-        ensures { IfOk result (λ docs. docs ≡ scan (rules_of (kept_settings self.now)) word.now (kept_rows self.now)) }
+        ensures { IfOk result (λ docs. docs
+            ≡ scan (rules_of (kept_settings self.now)) word.now (kept_rows self.now)) }
     {
         self.index.find(word)
     }
@@ -133,10 +141,14 @@ impl Kept {
 
 // Puts what a commit made into the rows and the index.
 fn install_next(rows: &mut Rows, index: &mut Index, next: NextKept)
-    requires { (settings : Settings) × (after : RowList) × WillHold settings rows.old index.old next after }
-    ensures rows { (settings : Settings) (after : RowList) → WillHold settings rows.old index.old next after → rows_of rows.new ≡ after }
-    ensures index { (settings : Settings) (after : RowList) → Indexes (rules_of settings) (rows_of rows.old) index.old
-        → WillHold settings rows.old index.old next after → Indexes (rules_of settings) after index.new }
+    requires { (settings : Settings) × (after : RowList)
+        × WillHold settings rows.old index.old next after }
+    ensures rows { (settings : Settings) (after : RowList)
+        → WillHold settings rows.old index.old next after → rows_of rows.new ≡ after }
+    ensures index { (settings : Settings) (after : RowList)
+        → Indexes (rules_of settings) (rows_of rows.old) index.old
+        → WillHold settings rows.old index.old next after
+        → Indexes (rules_of settings) after index.new }
     ensures limits { limits_of rows.new ≡ limits_of rows.old }
 {
     let NextKept { plan, words } = next;

@@ -2,17 +2,17 @@
 #![tactic(auto)]
 
 mod create;
-mod created;
 mod engine;
 mod error;
 mod kept;
+mod laws;
 mod load;
 mod open;
 
-pub use create::{CreateError, LARGEST_LOG, create_engine};
-pub use created::{MAGIC, is_created};
+pub use create::{CreateError, LARGEST_LOG, MAGIC, create_engine};
 pub use engine::Engine;
 pub use error::OpenError;
+pub use laws::one_database;
 pub use open::open_engine;
 
 #[cfg(test)]

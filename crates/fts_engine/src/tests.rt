@@ -1,11 +1,13 @@
 ghost use Rattle.std.specs.Prelude.{◌≡◌, ◌≤◌, ℕ, length, IfOk, IfSome};
-ghost use Rattle.fts_commits.specs.Fits.{IsText, FitsColumns, FitsNumbers, IsPlainInsert, CanCommit};
+ghost use Rattle.fts_commits.specs.Fits.{IsText, FitsColumns, FitsNumbers, IsPlainInsert};
+ghost use Rattle.fts_commits.specs.Fits.{CanCommit};
 ghost use Rattle.fts_steps.specs.State.{State};
 ghost use Rattle.fts_engine.specs.Stands.{Stands};
 
 use super::*;
-use fts_commits::Change;
+use fts_commits::{Change, Refusal};
 use fts_disk::MemDisk;
+use fts_log::is_begun;
 use fts_steps::CommitError;
 use fts_types::{DocId, Key, Limits, Names, RowTexts, Settings};
 use std::alloc::{AllocError, Global};
@@ -170,9 +172,19 @@ const ANSWERS: [(Key, Key, u64, u64, Result<u64, CommitError>); 5] = [
         5,
         2,
         115,
-        Err(CommitError::DuplicateKey { change: 2, key: 5 }),
+        Err(CommitError::Refused {
+            refusal: Refusal::DuplicateKey { change: 2, key: 5 },
+        }),
     ),
-    (7, 3, 1, 115, Err(CommitError::RowsFull { rows: 2 })),
+    (
+        7,
+        3,
+        1,
+        115,
+        Err(CommitError::Refused {
+            refusal: Refusal::RowsFull { rows: 2 },
+        }),
+    ),
     (7, 3, 2, 114, Err(CommitError::LogFull { end: 115 })),
 ];
 
@@ -192,11 +204,11 @@ fn a_commit_is_answered(rt: HostRuntime) -> Result<(), Fail> {
 fn a_database_is_created_once(rt: HostRuntime) -> Result<(), Fail> {
     let alloc = rt.alloc();
     let mut rows = empty_disk(alloc)?;
-    assert!(rt; !is_created(&mut rows)?);
+    assert!(rt; !is_begun(&mut rows)?);
     let opened = open(alloc, empty_disk(alloc)?, 2, 4_096);
     assert_eq!(rt; opened.err(), Some(OpenError::NotCreated));
     let mut rows = create(alloc, rows)?;
-    assert!(rt; is_created(&mut rows)?);
+    assert!(rt; is_begun(&mut rows)?);
     assert_eq!(rt;
         create(alloc, rows).err(),
         Some(CreateError::AlreadyCreated)

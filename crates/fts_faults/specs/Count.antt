@@ -1,10 +1,15 @@
-use Rattle.std.specs.Prelude.{ℕ, ◌-◌, ◌^◌, ◌<◌, ◌≤◌, ◌⊎◌, Result, IsErr}
+use Rattle.std.specs.Prelude.{◌≡◌, ℕ, ◌-◌, ◌^◌, ◌<◌, ◌≤◌, ◌⊎◌, Result, IsErr}
 
 -- the count rose between two moments: it is greater, or stands at the last value of a u64
 abbrev pub Rose : ℕ → ℕ → Type 0
 Rose before after = (before < after) ⊎ (2 ^ 64 - 1 ≤ after)
 
--- over a call the count does not fall, and it rose if the call failed
-pub record HasCause {T E : Type 0} (before after : ℕ) (result : Result T E) : Type 0 where
+-- a fault is counted exactly where it is told: the count then rose, and else it stands as it stood
+pub record CountsFault (told : Type 0) (before after : ℕ) : Type 0 where
+  pub rose : told → Rose before after
+  pub calm : (told → ⊥) → after ≡ before
   pub never_falls : before ≤ after
-  pub rose : IsErr result → Rose before after
+
+-- a call counts a fault exactly where it fails
+abbrev pub HasCause : {T E : Type 0} → ℕ → ℕ → Result T E → Type 0
+HasCause before after result = CountsFault (IsErr result) before after

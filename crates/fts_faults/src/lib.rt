@@ -1,7 +1,8 @@
 //! A failure of the outside, and what a count of faults says of it.
 //!
-//! Files and streams can fail at any call. Each object of the outside counts its faults, and a call answers
-//! `Failed` only where that count rose in it. So a failure has a cause that its caller can see.
+//! Files and streams can fail at any call. Each object of the outside counts its faults, and a call
+//! answers `Failed` only where that count rose in it. So a failure has a cause that its caller can
+//! see.
 #![tactic(auto)]
 
 use std::error::Error;

@@ -1,15 +1,16 @@
-ghost use Rattle.std.specs.Prelude.{◌≡◌, ◌^◌, ◌<◌, ◌≤◌, [], false, length, IfOk, OnOk, IsErr};
+ghost use Rattle.std.specs.Prelude.{◌≡◌, ◌^◌, ◌<◌, ◌≤◌, [], false, length};
+ghost use Rattle.std.specs.Prelude.{IfOk, OnOk, IsErr, IsSome};
 ghost use Rattle.fts_faults.specs.Count.{HasCause};
 
 use crate::faults::Faults;
 use crate::file::HostFile;
-use crate::folder::Folder;
+use crate::folder::{Folder, LOCK_NAME};
+use crate::refusal::{Fault, Place, Refusal, refused};
 use fts_disk::{Disk, Failed};
 use std::alloc::{AllocError, Global};
 use std::fs::File;
-use std::io;
-use std::io::ErrorKind;
 use std::rt::Files;
+use std::sync::Arc;
 
 const ROWS_NAMES: [&str; 1] = ["rows.log"];
 
@@ -23,76 +24,115 @@ const INDEX_NAMES: [&str; 7] = [
     "index_6",
 ];
 
-/// A device over the files of a folder. It tells nothing of its content, and counts each error of the system.
+const ROWS_MAGIC: [u8; 8] = *b"FTSROWS1";
+
+const INDEX_MAGIC: [u8; 8] = *b"FTSINDX1";
+
+/// A device over the files of a folder. It tells nothing of its content, and counts each error of
+/// the system.
 ///
-/// - Making a device touches nothing. A file is opened at the first call that needs it. One that isn't there has
-///   length 0, and is made at the first write to it, with the folder if that isn't there (but not what the folder
-///   lies in). Once a file was found absent, one that another process makes is left to that process: a write to it
-///   is a fault.
-/// - A read or a write that reaches past the end as the `Disk` forbids it, a cut that lengthens, and a number without
-///   a file are faults.
-/// - A read and a write go on until all bytes are through, also after a short step or a signal. A write that fails may
-///   have written some.
-/// - A sync has the system make durable (`fsync`) each file that was written or cut since the last one, and after a
-///   file was made the folder and the one that it lies in. The first sync does so for every file that is there, since
-///   a process that was stopped may have left bytes or names that aren't durable. Where the `fsync` of a file fails,
-///   each later sync fails too.
-/// - The device of rows takes an exclusive lock (`flock`) on `rows.log` as it opens or makes it, and holds it while it
-///   lives. Where another device holds it, each call is a fault, and writes and cuts nothing.
+/// - Making a device touches nothing. A file is opened at the first call that needs it. One that
+///   isn't there has length 0, and is made at the first write to it, with the folder if that isn't
+///   there (but not what the folder lies in). Once a file was found absent, one that another
+///   process makes is left to that process: a write to it is a fault.
+/// - Both devices of a folder share one lock, an exclusive `flock` on `rows.log`. The first call of
+///   either takes it, if the file is there; else the first that writes or cuts makes the file and
+///   takes it. It is held while a device lives. Where another process holds it, each call is a
+///   fault, and writes and cuts nothing.
+/// - A read or a write that reaches past the end as the `Disk` forbids it, a cut that lengthens, a
+///   number without a file, and a folder without a name are faults.
+/// - File 0 is a log. A cut of it to no bytes is a fault where it has more than 9 bytes and does
+///   not begin with the device's magic, `FTSROWS1` or `FTSINDX1`: somebody else's file.
+/// - A read and a write are made at a place, with no cursor, and go on until all bytes are through,
+///   also after a short step or a signal. A write that fails may have written some.
+/// - A sync has the system make durable (`fsync`) each file that was written or cut since the last
+///   one, and after a file was made the folder and the one that it lies in. The first sync does so
+///   for every file that is there, since a process that was stopped may have left bytes or names
+///   that aren't durable. Once a sync has failed, whatever failed in it, each later one fails too.
 #[derive(Drop)]
 pub struct HostDisk<R> {
     rt: R,
-    folder: Folder,
+    folder: Arc<Folder, Global>,
     files: Vec<HostFile>,
-    faults: Faults,
+    magic: [u8; 8],
+    failed_sync: Option<Fault>,
+    faults: Faults<Fault>,
 }
 
 impl<R> HostDisk<R> {
     ghost use Rattle.fts_host.specs.Host.{host_faults, host_count};
 
-    /// The device of rows of a folder: file 0 is `rows.log`. It has no faults yet.
-    pub fn rows(alloc: Global, rt: R, folder: &str) -> Result<HostDisk<R>, AllocError>
+    /// The device of rows and the device of the index of a folder, with no faults yet.
+    ///
+    /// File 0 of the first is `rows.log`. File 0 of the second is `index.log`, and files 1 to 6 are
+    /// `index_1` to `index_6`.
+    pub fn pair(
+        alloc: Global,
+        rows_rt: R,
+        index_rt: R,
+        folder: &str,
+    ) -> Result<(HostDisk<R>, HostDisk<R>), AllocError>
     where
         R: Drop,
-        ensures files { IfOk result (λ disk. host_count disk ≡ 1) }
-        ensures faults { IfOk result (λ disk. host_faults disk ≡ 0) }
+        ensures files { IfOk result (λ both. (host_count both.0 ≡ 1) × (host_count both.1 ≡ 7)) }
+        ensures faults { IfOk result (λ both. (host_faults both.0 ≡ 0) × (host_faults both.1 ≡ 0)) }
     {
-        HostDisk::over(alloc, rt, folder, &ROWS_NAMES, true)
+        let shared = Arc::new(alloc, Folder::new(alloc, folder)?)?;
+        let other = Arc::try_clone(&shared)?;
+        let rows = HostDisk::over(alloc, rows_rt, shared, &ROWS_NAMES, ROWS_MAGIC)?;
+        let index = HostDisk::over(alloc, index_rt, other, &INDEX_NAMES, INDEX_MAGIC)?;
+        Ok((rows, index))
     }
 
-    /// The device of the index of a folder: file 0 is `index.log`, and files 1 to 6 are `index_1` to `index_6`. It has
-    /// no faults yet.
-    pub fn index(alloc: Global, rt: R, folder: &str) -> Result<HostDisk<R>, AllocError>
-    where
-        R: Drop,
-        ensures files { IfOk result (λ disk. host_count disk ≡ 7) }
-        ensures faults { IfOk result (λ disk. host_faults disk ≡ 0) }
+    /// The first call that failed, of those that `faults` counts.
+    pub fn refusal(&self) -> Option<Refusal<'_>>
+        ensures { 0 < host_faults self.now → IsSome result }
     {
-        HostDisk::over(alloc, rt, folder, &INDEX_NAMES, false)
+        match self.faults.first {
+            Some(fault) => Some(Refusal {
+                what: self.name_of(fault.place),
+                error: fault.error,
+            }),
+            None => None,
+        }
     }
 
-    // A device over files of these names.
+    // What a place is called.
+    fn name_of(&self, place: Place) -> &str {
+        match place {
+            Place::File(number) => match self.files.get(number as usize) {
+                Some(file) => file.name(),
+                None => self.folder.name_of(place),
+            },
+            _ => self.folder.name_of(place),
+        }
+    }
+
+    // A device over files of these names, the first of them a log with this magic.
     fn over(
         alloc: Global,
         rt: R,
-        folder: &str,
+        folder: Arc<Folder, Global>,
         names: &[&str],
-        takes_lock: bool,
+        magic: [u8; 8],
     ) -> Result<HostDisk<R>, AllocError>
     where
         R: Drop,
+        requires { length names.now < 16 }
         ensures files { IfOk result (λ disk. host_count disk ≡ length names.now) }
         ensures faults { IfOk result (λ disk. host_faults disk ≡ 0) }
     {
-        let folder = Folder::new(alloc, folder)?;
         let mut files = Vec::with_capacity(alloc, names.len())?;
         for name in names {
-            files.push(HostFile::new(folder.join(alloc, name)?, takes_lock))?;
+            let path = folder.join(alloc, name)?;
+            files.push(HostFile::new(path, files.len() as u32, *name == LOCK_NAME))?;
         }
         Ok(HostDisk {
             rt,
             folder,
             files,
+            magic,
+            failed_sync: None,
             faults: Faults::none(),
         })
     }
@@ -120,7 +160,7 @@ impl<R: Files<File = File>> Disk for HostDisk<R> {
         ensures no_fault { OnOk result (host_faults self.new ≡ host_faults self.old) }
     {
         let length = match self.files.get_mut(file as usize) {
-            Some(file) => file.len(&self.rt),
+            Some(file) => file.len(&self.rt, &self.folder),
             None => Err(no_such_file()),
         };
         self.faults.counted(length)
@@ -132,7 +172,7 @@ impl<R: Files<File = File>> Disk for HostDisk<R> {
         ensures no_fault { OnOk result (host_faults self.new ≡ host_faults self.old) }
     {
         let read = match self.files.get_mut(file as usize) {
-            Some(file) => file.read_at(&self.rt, at, buf),
+            Some(file) => file.read_at(&self.rt, &self.folder, at, buf),
             None => Err(no_such_file()),
         };
         self.faults.counted(read)
@@ -144,7 +184,7 @@ impl<R: Files<File = File>> Disk for HostDisk<R> {
         ensures no_fault { OnOk result (host_faults self.new ≡ host_faults self.old) }
     {
         let written = match self.files.get_mut(file as usize) {
-            Some(file) => file.write_at(&self.rt, &mut self.folder, at, bytes),
+            Some(file) => file.write_at(&self.rt, &self.folder, at, bytes),
             None => Err(no_such_file()),
         };
         self.faults.counted(written)
@@ -155,8 +195,9 @@ impl<R: Files<File = File>> Disk for HostDisk<R> {
         ensures cause { HasCause (host_faults self.old) (host_faults self.new) result }
         ensures no_fault { OnOk result (host_faults self.new ≡ host_faults self.old) }
     {
+        let magic = if file == 0 { Some(self.magic) } else { None };
         let cut = match self.files.get_mut(file as usize) {
-            Some(file) => file.cut(&self.rt, len),
+            Some(found) => cut_file(&self.rt, &self.folder, found, len, magic),
             None => Err(no_such_file()),
         };
         self.faults.counted(cut)
@@ -166,7 +207,13 @@ impl<R: Files<File = File>> Disk for HostDisk<R> {
         ensures cause { HasCause (host_faults self.old) (host_faults self.new) result }
         ensures no_fault { OnOk result (host_faults self.new ≡ host_faults self.old) }
     {
-        let synced = sync_all(&self.rt, &mut self.files, &mut self.folder);
+        let synced = match self.failed_sync {
+            Some(fault) => Err(fault),
+            None => sync_all(&self.rt, &self.folder, &mut self.files),
+        };
+        if let Err(fault) = synced {
+            self.failed_sync = Some(fault);
+        }
         self.faults.counted(synced)
     }
 
@@ -181,19 +228,35 @@ impl<R: Files<File = File>> Disk for HostDisk<R> {
     ghost only_now = { λ _ _ _ _. tt };
 }
 
+// Cuts a file. A log, which has a magic, is cut to none only if it is one of ours.
+fn cut_file<R: Files<File = File>>(
+    rt: &R,
+    folder: &Folder,
+    file: &mut HostFile,
+    len: u64,
+    magic: Option<[u8; 8]>,
+) -> Result<(), Fault> {
+    if len == 0 {
+        if let Some(magic) = magic {
+            file.refuse_foreign(rt, folder, &magic)?;
+        }
+    }
+    file.cut(rt, folder, len)
+}
+
 // Makes all files durable, and then their names.
 fn sync_all<R: Files<File = File>>(
     rt: &R,
+    folder: &Folder,
     files: &mut [HostFile],
-    folder: &mut Folder,
-) -> io::Result<()> {
+) -> Result<(), Fault> {
     for file in files.iter_mut() {
-        file.sync(rt)?;
+        file.sync(rt, folder)?;
     }
     folder.sync(rt)
 }
 
 // The device has no file of this number.
-fn no_such_file() -> io::Error {
-    io::Error::from(ErrorKind::NotFound)
+fn no_such_file() -> Fault {
+    refused(Place::Folder, "no file of this number")
 }

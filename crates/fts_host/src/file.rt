@@ -1,11 +1,18 @@
 ghost use Rattle.std.specs.Prelude.{◌<◌, ◌^◌, IfOk};
 
 use crate::folder::Folder;
-use std::fs::{File, OpenOptions};
+use crate::lock::{make_new, open_existing};
+use crate::refusal::{Fault, Place, refused};
+use std::fs::File;
 use std::io;
-use std::io::{ErrorKind, Read, Seek, SeekFrom, Write};
+use std::io::ErrorKind;
+use std::os::unix::fs::FileExt;
 use std::path::PathBuf;
 use std::rt::Files;
+
+// How many bytes a file may have and still be cut to none whatever they are: a magic and a closed
+// gate. A making that was cut short leaves no more.
+const BEGUN: u64 = 9;
 
 // Whether the file is there, as far as it was looked for.
 #[derive(Debug, Drop)]
@@ -13,41 +20,49 @@ enum State {
     Unopened,
     Absent,
     Open(File),
+    // The file that the lock holds: it is there where the lock is held.
+    Locked,
 }
 
 // A file of a device. It is opened at the first call that needs it, and made at the first write.
 #[derive(Debug, Drop)]
 pub struct HostFile {
     path: PathBuf,
-    takes_lock: bool,
+    number: u32,
     state: State,
     // Whether it may hold bytes that aren't durable.
     is_pending: bool,
-    // Whether a sync of it failed. The system may then have dropped what was pending.
-    is_lost: bool,
 }
 
 impl HostFile {
-    // The file at a path. One that takes the lock is held alone from its opening on.
-    pub fn new(path: PathBuf, takes_lock: bool) -> HostFile {
+    // The file of this number at a path.
+    pub fn new(path: PathBuf, number: u32, is_lock: bool) -> HostFile {
         HostFile {
             path,
-            takes_lock,
-            state: State::Unopened,
+            number,
+            state: if is_lock {
+                State::Locked
+            } else {
+                State::Unopened
+            },
             // What another process left may not be durable.
             is_pending: true,
-            is_lost: false,
         }
     }
 
+    // The file's path.
+    pub fn name(&self) -> &str {
+        self.path.as_str()
+    }
+
     // Its length in bytes, which is 0 where it isn't there.
-    pub fn len<R: Files<File = File>>(&mut self, rt: &R) -> io::Result<u64>
+    pub fn len<R: Files<File = File>>(&mut self, rt: &R, folder: &Folder) -> Result<u64, Fault>
         ensures { IfOk result (λ n. n < 2 ^ 63) }
     {
-        self.find(rt)?;
-        match &self.state {
-            State::Open(file) => length_of(file),
-            _ => Ok(0),
+        self.find(rt, folder)?;
+        match self.opened(folder) {
+            Some(file) => length_of(file, self.number),
+            None => Ok(0),
         }
     }
 
@@ -55,131 +70,147 @@ impl HostFile {
     pub fn read_at<R: Files<File = File>>(
         &mut self,
         rt: &R,
+        folder: &Folder,
         at: u64,
         buf: &mut [u8],
-    ) -> io::Result<()> {
-        let length = self.len(rt)?;
+    ) -> Result<(), Fault> {
+        let length = self.len(rt, folder)?;
         if length < at || length - at < buf.len() as u64 {
-            return Err(io::Error::from(ErrorKind::UnexpectedEof));
+            return Err(self.fault(io::Error::from(ErrorKind::UnexpectedEof)));
         }
-        match &self.state {
-            State::Open(file) => read_from(file, at, buf),
-            _ => Ok(()),
+        match self.opened(folder) {
+            Some(file) => file.read_exact_at(buf, at).map_err(|e| self.fault(e)),
+            None => Ok(()),
         }
     }
 
-    // Writes from a place on, which is at most the length. It makes the file, and the folder, if they aren't there.
+    // Writes from a place on, which is at most the length. It makes the file, and the folder, if
+    // they aren't there.
     pub fn write_at<R: Files<File = File>>(
         &mut self,
         rt: &R,
-        folder: &mut Folder,
+        folder: &Folder,
         at: u64,
         bytes: &[u8],
-    ) -> io::Result<()> {
-        if self.len(rt)? < at {
-            return Err(io::Error::from(ErrorKind::InvalidInput));
+    ) -> Result<(), Fault> {
+        if self.len(rt, folder)? < at {
+            return Err(self.fault(io::Error::from(ErrorKind::InvalidInput)));
         }
         self.make(rt, folder)?;
         self.is_pending = true;
-        match &self.state {
-            State::Open(file) => write_to(file, at, bytes),
-            _ => Err(io::Error::from(ErrorKind::NotFound)),
+        match self.opened(folder) {
+            Some(file) => file.write_all_at(bytes, at).map_err(|e| self.fault(e)),
+            None => Err(self.fault(io::Error::from(ErrorKind::NotFound))),
         }
     }
 
     // Cuts the file to a length, which is at most its own.
-    pub fn cut<R: Files<File = File>>(&mut self, rt: &R, len: u64) -> io::Result<()> {
-        if self.len(rt)? < len {
-            return Err(io::Error::from(ErrorKind::InvalidInput));
+    pub fn cut<R: Files<File = File>>(
+        &mut self,
+        rt: &R,
+        folder: &Folder,
+        len: u64,
+    ) -> Result<(), Fault> {
+        if self.len(rt, folder)? < len {
+            return Err(self.fault(io::Error::from(ErrorKind::InvalidInput)));
         }
+        if self.opened(folder).is_none() {
+            return Ok(());
+        }
+        folder.hold(rt)?;
         self.is_pending = true;
-        match &self.state {
-            State::Open(file) => file.set_len(len),
-            _ => Ok(()),
+        match self.opened(folder) {
+            Some(file) => file.set_len(len).map_err(|e| self.fault(e)),
+            None => Ok(()),
         }
     }
 
-    // Makes the file's bytes durable, if some may not be. After a failure no later sync of it succeeds, since the
-    // system could answer one though it dropped the bytes.
-    pub fn sync<R: Files<File = File>>(&mut self, rt: &R) -> io::Result<()> {
+    // Refuses a file that has more bytes than a log that was just made, and does not begin as a log
+    // with this magic.
+    pub fn refuse_foreign<R: Files<File = File>>(
+        &mut self,
+        rt: &R,
+        folder: &Folder,
+        magic: &[u8; 8],
+    ) -> Result<(), Fault> {
+        if self.len(rt, folder)? <= BEGUN {
+            return Ok(());
+        }
+        let mut front = [0u8; 8];
+        self.read_at(rt, folder, 0, &mut front)?;
+        if front != *magic {
+            return Err(refused(Place::File(self.number), "not a log of fts"));
+        }
+        Ok(())
+    }
+
+    // Makes the file's bytes durable, if some may not be.
+    pub fn sync<R: Files<File = File>>(&mut self, rt: &R, folder: &Folder) -> Result<(), Fault> {
         if !self.is_pending {
             return Ok(());
         }
-        self.find(rt)?;
-        if self.is_lost {
-            return Err(io::Error::from(ErrorKind::Other));
-        }
-        if let State::Open(file) = &self.state {
-            self.is_lost = true;
-            file.sync_all()?;
-            self.is_lost = false;
+        self.find(rt, folder)?;
+        if let Some(file) = self.opened(folder) {
+            file.sync_all().map_err(|e| self.fault(e))?;
         }
         self.is_pending = false;
         Ok(())
     }
 
-    // Opens the file, if it wasn't looked for yet.
-    fn find<R: Files<File = File>>(&mut self, rt: &R) -> io::Result<()> {
+    // Opens the file, if it wasn't looked for yet, and takes the lock before.
+    fn find<R: Files<File = File>>(&mut self, rt: &R, folder: &Folder) -> Result<(), Fault> {
+        folder.look(rt)?;
         if let State::Unopened = self.state {
             self.state = match open_existing(rt, &self.path) {
-                Ok(file) => State::Open(self.claim(file)?),
+                Ok(file) => State::Open(file),
                 Err(e) if e.kind() == ErrorKind::NotFound => State::Absent,
-                Err(e) => return Err(e),
+                Err(e) => return Err(self.fault(e)),
             };
         }
         Ok(())
     }
 
-    // Makes the file, if it isn't there. One that another process has made since is left to it, and refused.
-    fn make<R: Files<File = File>>(&mut self, rt: &R, folder: &mut Folder) -> io::Result<()> {
+    // Holds the lock, and makes the file, if it isn't there.
+    fn make<R: Files<File = File>>(&mut self, rt: &R, folder: &Folder) -> Result<(), Fault> {
+        folder.hold(rt)?;
         if let State::Absent = self.state {
             folder.make(rt)?;
-            let file = make_new(rt, &self.path)?;
-            self.state = State::Open(self.claim(file)?);
+            let file = make_new(rt, &self.path).map_err(|e| self.fault(e))?;
+            self.state = State::Open(file);
         }
         Ok(())
     }
 
-    // Takes the lock on a file that was just opened, if it is to be held alone.
-    fn claim(&self, file: File) -> io::Result<File> {
-        if self.takes_lock {
-            file.try_lock()?;
+    // The file, where it is open.
+    fn opened<'a>(&'a self, folder: &'a Folder) -> Option<&'a File> {
+        match &self.state {
+            State::Open(file) => Some(file),
+            State::Locked => folder.locked_file(),
+            State::Unopened | State::Absent => None,
         }
-        Ok(file)
     }
-}
 
-fn open_existing<R: Files<File = File>>(rt: &R, path: &PathBuf) -> io::Result<File> {
-    OpenOptions::new().read(true).write(true).open(rt, path)
-}
-
-fn make_new<R: Files<File = File>>(rt: &R, path: &PathBuf) -> io::Result<File> {
-    OpenOptions::new()
-        .read(true)
-        .write(true)
-        .create_new(true)
-        .open(rt, path)
+    // An error of the system at this file.
+    fn fault(&self, error: io::Error) -> Fault {
+        Fault {
+            place: Place::File(self.number),
+            error,
+        }
+    }
 }
 
 // The file's length, which is below 2^63 bytes.
-fn length_of(file: &File) -> io::Result<u64>
+fn length_of(file: &File, number: u32) -> Result<u64, Fault>
     ensures { IfOk result (λ n. n < 2 ^ 63) }
 {
-    let length = file.metadata()?.len();
+    let place = Place::File(number);
+    let length = match file.metadata() {
+        Ok(metadata) => metadata.len(),
+        Err(error) => return Err(Fault { place, error }),
+    };
     if length >= 1 << 63 {
-        return Err(io::Error::from(ErrorKind::InvalidData));
+        let error = io::Error::from(ErrorKind::InvalidData);
+        return Err(Fault { place, error });
     }
     Ok(length)
-}
-
-fn read_from(file: &File, at: u64, buf: &mut [u8]) -> io::Result<()> {
-    let mut reader = file;
-    reader.seek(SeekFrom::Start(at))?;
-    reader.read_exact(buf)
-}
-
-fn write_to(file: &File, at: u64, bytes: &[u8]) -> io::Result<()> {
-    let mut writer = file;
-    writer.seek(SeekFrom::Start(at))?;
-    writer.write_all(bytes)
 }

@@ -1,6 +1,7 @@
-ghost use Rattle.std.specs.Prelude.{◌≡◌, ◌<◌, ◌≤◌, [], false, length, IfOk};
+ghost use Rattle.std.specs.Prelude.{◌≡◌, ◌<◌, ◌≤◌, [], false, length, IfOk, IsSome};
 
 use crate::faults::Faults;
+use crate::refusal::Refusal;
 use fts_faults::Failed;
 use fts_io::{Sink, Source};
 use std::io;
@@ -8,12 +9,12 @@ use std::io::{ErrorKind, Read, Stdin, Stdout, Write};
 
 /// A source over a reader of std, as standard input.
 ///
-/// A read is one call of the system, for as many bytes as the buffer takes. One that a signal interrupts is made
-/// again. Any other error of the system is a fault.
+/// A read is one call of the system, for as many bytes as the buffer takes. One that a signal
+/// interrupts is made again. Any other error of the system is a fault.
 #[derive(Drop)]
 pub struct StdSource<I = Stdin> {
     reader: I,
-    faults: Faults,
+    faults: Faults<io::Error>,
 }
 
 impl<I> StdSource<I> {
@@ -26,6 +27,19 @@ impl<I> StdSource<I> {
         StdSource {
             reader,
             faults: Faults::none(),
+        }
+    }
+
+    /// The first call that failed, of those that were counted.
+    pub fn refusal(&self) -> Option<Refusal<'_>>
+        ensures { 0 < source_faults self.now → IsSome result }
+    {
+        match self.faults.first {
+            Some(error) => Some(Refusal {
+                what: "standard input",
+                error,
+            }),
+            None => None,
         }
     }
 }
@@ -47,12 +61,13 @@ impl<I: Read> Source for StdSource<I> {
 
 /// A sink over a writer of std, as standard output.
 ///
-/// A write is one call of the system with the whole piece, of which it may take a part. One that a signal interrupts
-/// is made again. Any other error of the system is a fault, and so is a call that takes nothing.
+/// A write is one call of the system with the whole piece, of which it may take a part. One that a
+/// signal interrupts is made again. Any other error of the system is a fault, and so is a call that
+/// takes nothing.
 #[derive(Drop)]
 pub struct StdSink<O = Stdout> {
     writer: O,
-    faults: Faults,
+    faults: Faults<io::Error>,
 }
 
 impl<O> StdSink<O> {
@@ -65,6 +80,19 @@ impl<O> StdSink<O> {
         StdSink {
             writer,
             faults: Faults::none(),
+        }
+    }
+
+    /// The first call that failed, of those that were counted.
+    pub fn refusal(&self) -> Option<Refusal<'_>>
+        ensures { 0 < sink_faults self.now → IsSome result }
+    {
+        match self.faults.first {
+            Some(error) => Some(Refusal {
+                what: "standard output",
+                error,
+            }),
+            None => None,
         }
     }
 }

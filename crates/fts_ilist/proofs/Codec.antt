@@ -1,7 +1,7 @@
 -- What the loops over the bytes of a number keep.
 use Rattle.std.proofs.Common.{◌≡◌, ℕ, zero, suc, ◌+◌, ◌-◌, ◌*◌, ◌/◌, ◌%◌, ◌^◌, ◌<◌, ◌≤◌, List, [], ◌∷◌, ◌++◌, length, set, drop, refl, sym, ap, ◌∙◌, append_assoc, arith, inl, inr}
 use Rattle.std.proofs.lemmas.Bool.{cases_lt}
-use Rattle.std.proofs.lemmas.List.{drop-set, length-append, length-drop, append_cancel_left, nil_from_length}
+use Rattle.std.proofs.lemmas.List.{drop-set, drop_all, length-append, length-drop, append_cancel_left, nil_from_length}
 use Rattle.fts_ilist.specs.Number.{number_bytes, BeginsWithNumber}
 use Rattle.fts_ilist.specs.Spelling.{Item}
 use Rattle.fts_ilist.specs.Spelling.Item.{increase, document_end}
@@ -111,6 +111,28 @@ nothing_after v n others e = absurd cc
 pub none_at_end : (bytes : List ℕ) (i value : ℕ) → TakesGroups bytes i value → drop i bytes ≡ [] → BeginsWithNumber bytes → ⊥
 none_at_end bytes i value t e b =
     nothing_after value b.0 (items_after 0 b.1) (sym (ap (items_after value) e) ∙ number_read bytes i value b.0 b.1 t b.3)
+
+-- in bytes that begin with a number: the place is within, and the next group may follow
+pub number_within : (bytes : List ℕ) (i value : ℕ) → TakesGroups bytes i value → BeginsWithNumber bytes → i < length bytes
+number_within bytes i value t b =
+    elim (cases_lt i (length bytes)) [
+      | inl lt ↦ lt
+      | inr le ↦ absurd (none_at_end bytes i value t (drop_all i bytes le) b)
+    ]
+
+pub value_fits : (bytes : List ℕ) (i value : ℕ) → TakesGroups bytes i value → BeginsWithNumber bytes → value < 2 ^ 57
+value_fits bytes i value t b =
+    elim (cases_lt value (2 ^ 57)) [
+      | inl lt ↦ lt
+      | inr le ↦ absurd (none_too_large bytes i value t le b)
+    ]
+
+pub group_positive : (bytes : List ℕ) (i value byte : ℕ) → TakesGroups bytes i value → drop i bytes ≡ byte ∷ drop (i + 1) bytes → BeginsWithNumber bytes → 0 < value + byte
+group_positive bytes i value byte t e b =
+    elim (cases_lt 0 (value + byte)) [
+      | inl lt ↦ lt
+      | inr le ↦ absurd (none_from_zero bytes i value byte t e (omega arith) b)
+    ]
 
 pub one_number : (m n : ℕ) (x y : List ℕ) → number_bytes m ++ x ≡ number_bytes n ++ y → (m ≡ n) × (x ≡ y)
 one_number m n x y e =

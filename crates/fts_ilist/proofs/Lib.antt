@@ -10,3 +10,7 @@ pub mod Tails
 pub mod Lists
 pub mod Merging
 pub mod Queues
+pub mod Ends
+pub mod Cursors
+pub mod Kept
+pub mod Packs

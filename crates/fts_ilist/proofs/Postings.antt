@@ -1,5 +1,5 @@
 -- Documents as items, and reading them back.
-use Rattle.std.proofs.Common.{◌≡◌, ℕ, ◌+◌, ◌-◌, ◌^◌, ◌<◌, ◌≤◌, List, [], ◌∷◌, ◌++◌, refl, sym, ap, ◌∙◌, append_assoc, arith}
+use Rattle.std.proofs.Common.{◌≡◌, ℕ, ◌+◌, ◌-◌, ◌^◌, ◌<◌, ◌≤◌, List, [], ◌∷◌, ◌++◌, get_or, refl, sym, ap, ◌∙◌, append_assoc, arith}
 use Rattle.std.proofs.lemmas.List.{append-nil}
 use Rattle.fts_ilist.specs.Spelling.{Posting, Item, items_bytes, position_items, posting_items, postings_items, PositionsFrom, ArePositions, PostingsAfter, id_at_end, next_at_end}
 use Rattle.fts_ilist.specs.Spelling.Item.{increase, document_end}
@@ -13,7 +13,7 @@ nothing : items_after 0 [] ≡ []
 unfolding items_after
 nothing = refl
 
-positions_again : (id next : ℕ) (ps qs : List ℕ) (items : List Item) → PositionsFrom next qs
+pub positions_again : (id next : ℕ) (ps qs : List ℕ) (items : List Item) → PositionsFrom next qs
     → postings_of (inside id next) ps (position_items next qs ++ document_end ∷ items) ≡ record { id = id; positions = ps ++ qs } ∷ postings_of (between id) [] items
 unfolding postings_of
 positions_again id next ps [] items h =
@@ -42,6 +42,27 @@ positions_in-bytes next qs h =
     let whole : items_after 0 (items_bytes (position_items next qs)) ≡ position_items next qs
     = ap (items_after 0) (sym (append-nil (items_bytes (position_items next qs)))) ∙ reads_items (position_items next qs) [] ∙ ap (λ (w : List Item). position_items next qs ++ w) nothing ∙ append-nil (position_items next qs) in
     ap (positions_of next) whole ∙ positions_back next qs h
+
+positions_back_before : (next : ℕ) (qs : List ℕ) (items : List Item) → PositionsFrom next qs → ((n : ℕ) → positions_of n items ≡ []) → positions_of next (position_items next qs ++ items) ≡ qs
+unfolding positions_of
+positions_back_before next [] items h none = none next
+positions_back_before next (q ∷ qs) items h none =
+    let e : next + (q + 1 - next) ≡ q + 1 = omega (arith, h.0) in
+    let f : q + 1 - 1 ≡ q = omega arith in
+    ap (λ (w : ℕ). (w - 1) ∷ positions_of w (position_items (q + 1) qs ++ items)) e
+    ∙ ap (λ (w : ℕ). w ∷ positions_of (q + 1) (position_items (q + 1) qs ++ items)) f
+    ∙ ap (λ (w : List ℕ). q ∷ w) (positions_back_before (q + 1) qs items h.2 none)
+
+-- no positions at a document's end
+pub no_positions_at_end : (behind : List ℕ) (n : ℕ) → get_or behind 0 0 ≡ 0 → positions_in n behind ≡ []
+unfolding positions_of items_after
+no_positions_at_end [] n e = refl
+no_positions_at_end (b ∷ bs) n e = ap (λ (w : ℕ). positions_of n (items_after 0 (w ∷ bs))) e
+
+pub positions_in-before : (next : ℕ) (qs behind : List ℕ) → PositionsFrom next qs → get_or behind 0 0 ≡ 0 → positions_in next (items_bytes (position_items next qs) ++ behind) ≡ qs
+positions_in-before next qs behind h e =
+    ap (positions_of next) (reads_items (position_items next qs) behind)
+    ∙ positions_back_before next qs (items_after 0 behind) h (λ n. no_positions_at_end behind n e)
 
 pub position_items-append : (next : ℕ) (a b : List ℕ) → position_items next (a ++ b) ≡ position_items next a ++ position_items (next_at_end next a) b
 position_items-append next [] b = refl
@@ -116,3 +137,7 @@ PostingsAfter-append last (d ∷ ds) b h k = (h.0, h.1, h.2, PostingsAfter-appen
 pub id_limit : (last : ℕ) (ds : List Posting) → last < 2 ^ 63 → PostingsAfter last ds → id_at_end last ds < 2 ^ 63
 id_limit last [] le h = le
 id_limit last (d ∷ ds) le h = id_limit d.id ds h.1 h.3
+
+pub after_lower : (low last : ℕ) (ds : List Posting) → low ≤ last → PostingsAfter last ds → PostingsAfter low ds
+after_lower low last [] le h = tt
+after_lower low last (d ∷ ds) le h = (omega (arith, h.0), h.1, h.2, h.3)

@@ -1,17 +1,16 @@
 -- What an iterator over the bytes of a list has left, step by step.
-use Rattle.std.proofs.Common.{◌≡◌, ℕ, ◌+◌, ◌-◌, ◌<◌, List, [], ◌∷◌, ◌++◌, length, take, drop, refl, sym, ap, subst, ◌∙◌, arith}
+use Rattle.std.proofs.Common.{◌≡◌, ℕ, ◌+◌, ◌-◌, ◌<◌, ◌≤◌, List, [], ◌∷◌, ◌++◌, length, take, drop, get_or, refl, sym, ap, subst, ◌∙◌, append_assoc, arith}
 use Rattle.std.proofs.lemmas.List.{append-nil, length-append, length-drop, append_cancel_left, nil_from_length, take_at}
-use Rattle.fts_ilist.specs.Number.{number_bytes}
-use Rattle.fts_ilist.specs.Spelling.{Posting, Item, items_bytes, position_items, posting_items, postings_items, PositionsFrom, PostingsAfter, id_at_end}
+use Rattle.fts_ilist.specs.Number.{number_bytes, BeginsWithNumber}
+use Rattle.fts_ilist.specs.Spelling.{Posting, Item, items_bytes, position_items, posting_items, postings_items, PositionsFrom, ArePositions, PostingsAfter}
 use Rattle.fts_ilist.specs.Spelling.Item.{increase}
 use Rattle.fts_ilist.specs.Reading.{items_after, postings_of, positions_of, postings_in, positions_in, IsTail, IsPositionsTail, IsDocument}
 use Rattle.fts_ilist.specs.Reading.State.{between}
-use Rattle.fts_ilist.specs.Progress.{GetsStuck, ReadsIncrease, HasNoIncrease, ReadsDocument}
-use Rattle.fts_ilist.proofs.Groups.{reads_number}
+use Rattle.fts_ilist.specs.Progress.{ReadsIncrease, ReadsDocument}
+use Rattle.fts_ilist.proofs.Groups.{reads_number, length_number}
+use Rattle.fts_ilist.proofs.Codec.{one_number}
 use Rattle.fts_ilist.proofs.Items.{bytes_append, reads_items}
-use Rattle.fts_ilist.proofs.Postings.{posting_again, no_postings_in, positions_in-bytes}
-use Rattle.fts_ilist.proofs.Running.{postings_run}
-use Rattle.fts_ilist.proofs.Faults.{never_stuck}
+use Rattle.fts_ilist.proofs.Postings.{posting_again, no_postings_in, positions_in-bytes, positions_in-before}
 use Rattle.fts_ilist.proofs.Reader.{document_bytes}
 
 -- ---- positions
@@ -41,21 +40,76 @@ position_tail bytes next value end t i =
     let step = position_step bytes next value end i in
     let e : value - 1 + 1 ≡ value = omega (arith, i.above) in
     let from : PositionsFrom next ((value - 1) ∷ rest) = subst (PositionsFrom next) step t.from in
-    let spelled : bytes ≡ number_bytes (value - next) ++ items_bytes (position_items value rest)
-    = t.spelled ∙ ap (λ (w : List ℕ). items_bytes (position_items next w)) step ∙ ap (λ (w : ℕ). number_bytes (w - next) ++ items_bytes (position_items w rest)) e in
+    let spelled : bytes ≡ number_bytes (value - next) ++ (items_bytes (position_items value rest) ++ t.behind)
+    = t.spelled ∙ ap (λ (w : List ℕ). items_bytes (position_items next w) ++ t.behind) step
+    ∙ ap (λ (w : ℕ). (number_bytes (w - next) ++ items_bytes (position_items w rest)) ++ t.behind) e
+    ∙ append_assoc (number_bytes (value - next)) (items_bytes (position_items value rest)) t.behind in
     record {
       limit = i.within_limit;
       from = subst (λ (w : ℕ). PositionsFrom w rest) e from.2;
-      spelled = append_cancel_left (number_bytes (value - next)) (drop end bytes) (items_bytes (position_items value rest)) (sym i.parts ∙ spelled);
+      behind = t.behind;
+      spelled = append_cancel_left (number_bytes (value - next)) (drop end bytes) (items_bytes (position_items value rest) ++ t.behind) (sym i.parts ∙ spelled);
+      ended = t.ended;
     }
 
-has_increase : (next : ℕ) (bytes ps : List ℕ) → bytes ≡ items_bytes (position_items next ps) → PositionsFrom next ps → 0 < length bytes → HasNoIncrease bytes 0 next 131072 → ⊥
-has_increase next bytes [] e from some none = absurd (omega (arith, ap length e))
-has_increase next bytes (p ∷ ps) e from some none =
-    none (p + 1 - next) (items_bytes (position_items (p + 1) ps)) e (omega (arith, from.0)) (omega (arith, from.0, from.1))
+-- positions that are left begin with a number
+pub record HasPosition (next : ℕ) (bytes : List ℕ) : Type 0 where
+  pub number : ℕ
+  pub rest : List ℕ
+  pub spelled : bytes ≡ number_bytes number ++ rest
+  pub positive : 0 < number
+  pub limit : next + number ≤ 131072
 
-pub tail_has_increase : (next : ℕ) (bytes : List ℕ) → IsPositionsTail next bytes → 0 < length bytes → HasNoIncrease bytes 0 next 131072 → ⊥
-tail_has_increase next bytes t some none = has_increase next bytes (positions_in next bytes) t.spelled t.from some none
+has_position : (next : ℕ) (bytes ps behind : List ℕ) → bytes ≡ items_bytes (position_items next ps) ++ behind → PositionsFrom next ps → get_or behind 0 0 ≡ 0 → (get_or bytes 0 0 ≡ 0 → ⊥) → HasPosition next bytes
+has_position next bytes [] behind e from ended some = absurd (some (ap (λ (w : List ℕ). get_or w 0 0) e ∙ ended))
+has_position next bytes (p ∷ ps) behind e from ended some = record {
+  number = p + 1 - next;
+  rest = items_bytes (position_items (p + 1) ps) ++ behind;
+  spelled = e ∙ append_assoc (number_bytes (p + 1 - next)) (items_bytes (position_items (p + 1) ps)) behind;
+  positive = omega (arith, from.0);
+  limit = omega (arith, from.0, from.1);
+}
+
+pub tail_has_position : (next : ℕ) (bytes : List ℕ) → IsPositionsTail next bytes → (get_or bytes 0 0 ≡ 0 → ⊥) → HasPosition next bytes
+tail_has_position next bytes t some = has_position next bytes (positions_in next bytes) t.behind t.spelled t.from t.ended some
+
+pub position_number : (next : ℕ) (bytes : List ℕ) → HasPosition next bytes → BeginsWithNumber bytes
+position_number next bytes h = (h.number, h.rest, omega (arith, h.limit), h.spelled)
+
+pub position_increase : (next : ℕ) (bytes : List ℕ) (n len : ℕ) → HasPosition next bytes → bytes ≡ number_bytes n ++ drop len bytes → len ≡ length (number_bytes n) → ReadsIncrease bytes 0 next 131072 (next + n) len
+position_increase next bytes n len h found e =
+    let same : n ≡ h.number = (one_number n h.number (drop len bytes) h.rest (sym found ∙ h.spelled)).0 in
+    let back : next + n - next ≡ n = omega arith in
+    record {
+      above = omega (arith, h.positive, same);
+      within_limit = omega (arith, h.limit, same);
+      parts = found ∙ ap (λ (w : ℕ). number_bytes w ++ drop len bytes) (sym back);
+      order = omega (arith, length_number n, e);
+      within = omega (arith, ap length found, length-append (number_bytes n) (drop len bytes), e);
+    }
+
+-- the positions of a document, up to its end
+pub positions_begin : (ps behind bytes : List ℕ) → ArePositions ps → bytes ≡ items_bytes (position_items 0 ps) ++ behind → get_or behind 0 0 ≡ 0 → IsPositionsTail 0 bytes
+positions_begin ps behind bytes are e ended =
+    let gives : positions_in 0 bytes ≡ ps = ap (positions_in 0) e ∙ positions_in-before 0 ps behind are.1 ended in
+    record {
+      limit = omega arith;
+      from = subst (PositionsFrom 0) (sym gives) are.1;
+      behind = behind;
+      spelled = e ∙ ap (λ (w : List ℕ). items_bytes (position_items 0 w) ++ behind) (sym gives);
+      ended = ended;
+    }
+
+pub no_positions_begin : (bytes : List ℕ) → bytes ≡ [] → IsPositionsTail 0 bytes
+no_positions_begin bytes e =
+    let gives : positions_in 0 bytes ≡ [] = no_positions_in 0 bytes (ap length e) in
+    record {
+      limit = omega arith;
+      from = subst (PositionsFrom 0) (sym gives) tt;
+      behind = [];
+      spelled = e ∙ ap (λ (w : List ℕ). items_bytes (position_items 0 w) ++ []) (sym gives);
+      ended = refl;
+    }
 
 -- ---- documents
 
@@ -117,8 +171,3 @@ document_tail bytes last id start end t d =
       after = after.3;
       spelled = append_cancel_left (items_bytes (posting_items last p)) (drop end bytes) (items_bytes (postings_items id rest)) (sym (document_parts bytes last id start end d) ∙ spelled);
     }
-
-pub tail_never_stuck : (last : ℕ) (bytes : List ℕ) (at : ℕ) → IsTail last bytes → GetsStuck bytes 0 (between last) at → ⊥
-tail_never_stuck last bytes at t stuck =
-    let ds = postings_in last bytes in
-    never_stuck bytes 0 at (between last) (postings_items last ds) (id_at_end last ds) t.spelled (postings_run last ds t.after) stuck

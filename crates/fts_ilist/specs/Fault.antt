@@ -14,6 +14,7 @@ pub record IsFirstFault (bytes : List ℕ) (at : ℕ) : Type 0 where
   pub within : at ≤ length bytes
   pub begins : BeginsList items
   -- no item that may follow them stands here
-  pub none : (item : Item) (rest : List ℕ) → drop at bytes ≡ item_bytes item ++ rest → BeginsList (items ++ item ∷ []) → ⊥
+  pub none : (item : Item) (rest : List ℕ) → drop at bytes ≡ item_bytes item ++ rest → BeginsList (items ++ item ∷ [])
+      → ⊥
   -- and they are not a whole list
   pub unfinished : (ps : List Posting) → ArePostings ps → bytes ≡ list_bytes ps → ⊥

@@ -2,7 +2,10 @@ pub mod Number
 pub mod Spelling
 pub mod Fault
 pub mod Reading
+pub mod Cursor
 pub mod Progress
 pub mod Changes
 pub mod Parsed
 pub mod Queue
+pub mod Node
+pub mod Packing

@@ -1,7 +1,9 @@
 -- How far a reader has come, and why it goes no further.
-use Rattle.std.specs.Prelude.{◌≡◌, ℕ, ◌+◌, ◌-◌, ◌^◌, ◌<◌, ◌≤◌, List, [], ◌∷◌, ◌++◌, length, drop}
+use Rattle.std.specs.Prelude.{◌≡◌, ℕ, ◌+◌, ◌-◌, ◌^◌, ◌<◌, ◌≤◌, List, [], ◌∷◌, ◌++◌, length, drop, Bool, false, ◌==◌}
+use Rattle.std.specs.Prelude.{nat_lt, if◌then◌else◌}
 use Rattle.fts_ilist.specs.Number.{number_bytes}
-use Rattle.fts_ilist.specs.Spelling.{Item, item_bytes, items_bytes, position_items, PositionsFrom, ArePositions, next_at_end}
+use Rattle.fts_ilist.specs.Spelling.{Item, item_bytes, items_bytes, position_items, PositionsFrom, ArePositions}
+use Rattle.fts_ilist.specs.Spelling.{next_at_end}
 use Rattle.fts_ilist.specs.Spelling.Item.{increase, document_end}
 use Rattle.fts_ilist.specs.Reading.{State}
 use Rattle.fts_ilist.specs.Reading.State.{between, inside}
@@ -24,7 +26,8 @@ pub record Reads (bytes : List ℕ) (from : ℕ) (s : State) (to : ℕ) (t : Sta
 
 -- here a reader in this state can take no item, and is not at the end of a list
 pub record IsStuck (bytes : List ℕ) (at : ℕ) (s : State) : Type 0 where
-  pub none : (item : Item) (rest : List ℕ) (t : State) → drop at bytes ≡ item_bytes item ++ rest → Runs s (item ∷ []) t → ⊥
+  pub none : (item : Item) (rest : List ℕ) (t : State) → drop at bytes ≡ item_bytes item ++ rest → Runs s (item ∷ []) t
+      → ⊥
   pub unfinished : (last : ℕ) → drop at bytes ≡ [] → s ≡ between last → ⊥
 
 -- a reader that begins in this state at this place gets stuck at a later one
@@ -43,7 +46,8 @@ pub record ReadsIncrease (bytes : List ℕ) (at last limit value end : ℕ) : Ty
 
 -- here stands no increase that keeps a number within a limit
 abbrev pub HasNoIncrease : List ℕ → ℕ → ℕ → ℕ → Type 0
-HasNoIncrease bytes at last limit = (n : ℕ) (rest : List ℕ) → drop at bytes ≡ number_bytes n ++ rest → 0 < n → last + n ≤ limit → ⊥
+HasNoIncrease bytes at last limit = (n : ℕ) (rest : List ℕ) → drop at bytes ≡ number_bytes n ++ rest → 0 < n
+    → last + n ≤ limit → ⊥
 
 -- from start to at stand positions, and next is the last of them + 1, or 0 where there is none
 pub record ReadsPositions (bytes : List ℕ) (start at next : ℕ) : Type 0 where
@@ -74,6 +78,23 @@ pub record ReadsDocument (bytes : List ℕ) (at last id start end : ℕ) : Type 
   pub order : start < end
   pub within : end ≤ length bytes
 
--- bytes were added at the end, or none
-abbrev pub Extends : List ℕ → List ℕ → Type 0
-Extends old new = (more : List ℕ) × (new ≡ old ++ more)
+-- whether a document ends with this byte: the first 00 behind a byte of 128 or more ends it
+abbrev pub is_end : ℕ → ℕ → Bool
+is_end before byte = if nat_lt before 128 then false else (byte == 0)
+
+-- the bytes begin with positions of a document, and its end
+pub record BeginsBody (bytes : List ℕ) : Type 0 where
+  pub positions : List ℕ
+  pub are_positions : ArePositions positions
+  pub rest : List ℕ
+  pub body : bytes ≡ items_bytes (position_items 0 positions) ++ 0 ∷ rest
+
+-- the positions of a document and its end take so many bytes, if these begin so
+abbrev pub EndsBody : List ℕ → ℕ → Type 0
+EndsBody bytes end = (positions : List ℕ) (rest : List ℕ) → ArePositions positions
+    → bytes ≡ items_bytes (position_items 0 positions) ++ 0 ∷ rest
+    → end ≡ length (items_bytes (position_items 0 positions)) + 1
+
+-- the first of two ids, where 0 is none
+abbrev pub first_or : ℕ → ℕ → ℕ
+first_or first id = if first == 0 then id else first

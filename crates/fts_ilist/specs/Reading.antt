@@ -1,6 +1,8 @@
 -- The value that bytes stand for: the view of lists and of the iterators over them.
-use Rattle.std.specs.Prelude.{◌≡◌, ℕ, ◌+◌, ◌-◌, ◌*◌, ◌^◌, ◌<◌, ◌≤◌, List, [], ◌∷◌, ◌++◌, nat_lt, ◌==◌, if◌then◌else◌}
-use Rattle.fts_ilist.specs.Spelling.{Posting, Item, items_bytes, position_items, postings_items, list_bytes, PositionsFrom, ArePositions, PostingsAfter, ArePostings, last_id}
+use Rattle.std.specs.Prelude.{◌≡◌, ℕ, ◌+◌, ◌-◌, ◌*◌, ◌^◌, ◌<◌, ◌≤◌, List, [], ◌∷◌, ◌++◌, get_or, length, nat_lt, ◌==◌}
+use Rattle.std.specs.Prelude.{if◌then◌else◌}
+use Rattle.fts_ilist.specs.Spelling.{Posting, Item, items_bytes, position_items, postings_items, list_bytes}
+use Rattle.fts_ilist.specs.Spelling.{PositionsFrom, ArePositions, PostingsAfter, ArePostings, last_id, first_id}
 use Rattle.fts_ilist.specs.Spelling.Item.{increase, document_end}
 
 -- the items of bytes, where the groups before them have the value v
@@ -22,8 +24,10 @@ unfoldable pub postings_of : State → List ℕ → List Item → List Posting
 postings_of s ps [] = []
 postings_of (between last) ps (increase n ∷ items) = postings_of (inside (last + n) 0) [] items
 postings_of (between last) ps (document_end ∷ items) = []
-postings_of (inside id next) ps (increase n ∷ items) = postings_of (inside id (next + n)) (ps ++ (next + n - 1) ∷ []) items
-postings_of (inside id next) ps (document_end ∷ items) = record { id = id; positions = ps } ∷ postings_of (between id) [] items
+postings_of (inside id next) ps (increase n ∷ items) = postings_of (inside id (next + n)) (ps ++ (next + n - 1) ∷ [])
+    items
+postings_of (inside id next) ps (document_end ∷ items) = record { id = id; positions = ps } ∷ postings_of (between id)
+    [] items
 
 -- the documents that bytes stand for, behind the id last
 abbrev pub postings_in : ℕ → List ℕ → List Posting
@@ -45,11 +49,13 @@ pub record IsTail (last : ℕ) (bytes : List ℕ) : Type 0 where
   pub after : PostingsAfter last (postings_in last bytes)
   pub spelled : bytes ≡ items_bytes (postings_items last (postings_in last bytes))
 
--- bytes that the view gives back: they spell positions behind next
+-- bytes that the view gives back: they spell positions behind next, up to their document's end or to the last byte
 pub record IsPositionsTail (next : ℕ) (bytes : List ℕ) : Type 0 where
   pub limit : next ≤ 131072
   pub from : PositionsFrom next (positions_in next bytes)
-  pub spelled : bytes ≡ items_bytes (position_items next (positions_in next bytes))
+  pub behind : List ℕ
+  pub spelled : bytes ≡ items_bytes (position_items next (positions_in next bytes)) ++ behind
+  pub ended : get_or behind 0 0 ≡ 0
 
 -- an id and bytes that spell the positions of a document
 pub record IsDocument (id : ℕ) (bytes : List ℕ) : Type 0 where
@@ -63,3 +69,9 @@ pub record IsList (last : ℕ) (bytes : List ℕ) : Type 0 where
   pub are : ArePostings (postings_in 0 bytes)
   pub spelled : bytes ≡ list_bytes (postings_in 0 bytes)
   pub last_is : last ≡ last_id (postings_in 0 bytes)
+
+-- the fields of a list: its bytes, the ids of its first and last document, and its number of documents
+pub record IsKept (first last count : ℕ) (bytes : List ℕ) : Type 0 where
+  pub list : IsList last bytes
+  pub first_is : first ≡ first_id (postings_in 0 bytes)
+  pub count_is : count ≡ length (postings_in 0 bytes)

@@ -74,3 +74,8 @@ last_id ps = id_at_end 0 ps
 abbrev pub HasFirstId : List Posting → ℕ → Type 0
 HasFirstId [] id = ⊥
 HasFirstId (p ∷ ps) id = p.id ≡ id
+
+-- the id of the first document of a list, and 0 where there is none
+abbrev pub first_id : List Posting → ℕ
+first_id [] = 0
+first_id (p ∷ ps) = p.id

@@ -1,17 +1,21 @@
 //! Position lists as values.
-ghost use Rattle.std.specs.Prelude.{◌≡◌, ℕ, ◌-◌, ◌^◌, ◌<◌, ◌≤◌, ◌↔◌, List, [], ◌∷◌, ◌++◌, IsTrue, IfOk, IfErr, OnOk, OnErr};
+ghost use Rattle.std.specs.Prelude.{◌≡◌, ℕ, ◌+◌, ◌^◌, ◌<◌, ◌≤◌, ◌↔◌, List, [], ◌∷◌, ◌++◌, length};
+ghost use Rattle.std.specs.Prelude.{IsTrue, IfOk, IfErr, OnOk, OnErr};
 ghost use Rattle.std.specs.List.Sorted.{IsPermutation, IsNonDecreasing};
-ghost use Rattle.fts_ilist.specs.Number.{number_bytes};
-ghost use Rattle.fts_ilist.specs.Spelling.{Posting, items_bytes, position_items, list_bytes, ArePositions, PostingsAfter, ArePostings, last_id};
+ghost use Rattle.fts_ilist.specs.Spelling.{Posting, list_bytes, ArePositions, PostingsAfter};
+ghost use Rattle.fts_ilist.specs.Spelling.{ArePostings, first_id, last_id};
 ghost use Rattle.fts_ilist.specs.Fault.{IsFirstFault};
-ghost use Rattle.fts_ilist.specs.Progress.{Extends};
+ghost use Rattle.fts_ilist.specs.Reading.{postings_in, IsTail};
+ghost use Rattle.fts_ilist.specs.Progress.{first_or};
 ghost use Rattle.fts_ilist.specs.Changes.{is_among, postings_without, AreDisjoint, MergesNext};
 ghost use Rattle.fts_ilist.specs.Parsed.{GivesList, IsRefusedAt, IsCause};
 ghost use Rattle.fts_ilist.specs.declared.list.ParseError.TheVariants as errors;
 
-use crate::documents::{Document, Documents};
-use crate::number::{Bad, append_number};
-use crate::reading::{LAST_ID, increase_at, last_of};
+use crate::cursor::Cursor;
+use crate::documents::Document;
+use crate::number::{Bad, NUMBER_ROOM, front_number, number_len};
+use crate::reading::{LAST_ID, last_of};
+use crate::writing::{bytes_for_document, put_document, put_posting, put_tail};
 use std::alloc::{AllocError, Global};
 use std::error::Error;
 use std::fmt;
@@ -53,70 +57,35 @@ impl From<AllocError> for ParseError {
     }
 }
 
-/// A position list: documents by ascending ids, each with its positions. It is kept as its bytes, and documents
-/// are added behind the last.
+/// A position list: documents by ascending ids, each with its positions. It is kept as its bytes,
+/// and documents are added behind the last.
 #[derive(Drop)]
 pub struct Ilist {
     bytes: Vec<u8>,
-    // The id of the last document, or 0.
+    // The ids of the first and of the last document, or 0 where there is none.
+    first: u64,
     last: u64,
+    // The number of documents.
+    count: usize,
 }
 
 impl Model for Ilist {
     ghost use Rattle.std.specs.Prelude.{List};
     ghost use Rattle.fts_ilist.specs.Spelling.{Posting};
-    ghost use Rattle.fts_ilist.specs.Reading.{postings_in, IsList};
+    ghost use Rattle.fts_ilist.specs.Reading.{postings_in, IsKept};
 
     ghost Value = { List Posting };
 
     ghost view = { λ l. postings_in 0 l.bytes.items };
 
-    ghost invariant = { λ l. IsList l.last l.bytes.items };
+    ghost invariant = { λ l. IsKept l.first l.last l.count l.bytes.items };
 }
 
-/// Writes the increase and the bytes behind it at the end.
-fn append_tail(out: &mut Vec<u8>, increase: u64, tail: &[u8]) -> Result<(), AllocError>
-    ensures ok { OnOk result (out.new.items ≡ out.old.items ++ (number_bytes increase ++ tail.now)) }
-    ensures extends { Extends out.old.items out.new.items }
+/// The first id of a list behind whose documents one more comes.
+fn first_with(first: u64, doc: u64) -> u64
+    ensures { result ≡ first_or first doc }
 {
-    append_number(out, increase)?;
-    out.extend_from_slice(tail)
-}
-
-/// Writes a document at the end: the increase of its id, its encoded positions, its end.
-fn append_document(out: &mut Vec<u8>, increase: u64, encoded: &[u8]) -> Result<(), AllocError>
-    ensures ok { OnOk result (out.new.items ≡ out.old.items ++ (number_bytes increase ++ (encoded.now ++ 0 ∷ []))) }
-    ensures extends { Extends out.old.items out.new.items }
-{
-    append_tail(out, increase, encoded)?;
-    out.push(0)?;
-    Ok(())
-}
-
-/// Writes positions at the end.
-fn append_positions(out: &mut Vec<u8>, positions: &[u32]) -> Result<(), AllocError>
-    requires { ArePositions positions.now }
-    ensures ok { OnOk result (out.new.items ≡ out.old.items ++ items_bytes (position_items 0 positions.now)) }
-    ensures extends { Extends out.old.items out.new.items }
-{
-    let mut next = 0;
-    for position in positions {
-        append_number(out, u64::from(*position + 1 - next))?;
-        next = *position + 1;
-    }
-    Ok(())
-}
-
-/// Writes a document at the end: the increase of its id, its positions, its end.
-fn append_posting(out: &mut Vec<u8>, increase: u64, positions: &[u32]) -> Result<(), AllocError>
-    requires { ArePositions positions.now }
-    ensures ok { OnOk result (out.new.items ≡ out.old.items ++ (number_bytes increase ++ (items_bytes (position_items 0 positions.now) ++ 0 ∷ []))) }
-    ensures extends { Extends out.old.items out.new.items }
-{
-    append_number(out, increase)?;
-    append_positions(out, positions)?;
-    out.push(0)?;
-    Ok(())
+    if first == 0 { doc } else { first }
 }
 
 impl Ilist {
@@ -126,7 +95,9 @@ impl Ilist {
     {
         Ilist {
             bytes: Vec::new(alloc),
+            first: 0,
             last: 0,
+            count: 0,
         }
     }
 
@@ -145,6 +116,39 @@ impl Ilist {
         self.last
     }
 
+    /// The id of the first document, or 0 where there is none.
+    pub fn first_id(&self) -> u64
+        ensures { result ≡ first_id self.now }
+    {
+        self.first
+    }
+
+    /// The number of documents.
+    pub fn count(&self) -> usize
+        ensures { result ≡ length self.now }
+    {
+        self.count
+    }
+
+    /// How many bytes this document would add behind the last. It takes constant time.
+    pub fn size_of(&self, document: &Document<'_>) -> usize
+        requires { last_id self.now < document.now.id }
+        ensures { length (list_bytes (self.now ++ document.now ∷ []))
+            ≡ length (list_bytes self.now) + result }
+    {
+        number_len(document.id - self.last) + document.encoded.len() + 1
+    }
+
+    /// Whether the list takes at most `limit` bytes with this document behind the last. It takes
+    /// constant time.
+    pub fn takes(&self, document: &Document<'_>, limit: usize) -> bool
+        requires { last_id self.now < document.now.id }
+        ensures { IsTrue result ↔ (length (list_bytes (self.now ++ document.now ∷ [])) ≤ limit) }
+    {
+        let size = self.size_of(document);
+        size <= limit && self.bytes.len() <= limit - size
+    }
+
     /// The bytes that spell the list.
     pub fn bytes(&self) -> &[u8]
         ensures spelled { result.now ≡ list_bytes self.now }
@@ -153,15 +157,20 @@ impl Ilist {
         &self.bytes
     }
 
-    /// The documents, by ascending ids. They are read in place, and no memory is taken.
-    pub fn docs(&self) -> Documents<'_>
+    /// A cursor at the first document. It reads in place, and takes no memory.
+    pub fn cursor(&self) -> Cursor<'_>
         ensures documents { result ≡ self.now }
         ensures are { ArePostings result }
     {
-        Documents {
-            rest: &self.bytes,
-            last: 0,
-        }
+        Cursor::new(0, &self.bytes)
+    }
+
+    /// The documents, by ascending ids. They are read in place, and no memory is taken.
+    pub fn docs(&self) -> Cursor<'_>
+        ensures documents { result ≡ self.now }
+        ensures are { ArePostings result }
+    {
+        self.cursor()
     }
 
     /// Adds a document behind the last. Where there is no memory for it, the list stays as it was.
@@ -169,42 +178,36 @@ impl Ilist {
         requires above { last_id self.old < doc }
         requires limit { doc ≤ LAST_ID }
         requires positions { ArePositions positions.now }
-        ensures ok { OnOk result (self.new ≡ self.old ++ record { id = doc; positions = positions.now } ∷ []) }
+        ensures ok { OnOk result (self.new
+            ≡ self.old ++ record { id = doc; positions = positions.now } ∷ []) }
         ensures err { OnErr result (self.new ≡ self.old) }
     {
-        let before = self.bytes.len();
-        match append_posting(&mut self.bytes, doc - self.last, positions) {
-            Ok(()) => {
-                self.last = doc;
-                Ok(())
-            }
-            Err(error) => {
-                self.bytes.truncate(before);
-                Err(error)
-            }
-        }
+        self.bytes.reserve(bytes_for_document(positions.len()))?;
+        put_posting(&mut self.bytes, doc - self.last, positions);
+        self.first = first_with(self.first, doc);
+        self.last = doc;
+        self.count += 1;
+        Ok(())
     }
 
-    /// Adds a document of another list behind the last, as `push` does; its positions are copied as they stand.
+    /// Adds a document of another list behind the last, as `push` does; its positions are copied as
+    /// they stand.
     pub fn push_document(&mut self, document: &Document<'_>) -> Result<(), AllocError>
         requires { last_id self.old < document.now.id }
         ensures ok { OnOk result (self.new ≡ self.old ++ document.now ∷ []) }
         ensures err { OnErr result (self.new ≡ self.old) }
     {
-        let before = self.bytes.len();
-        match append_document(&mut self.bytes, document.id - self.last, document.encoded) {
-            Ok(()) => {
-                self.last = document.id;
-                Ok(())
-            }
-            Err(error) => {
-                self.bytes.truncate(before);
-                Err(error)
-            }
-        }
+        self.bytes
+            .reserve(document.encoded.len() + NUMBER_ROOM + 1)?;
+        put_document(&mut self.bytes, document.id - self.last, document.encoded);
+        self.first = first_with(self.first, document.id);
+        self.last = document.id;
+        self.count += 1;
+        Ok(())
     }
 
-    /// The list of the documents whose ids are not among `ids`, which ascend. It lies in this list's allocator.
+    /// The list of the documents whose ids are not among `ids`, which ascend. It lies in this
+    /// list's allocator.
     pub fn without(&self, ids: &[u64]) -> Result<Ilist, AllocError>
         requires { IsNonDecreasing ids.now }
         ensures { IfOk result (λ left. left ≡ postings_without ids.now self.now) }
@@ -218,8 +221,9 @@ impl Ilist {
         Ok(left)
     }
 
-    /// Adds the documents of the other list, which has none with an id of this one. Where there is no memory for
-    /// them, the list stays as it was. Where all are behind the last, this takes time for them alone.
+    /// Adds the documents of the other list, which has none with an id of this one. Where there is
+    /// no memory for them, the list stays as it was. Where all are behind the last, this takes time
+    /// for them alone.
     pub fn join(&mut self, other: &Ilist) -> Result<(), AllocError>
         requires { AreDisjoint self.old other.now }
         ensures union { OnOk result (IsPermutation (self.old ++ other.now) self.new) }
@@ -227,11 +231,11 @@ impl Ilist {
         ensures err { OnErr result (self.new ≡ self.old) }
     {
         let last = self.last;
-        match other.docs().peek_id() {
+        match other.cursor().doc() {
             None => Ok(()),
             Some(first) if first > last => self.append(other),
             Some(_) => {
-                let joined = merged(*self.bytes.allocator(), self.docs(), other.docs())?;
+                let joined = merged(*self.bytes.allocator(), self.cursor(), other.cursor())?;
                 *self = joined;
                 Ok(())
             }
@@ -244,23 +248,17 @@ impl Ilist {
         ensures ok { OnOk result (self.new ≡ self.old ++ other.now) }
         ensures err { OnErr result (self.new ≡ self.old) }
     {
-        match increase_at(&other.bytes, 0, 0, LAST_ID) {
-            Err(_) => Ok(()),
-            Ok((first, start)) => {
-                let before = self.bytes.len();
-                let tail = &other.bytes[start..];
-                match append_tail(&mut self.bytes, first - self.last, tail) {
-                    Ok(()) => {
-                        self.last = other.last;
-                        Ok(())
-                    }
-                    Err(error) => {
-                        self.bytes.truncate(before);
-                        Err(error)
-                    }
-                }
-            }
+        if other.bytes.is_empty() {
+            return Ok(());
         }
+        let (first, start) = front_number(&other.bytes);
+        let tail = &other.bytes[start..];
+        self.bytes.reserve(tail.len() + NUMBER_ROOM)?;
+        put_tail(&mut self.bytes, first - self.last, tail);
+        self.first = first_with(self.first, first);
+        self.last = other.last;
+        self.count += other.count;
+        Ok(())
     }
 }
 
@@ -273,10 +271,10 @@ fn holds(ids: &[u64], id: u64) -> bool
 }
 
 /// The document with the smaller id, of the next ones of two lists.
-fn next_of<'a>(left: &mut Documents<'a>, right: &mut Documents<'a>) -> Option<Document<'a>>
+fn next_of<'a>(left: &mut Cursor<'a>, right: &mut Cursor<'a>) -> Option<Document<'a>>
     ensures { MergesNext left.old right.old left.new right.new result }
 {
-    match (left.peek_id(), right.peek_id()) {
+    match (left.doc(), right.doc()) {
         (Some(a), Some(b)) if b < a => right.next(),
         (None, _) => right.next(),
         _ => left.next(),
@@ -286,8 +284,8 @@ fn next_of<'a>(left: &mut Documents<'a>, right: &mut Documents<'a>) -> Option<Do
 /// The documents of both lists, by ascending ids.
 fn merged<'a>(
     alloc: Global,
-    mut left: Documents<'a>,
-    mut right: Documents<'a>,
+    mut left: Cursor<'a>,
+    mut right: Cursor<'a>,
 ) -> Result<Ilist, AllocError>
     requires left { ArePostings left }
     requires right { ArePostings right }
@@ -302,29 +300,46 @@ fn merged<'a>(
     Ok(joined)
 }
 
+/// The id of the first document of the list that these bytes are, or 0 where there is none.
+fn first_of(bytes: &[u8]) -> u64
+    requires { IsTail 0 bytes.now }
+    ensures { result ≡ first_id (postings_in 0 bytes.now) }
+{
+    Cursor::new(0, bytes).doc().unwrap_or(0)
+}
+
 /// Reads the bytes as a list, all of them, and copies them.
 ///
 /// # Errors
 ///
-/// `Bad` exactly where the bytes are no list, with the place at which the first faulty item begins: a number or
-/// a byte 00 that can't stand there, a number that has no end, is not in its fewest bytes or is too large. An item
-/// that is missing at the end has the place behind the last byte. `NoMemory` where there is none for the copy.
+/// `Bad` exactly where the bytes are no list, with the place at which the first faulty item begins:
+/// a number or a byte 00 that can't stand there, a number that has no end, is not in its fewest
+/// bytes or is too large. An item that is missing at the end has the place behind the last byte.
+/// `NoMemory` where there is none for the copy.
 pub fn parse(alloc: Global, bytes: &[u8]) -> Result<Ilist, ParseError>
     // What is read is spelled so.
     ensures found { IfOk result (λ list. ArePostings list × (bytes.now ≡ list_bytes list)) }
     // What is spelled so is read.
-    ensures read_back { (ps : List Posting) → ArePostings ps → bytes.now ≡ list_bytes ps → GivesList ps result }
+    ensures read_back { (ps : List Posting) → ArePostings ps → bytes.now ≡ list_bytes ps
+        → GivesList ps result }
     // A refusal has its place,
     ensures cause { IfErr result (IsCause bytes.now) }
     // and each fault is refused there.
     ensures refused { (at : ℕ) → IsFirstFault bytes.now at → IsRefusedAt at result }
 {
-    let last = last_of(bytes)?;
+    let (last, count) = last_of(bytes)?;
     let bytes = Vec::from_slice(alloc, bytes)?;
-    Ok(Ilist { bytes, last })
+    let first = first_of(&bytes);
+    Ok(Ilist {
+        bytes,
+        first,
+        last,
+        count,
+    })
 }
 
 /// Each list has one spelling, and each spelling is of one list.
 pub fn lists_have_one_spelling()
-    ensures { (ps qs : List Posting) → ArePostings ps → ArePostings qs → list_bytes ps ≡ list_bytes qs → ps ≡ qs }
+    ensures { (ps qs : List Posting) → ArePostings ps → ArePostings qs
+        → list_bytes ps ≡ list_bytes qs → ps ≡ qs }
 {}

@@ -1,10 +1,10 @@
-//! Numbers as bytes: groups of seven bits, the most significant first, in the fewest bytes, with the high bit
-//! set on the last byte alone.
-ghost use Rattle.std.specs.Prelude.{◌≡◌, ℕ, ◌+◌, ◌^◌, ◌<◌, ◌≤◌, List, ◌++◌, length, drop, Ok, IfOk, IfErr, OnOk, OnErr, IfSome, IfNone, vec_len, vec_capacity};
+//! Numbers as bytes: groups of seven bits, the most significant first, in the fewest bytes, with
+//! the high bit set on the last byte alone.
+ghost use Rattle.std.specs.Prelude.{◌≡◌, ℕ, ◌+◌, ◌^◌, ◌<◌, ◌≤◌, List, ◌++◌, length, drop, Ok, IfOk};
+ghost use Rattle.std.specs.Prelude.{IfErr, OnErr, IfSome, IfNone, vec_len, vec_capacity};
 ghost use Rattle.fts_ilist.specs.Number.{number_bytes, BeginsWithNumber};
 ghost use Rattle.fts_ilist.specs.declared.number.TheConstants.{NUMBER_ROOM};
 
-use std::alloc::AllocError;
 use std::error::Error;
 use std::fmt;
 
@@ -14,7 +14,8 @@ pub const NUMBER_ROOM: usize = 10;
 /// The bytes are not what should stand there.
 #[derive(Clone, Copy, Debug, PartialEq, Eq)]
 pub struct Bad {
-    /// The place, from 0, at which the first faulty item begins, or the length where an item is missing at the end.
+    /// The place, from 0, at which the first faulty item begins, or the length where an item is
+    /// missing at the end.
     pub at: usize,
 }
 
@@ -27,7 +28,7 @@ impl fmt::Display for Bad {
 impl Error for Bad {}
 
 /// How many bytes the number takes, from 1 to 10.
-fn number_len(n: u64) -> usize
+pub(crate) fn number_len(n: u64) -> usize
     ensures length { result ≡ length (number_bytes n) }
     ensures room { result ≤ NUMBER_ROOM }
 {
@@ -40,8 +41,8 @@ fn number_len(n: u64) -> usize
     len
 }
 
-/// Writes the number at the front of the buffer, and returns how many bytes it takes, from 1 to 10. The rest of
-/// the buffer stays.
+/// Writes the number at the front of the buffer, and returns how many bytes it takes, from 1 to 10.
+/// The rest of the buffer stays.
 pub fn put_number(n: u64, buf: &mut [u8]) -> usize
     requires { NUMBER_ROOM ≤ length buf.old }
     ensures length { result ≡ length (number_bytes n) }
@@ -63,7 +64,8 @@ pub fn put_number(n: u64, buf: &mut [u8]) -> usize
 /// The number at the front and how many bytes it takes, where there is one. Most have one byte.
 #[inline]
 fn first_number(bytes: &[u8]) -> Option<(u64, usize)>
-    ensures found { IfSome result (λ taken. bytes.now ≡ number_bytes taken.0 ++ drop taken.1 bytes.now) }
+    ensures found { IfSome result (λ taken. bytes.now
+        ≡ number_bytes taken.0 ++ drop taken.1 bytes.now) }
     ensures length { IfSome result (λ taken. taken.1 ≡ length (number_bytes taken.0)) }
     ensures none { IfNone result (BeginsWithNumber bytes.now → ⊥) }
 {
@@ -75,7 +77,8 @@ fn first_number(bytes: &[u8]) -> Option<(u64, usize)>
 
 /// The number at the front, of any length.
 fn any_number(bytes: &[u8]) -> Option<(u64, usize)>
-    ensures found { IfSome result (λ taken. bytes.now ≡ number_bytes taken.0 ++ drop taken.1 bytes.now) }
+    ensures found { IfSome result (λ taken. bytes.now
+        ≡ number_bytes taken.0 ++ drop taken.1 bytes.now) }
     ensures length { IfSome result (λ taken. taken.1 ≡ length (number_bytes taken.0)) }
     ensures none { IfNone result (BeginsWithNumber bytes.now → ⊥) }
 {
@@ -96,17 +99,20 @@ fn any_number(bytes: &[u8]) -> Option<(u64, usize)>
     None
 }
 
-/// Reads the number at the front, and returns it with how many bytes it takes. Any bytes may follow it.
+/// Reads the number at the front, and returns it with how many bytes it takes. Any bytes may follow
+/// it.
 ///
 /// # Errors
 ///
-/// `Bad { at: 0 }` where the bytes don't begin with a number: none is there or it has no end, it begins with a
-/// group of zeros, or it is above 2^64 - 1.
+/// `Bad { at: 0 }` where the bytes don't begin with a number: none is there or it has no end, it
+/// begins with a group of zeros, or it is above 2^64 - 1.
 #[inline]
 pub fn take_number(bytes: &[u8]) -> Result<(u64, usize), Bad>
-    ensures found { IfOk result (λ taken. bytes.now ≡ number_bytes taken.0 ++ drop taken.1 bytes.now) }
+    ensures found { IfOk result (λ taken. bytes.now
+        ≡ number_bytes taken.0 ++ drop taken.1 bytes.now) }
     ensures length { IfOk result (λ taken. taken.1 ≡ length (number_bytes taken.0)) }
-    ensures read_back { (n : ℕ) (rest : List ℕ) → n < 2 ^ 64 → bytes.now ≡ number_bytes n ++ rest → result ≡ Ok (n, length (number_bytes n)) }
+    ensures read_back { (n : ℕ) (rest : List ℕ) → n < 2 ^ 64 → bytes.now ≡ number_bytes n ++ rest
+        → result ≡ Ok (n, length (number_bytes n)) }
     ensures none { OnErr result (BeginsWithNumber bytes.now → ⊥) }
     ensures place { IfErr result (λ bad. bad.at ≡ 0) }
 {
@@ -116,25 +122,28 @@ pub fn take_number(bytes: &[u8]) -> Result<(u64, usize), Bad>
     }
 }
 
+/// The number at the front of bytes that begin with one, and how many bytes it takes. Nothing is
+/// tried.
+#[inline]
+pub(crate) fn front_number(bytes: &[u8]) -> (u64, usize)
+    requires { BeginsWithNumber bytes.now }
+    ensures found { bytes.now ≡ number_bytes result.0 ++ drop result.1 bytes.now }
+    ensures length { result.1 ≡ length (number_bytes result.0) }
+{
+    let mut value: u64 = 0;
+    let mut at = 0;
+    while bytes[at] < 128 {
+        value = value * 128 + u64::from(bytes[at]);
+        at += 1;
+    }
+    (value * 128 + u64::from(bytes[at] - 128), at + 1)
+}
+
 /// Each number has one spelling, and none begins another.
 pub fn numbers_have_one_spelling()
-    ensures { (m n : ℕ) (x y : List ℕ) → number_bytes m ++ x ≡ number_bytes n ++ y → (m ≡ n) × (x ≡ y) }
+    ensures { (m n : ℕ) (x y : List ℕ) → number_bytes m ++ x ≡ number_bytes n ++ y
+        → (m ≡ n) × (x ≡ y) }
 {}
-
-/// Writes the number at the end.
-#[inline]
-pub(crate) fn append_number(out: &mut Vec<u8>, n: u64) -> Result<(), AllocError>
-    ensures ok { OnOk result (out.new.items ≡ out.old.items ++ number_bytes n) }
-    ensures err { OnErr result (out.new.items ≡ out.old.items) }
-{
-    if n < 128 {
-        out.push(n as u8 + 128)?;
-        return Ok(());
-    }
-    let mut buf = [0; NUMBER_ROOM];
-    let len = put_number(n, &mut buf);
-    out.extend_from_slice(&buf[..len])
-}
 
 /// Writes the number at the end, within the capacity.
 #[inline]

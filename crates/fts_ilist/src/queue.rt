@@ -1,18 +1,22 @@
 //! Documents that come in at the back, in room that was made for them, and leave at the front.
-ghost use Rattle.std.specs.Prelude.{◌≡◌, ◌≢◌, ◌+◌, ◌*◌, ◌^◌, ◌<◌, ◌≤◌, ◌++◌, ◌↔◌, [], ◌∷◌, length, drop, IsTrue, IfSome, IfNone, OnOk, OnErr, vec_len, vec_capacity};
+ghost use Rattle.std.specs.Prelude.{◌≡◌, ◌≢◌, ◌+◌, ◌*◌, ◌^◌, ◌<◌, ◌≤◌, ◌++◌, ◌↔◌, [], ◌∷◌, length};
+ghost use Rattle.std.specs.Prelude.{drop, IsTrue, IfSome, IfNone, OnOk, OnErr, vec_len};
+ghost use Rattle.std.specs.Prelude.{vec_capacity};
 ghost use Rattle.fts_ilist.specs.Number.{number_bytes};
-ghost use Rattle.fts_ilist.specs.Spelling.{items_bytes, position_items, ArePositions, id_at_end};
+ghost use Rattle.fts_ilist.specs.Spelling.{items_bytes, position_items, ArePositions, ArePostings};
+ghost use Rattle.fts_ilist.specs.Spelling.{id_at_end};
 ghost use Rattle.fts_ilist.specs.Reading.{postings_in, IsTail};
 ghost use Rattle.fts_ilist.specs.Queue.{Queue, bytes_for, postings_behind, StandsAt, Passes};
 
-use crate::documents::Documents;
-use crate::number::put_in_room;
-use crate::reading::{LAST_ID, document_at};
+use crate::cursor::Cursor;
+use crate::number::front_number;
+use crate::reading::{LAST_ID, body_len};
+use crate::writing::{bytes_for_document, put_posting};
 use std::alloc::{AllocError, Global};
 use std::marker::Model;
 
-/// Documents by ascending ids, each with its positions, kept in the bytes of a list. A document is put in at the
-/// back, within room that was made for it, and the oldest leave at the front.
+/// Documents by ascending ids, each with its positions, kept in the bytes of a list. A document is
+/// put in at the back, within room that was made for it, and the oldest leave at the front.
 #[derive(Drop)]
 pub struct PostingQueue {
     bytes: Vec<u8>,
@@ -33,54 +37,25 @@ impl Model for PostingQueue {
 
     ghost Value = { Queue };
 
-    ghost view = { λ q. record { postings = postings_in q.before (drop q.start q.bytes.items); last = q.last; room = q.room } };
+    ghost view = { λ q. record {
+      postings = postings_in q.before (drop q.start q.bytes.items);
+      last
+          = q.last;
+      room = q.room;
+    } };
 
-    ghost invariant = { λ q. IsQueue q.bytes.items (vec_capacity q.bytes) q.start q.before q.last q.room };
-}
-
-/// How many bytes a document with so many positions takes at most.
-fn bytes_for_document(count: usize) -> usize
-    requires { count ≤ 131072 }
-    ensures { result ≡ bytes_for count }
-{
-    3 * count + 10
-}
-
-/// Writes positions at the end, within the capacity.
-fn put_positions(out: &mut Vec<u8>, positions: &[u32])
-    requires positions { ArePositions positions.now }
-    requires room { vec_len out.old + 3 * length positions.now ≤ vec_capacity out.old }
-    ensures items { out.new.items ≡ out.old.items ++ items_bytes (position_items 0 positions.now) }
-    ensures len { vec_len out.new ≤ vec_len out.old + 3 * length positions.now }
-    ensures capacity { vec_capacity out.old ≤ vec_capacity out.new }
-{
-    let mut next = 0;
-    for position in positions {
-        put_in_room(out, u64::from(*position + 1 - next));
-        next = *position + 1;
-    }
-}
-
-/// Writes a document at the end, within the capacity: the increase of its id, its positions, its end.
-fn put_posting(out: &mut Vec<u8>, increase: u64, positions: &[u32])
-    requires positions { ArePositions positions.now }
-    requires limit { increase < 2 ^ 63 }
-    requires room { vec_len out.old + bytes_for (length positions.now) ≤ vec_capacity out.old }
-    ensures items { out.new.items ≡ out.old.items ++ (number_bytes increase ++ (items_bytes (position_items 0 positions.now) ++ 0 ∷ [])) }
-    ensures len { vec_len out.new ≤ vec_len out.old + bytes_for (length positions.now) }
-    ensures capacity { vec_capacity out.old ≤ vec_capacity out.new }
-{
-    put_in_room(out, increase);
-    put_positions(out, positions);
-    out.push(0).unwrap();
+    ghost invariant = { λ q. IsQueue q.bytes.items (vec_capacity q.bytes) q.start q.before q.last
+        q.room };
 }
 
 /// The place behind the documents up to `doc`, of those from a place on, and the id before it.
 fn place_behind(bytes: &[u8], start: usize, before: u64, doc: u64) -> (usize, u64)
     requires { StandsAt bytes.now start before }
     ensures stands { StandsAt bytes.now result.0 result.1 }
-    ensures postings { postings_in result.1 (drop result.0 bytes.now) ≡ postings_behind doc (postings_in before (drop start bytes.now)) }
-    ensures last { id_at_end result.1 (postings_in result.1 (drop result.0 bytes.now)) ≡ id_at_end before (postings_in before (drop start bytes.now)) }
+    ensures postings { postings_in result.1 (drop result.0 bytes.now)
+        ≡ postings_behind doc (postings_in before (drop start bytes.now)) }
+    ensures last { id_at_end result.1 (postings_in result.1 (drop result.0 bytes.now))
+        ≡ id_at_end before (postings_in before (drop start bytes.now)) }
 {
     let mut at = start;
     let mut last = before;
@@ -95,16 +70,18 @@ fn place_behind(bytes: &[u8], start: usize, before: u64, doc: u64) -> (usize, u6
 fn next_until(rest: &[u8], last: u64, doc: u64) -> Option<(usize, u64)>
     requires { IsTail last rest.now }
     ensures some { IfSome result (λ next. Passes rest.now last doc next.0 next.1) }
-    ensures none { IfNone result (postings_behind doc (postings_in last rest.now) ≡ postings_in last rest.now) }
+    ensures none { IfNone result (postings_behind doc (postings_in last rest.now)
+        ≡ postings_in last rest.now) }
 {
-    let documents = Documents { rest, last };
-    match documents.peek_id() {
-        Some(id) if id <= doc => match document_at(rest, 0, last) {
-            Ok(found) => Some((found.end, found.id)),
-            Err(_) => unreachable!(),
-        },
-        _ => None,
+    if rest.is_empty() {
+        return None;
     }
+    let (increase, len) = front_number(rest);
+    let id = last + increase;
+    if id > doc {
+        return None;
+    }
+    Some((len + body_len(&rest[len..]), id))
 }
 
 /// Takes the first `count` bytes out. The capacity stays.
@@ -138,14 +115,12 @@ impl PostingQueue {
     }
 
     /// The documents above `doc`, by ascending ids. They are read in place, and no memory is taken.
-    pub fn docs_behind(&self, doc: u64) -> Documents<'_>
-        ensures { result ≡ postings_behind doc self.now.postings }
+    pub fn docs_behind(&self, doc: u64) -> Cursor<'_>
+        ensures documents { result ≡ postings_behind doc self.now.postings }
+        ensures are { ArePostings result }
     {
         let (start, last) = place_behind(&self.bytes, self.start, self.before, doc);
-        Documents {
-            rest: &self.bytes[start..],
-            last,
-        }
+        Cursor::new(last, &self.bytes[start..])
     }
 
     /// Gives the room up that was made and not used.
@@ -155,16 +130,18 @@ impl PostingQueue {
         self.room = 0;
     }
 
-    /// Makes room for one more document, which has so many positions, beside the room that there is. Where there
-    /// is no memory, all stays as it was.
+    /// Makes room for one more document, which has so many positions, beside the room that there
+    /// is. Where there is no memory, all stays as it was.
     pub fn reserve(&mut self, positions: usize) -> Result<(), AllocError>
         requires { positions ≤ 131072 }
-        ensures ok { OnOk result (self.new ≡ record self.old { room = self.old.room + bytes_for positions }) }
+        ensures ok { OnOk result (self.new
+            ≡ record self.old { room = self.old.room + bytes_for positions }) }
         ensures err { OnErr result (self.new ≡ self.old) }
     {
         let room = self.room + bytes_for_document(positions);
         if self.bytes.capacity() - self.bytes.len() < room {
-            // An eighth more, so that the bytes that are copied stay within a constant for each byte put in.
+            // An eighth more, so that the bytes that are copied stay within a constant for each
+            // byte put in.
             self.bytes.reserve_exact(room.max(self.bytes.len() / 8))?;
         }
         self.room = room;
@@ -177,7 +154,8 @@ impl PostingQueue {
         requires limit { doc ≤ LAST_ID }
         requires positions { ArePositions positions.now }
         requires room { bytes_for (length positions.now) ≤ self.old.room }
-        ensures postings { self.new.postings ≡ self.old.postings ++ record { id = doc; positions = positions.now } ∷ [] }
+        ensures postings { self.new.postings
+            ≡ self.old.postings ++ record { id = doc; positions = positions.now } ∷ [] }
         ensures last { self.new.last ≡ doc }
         ensures room { self.new.room + bytes_for (length positions.now) ≡ self.old.room }
     {
@@ -186,8 +164,8 @@ impl PostingQueue {
         self.room -= bytes_for_document(positions.len());
     }
 
-    /// Takes the documents up to `doc` out. It takes time for them alone, and for the bytes behind them only
-    /// where these are at most four times as many as those that left before.
+    /// Takes the documents up to `doc` out. It takes time for them alone, and for the bytes behind
+    /// them only where these are at most four times as many as those that left before.
     pub fn drop_until(&mut self, doc: u64)
         ensures { self.new ≡ record self.old { postings = postings_behind doc self.old.postings } }
     {

@@ -1,9 +1,12 @@
 //! Reading lists from left to right, each item tried where it stands.
-ghost use Rattle.std.specs.Prelude.{◌≡◌, ◌+◌, ◌^◌, ◌<◌, ◌≤◌, ◌++◌, ◌↔◌, List, ℕ, length, drop, slice_index, IsTrue, IfOk, IfErr};
+ghost use Rattle.std.specs.Prelude.{◌≡◌, ◌+◌, ◌^◌, ◌<◌, ◌≤◌, ◌++◌, ◌↔◌, List, ℕ, length, drop};
+ghost use Rattle.std.specs.Prelude.{slice_index, IsTrue, IfOk, IfErr};
 ghost use Rattle.fts_ilist.specs.Number.{number_bytes, BeginsWithNumber};
+ghost use Rattle.fts_ilist.specs.Reading.{postings_in};
 ghost use Rattle.fts_ilist.specs.Reading.State.{between, inside};
 ghost use Rattle.fts_ilist.specs.Fault.{IsFirstFault};
-ghost use Rattle.fts_ilist.specs.Progress.{Reads, GetsStuck, ReadsIncrease, HasNoIncrease, ReadsBody, ReadsDocument};
+ghost use Rattle.fts_ilist.specs.Progress.{Reads, GetsStuck, ReadsIncrease, HasNoIncrease};
+ghost use Rattle.fts_ilist.specs.Progress.{ReadsBody, ReadsDocument, is_end, BeginsBody, EndsBody};
 
 use crate::number::{Bad, take_number};
 
@@ -64,7 +67,8 @@ pub(crate) fn increase_at(
 /// Whether a document ends here, `next` being its last position + 1.
 #[inline]
 fn ends_at(bytes: &[u8], at: usize, next: u64) -> bool
-    ensures { IsTrue result ↔ ((0 < next) × (at < length bytes.now) × (slice_index bytes.now at ≡ 0)) }
+    ensures { IsTrue result ↔ ((0 < next) × (at < length bytes.now)
+        × (slice_index bytes.now at ≡ 0)) }
 {
     next > 0 && at < bytes.len() && bytes[at] == 0
 }
@@ -73,7 +77,8 @@ fn ends_at(bytes: &[u8], at: usize, next: u64) -> bool
 fn document_end(bytes: &[u8], start: usize) -> Result<usize, Bad>
     requires { start ≤ length bytes.now }
     ensures found { IfOk result (λ end. ReadsBody bytes.now start end) }
-    ensures stuck { IfErr result (λ bad. (id : ℕ) → GetsStuck bytes.now start (inside id 0) bad.at) }
+    ensures stuck { IfErr result (λ bad. (id : ℕ)
+        → GetsStuck bytes.now start (inside id 0) bad.at) }
 {
     let mut at = start;
     let mut next = 0;
@@ -97,17 +102,46 @@ pub(crate) fn document_at(bytes: &[u8], at: usize, last: u64) -> Result<Placed, 
     Ok(Placed { id, start, end })
 }
 
-/// The id of the last document of the list that the bytes are.
-pub(crate) fn last_of(bytes: &[u8]) -> Result<u64, Bad>
-    ensures found { IfOk result (λ last. Reads bytes.now 0 (between 0) (length bytes.now) (between last)) }
+/// The id of the last document of the list that the bytes are, and the number of its documents.
+pub(crate) fn last_of(bytes: &[u8]) -> Result<(u64, usize), Bad>
+    ensures found { IfOk result (λ r. Reads bytes.now 0 (between 0) (length bytes.now)
+        (between r.0)) }
+    ensures count { IfOk result (λ r. r.1 ≡ length (postings_in 0 bytes.now)) }
     ensures fault { IfErr result (λ bad. IsFirstFault bytes.now bad.at) }
 {
     let mut at = 0;
     let mut last = 0;
+    let mut count = 0;
     while at < bytes.len() {
         let document = document_at(bytes, at, last)?;
         last = document.id;
         at = document.end;
+        count += 1;
     }
-    Ok(last)
+    Ok((last, count))
+}
+
+/// Whether a document ends with this byte, behind the byte before.
+#[inline]
+fn is_document_end(before: u8, byte: u8) -> bool
+    ensures { result ≡ is_end before byte }
+{
+    byte == 0 && before >= 128
+}
+
+/// How many bytes a document's positions and its end take, at the front of bytes that are known to
+/// be right: up to the first 00 behind a byte of 128 or more. No position is decoded.
+#[inline]
+pub(crate) fn body_len(bytes: &[u8]) -> usize
+    requires { BeginsBody bytes.now }
+    ensures { EndsBody bytes.now result }
+{
+    let mut before = 0;
+    for (at, byte) in bytes.iter().enumerate() {
+        if is_document_end(before, *byte) {
+            return at + 1;
+        }
+        before = *byte;
+    }
+    unreachable!()
 }

@@ -92,10 +92,13 @@ fn example_is_written(rt: HostRuntime) -> Result<(), Fail> {
     assert!(rt; empty.is_empty());
     assert_eq!(rt; empty.last_id(), 0);
     assert_eq!(rt; empty.bytes().len(), 0);
-    assert_eq!(rt; empty.docs().peek_id(), None);
+    assert_eq!(rt; empty.cursor().doc(), None);
+    assert_eq!(rt; empty.count(), 0);
     let list = example(rt)?;
     assert_eq!(rt; list.bytes(), EXAMPLE.as_slice());
+    assert_eq!(rt; list.first_id(), 1);
     assert_eq!(rt; list.last_id(), 300);
+    assert_eq!(rt; list.count(), 2);
     assert!(rt; !list.is_empty());
     Ok(())
 }
@@ -114,6 +117,73 @@ fn example_is_read(rt: HostRuntime) -> Result<(), Fail> {
     }
     assert_eq!(rt; ids.as_slice(), [1, 300].as_slice());
     assert_eq!(rt; positions.as_slice(), [4, 0, 127, 200].as_slice());
+    Ok(())
+}
+
+#[test]
+fn a_cursor_skips(rt: HostRuntime) -> Result<(), Fail> {
+    let list = parse(rt.alloc(), &EXAMPLE)?;
+    let mut cursor = list.cursor();
+    assert_eq!(rt; cursor.doc(), Some(1));
+    cursor.skip_to(1);
+    assert_eq!(rt; cursor.doc(), Some(1));
+    cursor.skip_to(2);
+    assert_eq!(rt; cursor.doc(), Some(300));
+    let mut positions = cursor.positions();
+    assert_eq!(rt; positions.next(), Some(0));
+    assert_eq!(rt; positions.next(), Some(127));
+    assert_eq!(rt; positions.next(), Some(200));
+    assert_eq!(rt; positions.next(), None);
+    cursor.skip_to(301);
+    assert_eq!(rt; cursor.doc(), None);
+    Ok(())
+}
+
+// A 00 within a number ends no document: the increases 128 and 16,384 have one.
+#[test]
+fn a_cursor_advances(rt: HostRuntime) -> Result<(), Fail> {
+    let mut list = Ilist::new(rt.alloc());
+    list.push(128, &[127, 16_511])?;
+    list.push(16_512, &[16_383])?;
+    assert_eq!(rt;
+        list.bytes(),
+        [1, 0x80, 1, 0x80, 1, 0, 0x80, 0, 1, 0, 0x80, 1, 0, 0x80, 0].as_slice()
+    );
+    let mut cursor = list.cursor();
+    cursor.advance();
+    assert_eq!(rt; cursor.doc(), Some(16_512));
+    assert_eq!(rt; cursor.positions().next(), Some(16_383));
+    cursor.advance();
+    cursor.advance();
+    assert_eq!(rt; cursor.doc(), None);
+    assert_eq!(rt; cursor.positions().next(), None);
+    Ok(())
+}
+
+#[test]
+fn sizes_are_told(rt: HostRuntime) -> Result<(), Fail> {
+    let list = example(rt)?;
+    let mut other = Ilist::new(rt.alloc());
+    other.push(428, &[0, 127])?;
+    other.push(429, &[1])?;
+    if let Some(document) = other.docs().next() {
+        if list.last_id() < document.id() {
+            assert_eq!(rt; list.size_of(&document), 5);
+            assert!(rt; list.takes(&document, 14));
+            assert!(rt; !list.takes(&document, 13));
+        }
+    }
+    Ok(())
+}
+
+#[test]
+fn documents_are_packed(rt: HostRuntime) -> Result<(), Fail> {
+    let list = example(rt)?;
+    let nodes = pack(rt.alloc(), list.docs())?;
+    assert_eq!(rt; nodes.len(), 1);
+    for node in &nodes {
+        assert_eq!(rt; node.bytes(), EXAMPLE.as_slice());
+    }
     Ok(())
 }
 

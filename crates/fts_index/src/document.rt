@@ -43,7 +43,8 @@ pub(crate) fn document_words(
     requires texts { IsRow row.now.texts }
     requires positive { 0 < row.now.doc }
     requires limit { row.now.doc < 2 ^ 63 }
-    ensures { IfOk result (λ document. HasWordsOf (rules_of settings.now) (row_of row.now) document) }
+    ensures { IfOk result (λ document. HasWordsOf (rules_of settings.now) (row_of row.now)
+        document) }
 {
     let lower = lowered_texts(alloc, &row.texts)?;
     let all = occurrences(alloc, settings, &row.texts, &lower)?;

@@ -31,7 +31,8 @@ fn documents_of(
     births: &[Row],
 ) -> Result<Vec<DocWords>, AllocError>
     requires { (last : ℕ) × (largest : ℕ) × AreBirths last largest (map row_of births.now) }
-    ensures { IfOk result (λ documents. HaveWordsOf (rules_of settings.now) (map row_of births.now) documents.items) }
+    ensures { IfOk result (λ documents. HaveWordsOf (rules_of settings.now) (map row_of births.now)
+        documents.items) }
 {
     let mut documents = Vec::new(alloc);
     for birth in births {
@@ -56,16 +57,19 @@ impl Index {
         }
     }
 
-    /// What a commit of new rows adds to the index, with the room for it. It costs the rows' own words. Where there is
-    /// no memory, the index has what it had.
+    /// What a commit of new rows adds to the index, with the room for it. It costs the rows' own
+    /// words. Where there is no memory, the index has what it had.
     pub fn plan_commit(
         &mut self,
         settings: &Settings,
         births: &[Row],
     ) -> Result<CommitPlan, AllocError>
-        requires { (rows : Rows) × (largest : ℕ) × Indexes (rules_of settings.now) rows self.old × AreBirths rows.largest largest (map row_of births.now) }
-        ensures planned { IfOk result (λ plan. WillIndex (rules_of settings.now) (map row_of births.now) self.new plan) }
-        ensures stays { (rules : Rules) (rows : Rows) → Indexes rules rows self.old → Indexes rules rows self.new }
+        requires { (rows : Rows) × (largest : ℕ) × Indexes (rules_of settings.now) rows self.old
+            × AreBirths rows.largest largest (map row_of births.now) }
+        ensures planned { IfOk result
+            (λ plan. WillIndex (rules_of settings.now) (map row_of births.now) self.new plan) }
+        ensures stays { (rules : Rules) (rows : Rows) → Indexes rules rows self.old
+            → Indexes rules rows self.new }
     {
         let documents = documents_of(self.alloc, settings, births)?;
         self.cache.reserve(&documents)?;
@@ -75,8 +79,10 @@ impl Index {
     /// Adds what was planned. It takes no memory, and for each word and occurrence constant time.
     pub fn install_commit(&mut self, plan: CommitPlan)
         requires { FitsIndex self.old plan }
-        ensures { (rules : Rules) (rows : Rows) (births : List TableRow) (largest : ℕ) → Indexes rules rows self.old
-            → WillIndex rules births self.old plan → AreBirths rows.largest largest births → Indexes rules (record { list = rows.list ++ births; largest = largest }) self.new }
+        ensures { (rules : Rules) (rows : Rows) (births : List TableRow) (largest : ℕ)
+            → Indexes rules rows self.old
+            → WillIndex rules births self.old plan → AreBirths rows.largest largest births
+            → Indexes rules (record { list = rows.list ++ births; largest = largest }) self.new }
     {
         for document in &plan.documents {
             self.cache.add(document);
@@ -85,7 +91,8 @@ impl Index {
 
     /// The ascending ids of the rows that have the word. It costs the word's own documents.
     pub fn find(&self, word: &[u8]) -> Result<DocIds, AllocError>
-        ensures { IfOk result (λ docs. (rules : Rules) (rows : Rows) → Indexes rules rows self.now → docs ≡ scan rules word.now rows) }
+        ensures { IfOk result (λ docs. (rules : Rules) (rows : Rows) → Indexes rules rows self.now
+            → docs ≡ scan rules word.now rows) }
     {
         let mut docs = Vec::new(self.alloc);
         for document in self.cache.postings(word) {

@@ -1,4 +1,5 @@
-//! The index of a table's rows in memory: the words of each commit's rows, and the rows that have a word.
+//! The index of a table's rows in memory: the words of each commit's rows, and the rows that have a
+//! word.
 #![tactic(auto)]
 
 mod document;

@@ -11,7 +11,8 @@ use fts_types::{RowTexts, Settings};
 use fts_words::PlacedWord;
 use std::alloc::{AllocError, Global};
 
-/// An indexed word, and where it starts in its row. It borrows the word from the row's lowered texts.
+/// An indexed word, and where it starts in its row. It borrows the word from the row's lowered
+/// texts.
 #[derive(Clone, Copy, Debug)]
 pub(crate) struct Occurrence<'a> {
     pub word: &'a [u8],

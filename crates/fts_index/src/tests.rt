@@ -63,8 +63,13 @@ fn later_rows(rt: &impl Abort, alloc: Global) -> Result<Vec<Row>, Fail>
 
 // Commits the rows.
 fn commit(index: &mut Index, settings: &Settings, births: &[Row]) -> Result<(), Fail>
-    requires { (rows : Rows) × (largest : ℕ) × Indexes (rules_of settings.now) rows index.old × AreBirths rows.largest largest (map row_of births.now) }
-    ensures { OnOk result ((rows : Rows) (largest : ℕ) → Indexes (rules_of settings.now) rows index.old → AreBirths rows.largest largest (map row_of births.now) → Indexes (rules_of settings.now) (record { list = rows.list ++ map row_of births.now; largest = largest }) index.new) }
+    requires { (rows : Rows) × (largest : ℕ) × Indexes (rules_of settings.now) rows index.old
+        × AreBirths rows.largest largest (map row_of births.now) }
+    ensures { OnOk result ((rows : Rows) (largest : ℕ)
+        → Indexes (rules_of settings.now) rows index.old
+        → AreBirths rows.largest largest (map row_of births.now)
+        → Indexes (rules_of settings.now)
+        (record { list = rows.list ++ map row_of births.now; largest = largest }) index.new) }
 {
     let plan = index.plan_commit(settings, births)?;
     index.install_commit(plan);

@@ -1,4 +1,5 @@
-use Rattle.std.specs.Prelude.{◌≡◌, ℕ, ◌+◌, ◌-◌, ◌^◌, ◌<◌, ◌⊎◌, min, Result, IsErr, is_err, if◌then◌else◌, List, Contains, drop}
+use Rattle.std.specs.Prelude.{◌≡◌, ℕ, ◌+◌, ◌-◌, ◌^◌, ◌<◌, ◌⊎◌, min, Result, IsErr, is_err, if◌then◌else◌, List}
+use Rattle.std.specs.Prelude.{Contains, drop}
 use Rattle.fts_faults.specs.Count.{Rose}
 use Rattle.fts_io.specs.declared.calls.Calls.{Calls}
 use Rattle.fts_io.specs.declared.memory.MemSink.{MemSink}

@@ -1,4 +1,5 @@
-use Rattle.std.specs.Prelude.{◌≡◌, ℕ, ◌+◌, ◌-◌, ◌*◌, ◌^◌, ◌<◌, ◌≤◌, min, Bool, true, false, List, [], ◌∷◌, ◌++◌, length, map}
+use Rattle.std.specs.Prelude.{◌≡◌, ℕ, ◌+◌, ◌-◌, ◌*◌, ◌^◌, ◌<◌, ◌≤◌, min, Bool, true, false, List, [], ◌∷◌, ◌++◌, length}
+use Rattle.std.specs.Prelude.{map}
 use Rattle.fts_io.specs.Text.{Line, onto, cut, lines_of, sorted, too_long, whole}
 use Rattle.fts_io.specs.declared.lines.Lines.{Lines}
 use Rattle.fts_io.specs.declared.lines.Filled.{Filled}
@@ -66,6 +67,13 @@ Measures next.End taken = taken ≤ 2 ^ 40
 Measures (next.Endless bytes) taken = (bytes ≡ taken) × (2 ^ 40 < taken)
 Measures next.ReadFault taken = taken ≤ 2 ^ 40
 Measures next.NoMemory taken = taken ≤ 2 ^ 40
+
+-- what an answer says of the reader's counts: of the lines that were given, of the bytes that were taken, and that a
+-- line brings the reading nearer to its end
+pub record Accounts (answer : Next) (old new : Lines) : Type 0 where
+  pub numbers : Counts answer (given_by old) (given_by new)
+  pub endless : Measures answer (taken_by new)
+  pub progress : IsLine answer → work_left new < work_left old
 
 -- the answer is Endless with these bytes taken
 abbrev pub IsEndless : Next → ℕ → Type 0

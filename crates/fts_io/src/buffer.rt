@@ -1,4 +1,5 @@
-ghost use Rattle.std.specs.Prelude.{◌≡◌, ◌++◌, ◌+◌, ◌<◌, ◌≤◌, ◌↔◌, ℕ, List, [], length, take, drop, vec_len, IsTrue, IfOk, OnErr};
+ghost use Rattle.std.specs.Prelude.{◌≡◌, ◌++◌, ◌+◌, ◌<◌, ◌≤◌, ◌↔◌, ℕ, List, [], length, take, drop};
+ghost use Rattle.std.specs.Prelude.{vec_len, IsTrue, IfOk, OnErr};
 ghost use Rattle.fts_faults.specs.Count.{HasCause};
 ghost use Rattle.fts_io.specs.declared.buffer.TheConstants.{READ_SIZE};
 
@@ -60,14 +61,16 @@ impl Buffer {
         self.at += count;
     }
 
-    /// Reads at most `most` bytes into the empty buffer, and returns how many came. None means that none are left.
+    /// Reads at most `most` bytes into the empty buffer, and returns how many came. None means that
+    /// none are left.
     pub fn fill<S: Source>(&mut self, source: &mut S, most: usize) -> Result<usize, Failed>
         requires empty { self.old ≡ [] }
         requires some { 0 < most }
         requires room { most ≤ READ_SIZE }
         ensures bound { IfOk result (λ n. n ≤ most) }
         ensures length { IfOk result (λ n. length self.new ≡ n) }
-        ensures takes { IfOk result (λ _. IsTrue S.tells → S.left source.old ≡ self.new ++ S.left source.new) }
+        ensures takes { IfOk result
+            (λ _. IsTrue S.tells → S.left source.old ≡ self.new ++ S.left source.new) }
         ensures end { IfOk result (λ n. IsTrue S.tells → n ≡ 0 → S.left source.new ≡ []) }
         ensures empty { OnErr result (self.new ≡ []) }
         ensures kept { OnErr result (IsTrue S.tells → S.left source.new ≡ S.left source.old) }
@@ -86,7 +89,8 @@ fn read_front<S: Source>(source: &mut S, bytes: &mut [u8], most: usize) -> Resul
     requires room { most ≤ length bytes.old }
     requires some { 0 < most }
     ensures bound { IfOk result (λ n. n ≤ most) }
-    ensures takes { IfOk result (λ n. IsTrue S.tells → S.left source.old ≡ take n bytes.new ++ S.left source.new) }
+    ensures takes { IfOk result (λ n. IsTrue S.tells
+        → S.left source.old ≡ take n bytes.new ++ S.left source.new) }
     ensures end { IfOk result (λ n. IsTrue S.tells → n ≡ 0 → S.left source.new ≡ []) }
     ensures kept { OnErr result (IsTrue S.tells → S.left source.new ≡ S.left source.old) }
     ensures cause { HasCause (S.faults source.old) (S.faults source.new) result }

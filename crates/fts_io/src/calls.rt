@@ -31,7 +31,8 @@ impl Calls {
         ensures cause { HasCause self.old.faults self.new.faults result }
         ensures named { IsErr result ↔ NamesNext self.old }
         ensures made { self.new.made ≡ one_more self.old.made }
-        ensures faults { self.new.faults ≡ (if is_err result then one_more self.old.faults else self.old.faults) }
+        ensures faults { self.new.faults
+            ≡ (if is_err result then one_more self.old.faults else self.old.faults) }
         ensures refused { self.new.refused ≡ self.old.refused }
         ensures fails { self.new.fails.items ≡ self.old.fails.items }
     {

@@ -1,7 +1,8 @@
-//! Bytes that come and go: a source that is read line by line, and a sink that is written piece by piece.
+//! Bytes that come and go: a source that is read line by line, and a sink that is written piece by
+//! piece.
 //!
-//! Both may fail at any call. A failure has a cause that the caller can see: the count of faults of the object
-//! rose in that call.
+//! Both may fail at any call. A failure has a cause that the caller can see: the count of faults of
+//! the object rose in that call.
 #![tactic(auto)]
 
 mod buffer;

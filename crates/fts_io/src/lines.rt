@@ -1,5 +1,7 @@
-ghost use Rattle.std.specs.Prelude.{◌≡◌, ◌++◌, ◌∷◌, ◌+◌, ◌-◌, ◌*◌, ◌^◌, ◌<◌, ◌≤◌, ◌↔◌, ◌⊎◌, ℕ, List, [], length, take, min, vec_len, IsTrue, IfOk, OnOk, OnErr, max};
-ghost use Rattle.fts_faults.specs.Count.{HasCause, Rose};
+ghost use Rattle.std.specs.Prelude.{◌≡◌, ◌++◌, ◌∷◌, ◌+◌, ◌-◌, ◌*◌, ◌^◌, ◌<◌, ◌≤◌, ◌↔◌, ◌⊎◌, ℕ};
+ghost use Rattle.std.specs.Prelude.{List, [], length, take, min, vec_len, IsTrue, IfOk, OnOk};
+ghost use Rattle.std.specs.Prelude.{OnErr, max};
+ghost use Rattle.fts_faults.specs.Count.{CountsFault};
 
 use crate::buffer::{Buffer, READ_SIZE};
 use crate::source::Source;
@@ -23,7 +25,8 @@ pub enum Next {
     Line(Vec<u8>),
     /// There is no line left.
     End,
-    /// The next line is longer than `LONGEST_LINE` bytes, and was skipped. Lines are numbered from 1.
+    /// The next line is longer than `LONGEST_LINE` bytes, and was skipped. Lines are numbered from
+    /// 1.
     TooLong { line: u64 },
     /// The source has more than `LONGEST_TEXT` bytes. `bytes` were taken.
     Endless { bytes: u64 },
@@ -56,8 +59,9 @@ enum Filled {
 
 /// A reader of lines. It takes bytes of a source in large pieces and gives them line by line.
 ///
-/// A line ends at an LF or at the end of the text. The reader belongs to one source, which is handed in at each
-/// call. After an answer that isn't a line the bytes taken are kept, and the next call goes on with them.
+/// A line ends at an LF or at the end of the text. The reader belongs to one source, which is
+/// handed in at each call. After an answer that isn't a line the bytes taken are kept, and the next
+/// call goes on with them.
 #[derive(Drop)]
 pub struct Lines {
     /// The bytes of the line that was begun, and one byte more than the limit at most.
@@ -73,7 +77,9 @@ pub struct Lines {
 
 impl Lines {
     ghost use Rattle.fts_io.specs.Text.{Line, lines_of, sorted};
-    ghost use Rattle.fts_io.specs.Reading.{Counts, Gives, HasFilled, IsEndless, IsLine, Measures, OnlyBegun, TakesPiece, ahead, given_by, taken_by, work_left};
+    ghost use Rattle.fts_io.specs.Reading.{Accounts, Counts, Gives, HasFilled, IsEndless, IsLine};
+    ghost use Rattle.fts_io.specs.Reading.{Measures, OnlyBegun, TakesPiece, ahead, given_by};
+    ghost use Rattle.fts_io.specs.Reading.{taken_by, work_left};
 
     /// A reader that has taken nothing yet.
     pub fn new(alloc: Global) -> Result<Lines, AllocError>
@@ -92,21 +98,27 @@ impl Lines {
     /// The next line, without its LF. The last line may end without one.
     pub fn next_line<S: Source>(&mut self, source: &mut S) -> Next
         // The lines come in order, and an answer that is no line leaves those that are to come.
-        ensures lines { IsTrue S.tells → Gives result (ahead self.old (S.left source.old)) (ahead self.new (S.left source.new)) }
-        ensures numbers { Counts result (given_by self.old) (given_by self.new) }
+        ensures lines { IsTrue S.tells
+            → Gives result (ahead self.old (S.left source.old))
+            (ahead self.new (S.left source.new)) }
         ensures end { IsTrue S.tells → result ≡ Next.End → S.left source.new ≡ [] }
 
-        // Each byte that left the source was taken, and Endless comes exactly where more than 2^40 were.
-        ensures counts { IsTrue S.tells → taken_by self.new + length (S.left source.new) ≡ taken_by self.old + length (S.left source.old) }
-        ensures endless { Measures result (taken_by self.new) }
+        // Each byte that left the source was taken, and Endless comes exactly where more than 2^40
+        // were.
+        ensures counts { IsTrue S.tells
+            → taken_by self.new + length (S.left source.new)
+            ≡ taken_by self.old + length (S.left source.old) }
+        ensures accounts { Accounts result self.old self.new }
 
         // Where the reading stops, all whole lines before were given.
-        ensures read_dry { IsTrue S.tells → result ≡ Next.ReadFault → OnlyBegun (ahead self.new (S.left source.new)) (S.left source.new) }
-        ensures endless_dry { IsTrue S.tells → (bytes : ℕ) → IsEndless result bytes → (byte : ℕ) × OnlyBegun (ahead self.new (S.left source.new)) (byte ∷ S.left source.new) }
+        ensures read_dry { IsTrue S.tells → result ≡ Next.ReadFault
+            → OnlyBegun (ahead self.new (S.left source.new)) (S.left source.new) }
+        ensures endless_dry { IsTrue S.tells → (bytes : ℕ) → IsEndless result bytes
+            → (byte : ℕ) × OnlyBegun (ahead self.new (S.left source.new))
+            (byte ∷ S.left source.new) }
 
-        ensures progress { IsLine result → work_left self.new < work_left self.old }
-        ensures fault { result ≡ Next.ReadFault → Rose (S.faults source.old) (S.faults source.new) }
-        ensures never_falls { S.faults source.old ≤ S.faults source.new }
+        ensures faults { CountsFault (result ≡ Next.ReadFault) (S.faults source.old)
+            (S.faults source.new) }
     {
         loop {
             match self.fill(source) {
@@ -141,13 +153,16 @@ impl Lines {
     fn fill<S: Source>(&mut self, source: &mut S) -> Filled
         ensures filled { HasFilled result self.new }
         ensures dry { IsTrue S.tells → result ≡ Filled.Dry → S.left source.new ≡ [] }
-        ensures fault { result ≡ Filled.Fault → Rose (S.faults source.old) (S.faults source.new) }
-        ensures moved { IsTrue S.tells → self.old.buffer ++ S.left source.old ≡ self.new.buffer ++ S.left source.new }
-        ensures counts { IsTrue S.tells → taken_by self.new + length (S.left source.new) ≡ taken_by self.old + length (S.left source.old) }
+        ensures moved { IsTrue S.tells
+            → self.old.buffer ++ S.left source.old ≡ self.new.buffer ++ S.left source.new }
+        ensures counts { IsTrue S.tells
+            → taken_by self.new + length (S.left source.new)
+            ≡ taken_by self.old + length (S.left source.old) }
         ensures line { self.new.line ≡ self.old.line }
         ensures given { self.new.given ≡ self.old.given }
         ensures work { work_left self.new ≤ work_left self.old }
-        ensures never_falls { S.faults source.old ≤ S.faults source.new }
+        ensures faults { CountsFault (result ≡ Filled.Fault) (S.faults source.old)
+            (S.faults source.new) }
     {
         if self.buffer.is_empty() {
             let wanted = self.wanted();
@@ -165,7 +180,8 @@ impl Lines {
         }
     }
 
-    /// How many bytes to ask for: none past the longest text, and then one, to see whether the text goes on.
+    /// How many bytes to ask for: none past the longest text, and then one, to see whether the text
+    /// goes on.
     fn wanted(&self) -> usize
         ensures some { 0 < result }
         ensures room { result ≤ READ_SIZE }
@@ -175,11 +191,13 @@ impl Lines {
         left.min(READ_SIZE as u64) as usize
     }
 
-    /// Moves bytes of the buffer to the line, up to an LF or all of them. True means that the line is whole.
+    /// Moves bytes of the buffer to the line, up to an LF or all of them. True means that the line
+    /// is whole.
     fn take_piece(&mut self) -> Result<bool, AllocError>
         requires some { 0 < length self.old.buffer }
         requires within { self.old.taken ≤ 2 ^ 40 }
-        ensures lines { (left : List ℕ) → IfOk result (λ is_whole. TakesPiece is_whole self.old self.new left) }
+        ensures lines { (left : List ℕ)
+            → IfOk result (λ is_whole. TakesPiece is_whole self.old self.new left) }
         ensures kept_line { OnErr result (self.new.line.items ≡ self.old.line.items) }
         ensures kept_buffer { OnErr result (self.new.buffer ≡ self.old.buffer) }
         ensures given { self.new.given ≡ self.old.given }
@@ -205,7 +223,8 @@ impl Lines {
     /// Gives the line that was begun, as a whole one.
     fn whole_line(&mut self) -> Next
         requires { self.old.given + length self.old.buffer + 1 ≤ self.old.taken }
-        ensures gives { (lines : List Line) → Gives result (sorted self.old.line.items ∷ lines) lines }
+        ensures gives { (lines : List Line)
+            → Gives result (sorted self.old.line.items ∷ lines) lines }
         ensures numbers { Counts result (given_by self.old) (given_by self.new) }
         ensures is_line { IsLine result }
         ensures measures { self.old.taken ≤ 2 ^ 40 → Measures result self.old.taken }

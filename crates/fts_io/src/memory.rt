@@ -1,4 +1,5 @@
-ghost use Rattle.std.specs.Prelude.{◌≡◌, ◌++◌, ◌≤◌, ◌<◌, ◌-◌, ◌^◌, min, ℕ, true, List, [], length, take, drop, IsTrue, IfOk, OnErr};
+ghost use Rattle.std.specs.Prelude.{◌≡◌, ◌++◌, ◌≤◌, ◌<◌, ◌-◌, ◌^◌, min, ℕ, true, List, [], length};
+ghost use Rattle.std.specs.Prelude.{take, drop, IsTrue, IfOk, OnErr};
 ghost use Rattle.fts_faults.specs.Count.{HasCause};
 
 use crate::calls::Calls;
@@ -7,7 +8,8 @@ use crate::source::Source;
 use fts_faults::Failed;
 use std::alloc::{AllocError, Global};
 
-/// A source over bytes in memory. It can be told to fail at chosen calls, and to give few bytes a call.
+/// A source over bytes in memory. It can be told to fail at chosen calls, and to give few bytes a
+/// call.
 #[derive(Debug, Drop)]
 pub struct MemSource {
     bytes: Vec<u8>,
@@ -21,7 +23,8 @@ pub struct MemSource {
 impl MemSource {
     ghost use Rattle.fts_io.specs.Memory.{IsFresh, bytes_left, most_given, source_calls};
 
-    /// A source that has these bytes left. `fails` lists the numbers, from 1, of the reads that fail.
+    /// A source that has these bytes left. `fails` lists the numbers, from 1, of the reads that
+    /// fail.
     pub fn new(bytes: Vec<u8>, fails: Vec<u64>) -> MemSource
         ensures most { most_given result ≡ 2 ^ 64 - 1 }
         ensures left { bytes_left result ≡ bytes.items }
@@ -72,12 +75,16 @@ impl Source for MemSource {
 
     fn read(&mut self, buf: &mut [u8]) -> Result<usize, Failed>
         ensures bound { IfOk result (λ n. n ≤ length buf.new) }
-        ensures takes { IfOk result (λ n. bytes_left self.old ≡ take n buf.new ++ bytes_left self.new) }
+        ensures takes { IfOk result
+            (λ n. bytes_left self.old ≡ take n buf.new ++ bytes_left self.new) }
         ensures end { IfOk result (λ n. n ≡ 0 → 0 < length buf.new → bytes_left self.new ≡ []) }
         ensures kept { OnErr result (bytes_left self.new ≡ bytes_left self.old) }
-        ensures cause { HasCause (source_calls self.old).faults (source_calls self.new).faults result }
+        ensures cause { HasCause (source_calls self.old).faults (source_calls self.new).faults
+            result }
         ensures counted { IsCounted (source_calls self.old) (source_calls self.new) result }
-        ensures count { IfOk result (λ n. n ≡ min (min (length (bytes_left self.old)) (most_given self.old)) (length buf.new)) }
+        ensures count { IfOk result
+            (λ n. n ≡ min (min (length (bytes_left self.old)) (most_given self.old))
+            (length buf.new)) }
         ensures most { most_given self.new ≡ most_given self.old }
     {
         self.calls.make()?;
@@ -160,7 +167,8 @@ impl Sink for MemSink {
         requires { 0 < length bytes.now }
         ensures bound { IfOk result (λ n. n ≤ length bytes.now) }
         ensures some { IfOk result (λ n. 0 < n) }
-        ensures appends { IfOk result (λ n. bytes_held self.new ≡ bytes_held self.old ++ take n bytes.now) }
+        ensures appends { IfOk result
+            (λ n. bytes_held self.new ≡ bytes_held self.old ++ take n bytes.now) }
         ensures kept { OnErr result (bytes_held self.new ≡ bytes_held self.old) }
         ensures cause { HasCause (sink_calls self.old).faults (sink_calls self.new).faults result }
         ensures counted { IsCounted (sink_calls self.old) (sink_calls self.new) result }

@@ -21,8 +21,10 @@ impl Error for WriteFault {}
 ///
 /// Where a call fails, the sink took a front of the piece.
 pub fn write_whole<K: Sink>(sink: &mut K, bytes: &[u8]) -> Result<(), WriteFault>
-    ensures appends { OnOk result (IsTrue K.tells → K.holds sink.new ≡ K.holds sink.old ++ bytes.now) }
-    ensures front { OnErr result (IsTrue K.tells → (n : ℕ) × (K.holds sink.new ≡ K.holds sink.old ++ take n bytes.now)) }
+    ensures appends { OnOk result (IsTrue K.tells
+        → K.holds sink.new ≡ K.holds sink.old ++ bytes.now) }
+    ensures front { OnErr result (IsTrue K.tells
+        → (n : ℕ) × (K.holds sink.new ≡ K.holds sink.old ++ take n bytes.now)) }
     ensures cause { HasCause (K.faults sink.old) (K.faults sink.new) result }
 {
     let mut written = 0;

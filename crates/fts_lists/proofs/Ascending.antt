@@ -1,6 +1,6 @@
 -- Ascending lists of ids, as sets.
 use Rattle.std.proofs.Common.{◌≡◌, ◌≢◌, suc, length, drop, get_or, ℕ, ◌+◌, ◌<◌, ◌≤◌, Bool, true, false, not, cond, ◌&&◌, ◌||◌, List, [], ◌∷◌, nat_eq, refl, sym, ap, subst, ◌∙◌, arith, ⊎_elim}
-use Rattle.std.specs.List.{filter, AllPairs, IsDistinct}
+use Rattle.std.specs.List.{filter, AllPairs, AllByRecursion, IsDistinct}
 use Rattle.std.specs.List.Sorted.{IsNonDecreasing, IsPermutation, IsSorted}
 use Rattle.std.specs.declared.cmp.Ordering.{Ordering}
 use Rattle.std.specs.declared.cmp.Ordering.TheVariants.{Less, Equal, Greater}
@@ -13,12 +13,7 @@ use Rattle.std.proofs.lemmas.List.Sorted.{IsNonDecreasingBy-from_sort, list_any-
 use Rattle.std.proofs.lemmas.Map.Keys.{IsDistinct-IsPermutation}
 use Rattle.std.proofs.lemmas.Map.Made.{AllPairs-from_IsDistinct}
 use Rattle.std.proofs.lemmas.Map.Views.{any-filter_same}
-use Rattle.fts_lists.specs.Ids.{has, with_id, without, ascending}
-
--- numbers from n on that ascend
-abbrev pub From : ℕ → List ℕ → Type 0
-From n [] = Unit {0}
-From n (x ∷ xs) = (n ≤ x) × From (x + 1) xs
+use Rattle.fts_lists.specs.Ids.{Held, has, with_id, without, ascending, AscendFrom}
 
 -- the three ways in which two numbers compare
 by_order : (x y : ℕ) (P : Ordering → Type 0) → (x < y → P Less) → (x ≡ y → P Equal) → (y < x → P Greater) → P (nat_cmp x y)
@@ -31,18 +26,18 @@ by_order x y P less equal greater =
     (cases_eq x y))
     (cases_lt x y)
 
-From-sooner : (n m : ℕ) (xs : List ℕ) → From n xs → m ≤ n → From m xs
-From-sooner n m [] f le = tt
-From-sooner n m (x ∷ xs) f le = (omega (arith, f.0), f.1)
+pub AscendFrom-sooner : (n m : ℕ) (xs : List ℕ) → AscendFrom n xs → m ≤ n → AscendFrom m xs
+AscendFrom-sooner n m [] f le = tt
+AscendFrom-sooner n m (x ∷ xs) f le = (omega (arith, f.0), f.1)
 
-has_below : (n q : ℕ) (xs : List ℕ) → From n xs → q < n → has xs q ≡ false
+pub has_below : (n q : ℕ) (xs : List ℕ) → AscendFrom n xs → q < n → has xs q ≡ false
 has_below n q [] f lt = refl
 has_below n q (x ∷ xs) f lt =
     let apart : nat_eq q x ≡ false = ne_eqb q x (λ e. omega (arith, f.0)) in
     rw apart (has_below (x + 1) q xs f.1 (omega (arith, f.0)))
 
 -- two sets with the same ids are the same list
-pub same_ids : (n m : ℕ) (xs ys : List ℕ) → From n xs → From m ys → ((q : ℕ) → has xs q ≡ has ys q) → xs ≡ ys
+pub same_ids : (n m : ℕ) (xs ys : List ℕ) → AscendFrom n xs → AscendFrom m ys → ((q : ℕ) → has xs q ≡ has ys q) → xs ≡ ys
 same_ids n m [] [] f g same = refl
 same_ids n m [] (y ∷ ys) f g same = absurd (false≢true (same y ∙ ap (λ b. b || has ys y) (eq-eqb y y refl)))
 same_ids n m (x ∷ xs) [] f g same = absurd (false≢true (sym (same x) ∙ ap (λ b. b || has xs x) (eq-eqb x x refl)))
@@ -57,7 +52,7 @@ same_ids n m (x ∷ xs) (y ∷ ys) f g same =
     (λ le. omega (arith, ge, le))
     (cases_lt y x))
     (cases_lt x y) in
-    let rest : From (x + 1) ys = subst (λ z. From (z + 1) ys) (sym e) g.1 in
+    let rest : AscendFrom (x + 1) ys = subst (λ z. AscendFrom (z + 1) ys) (sym e) g.1 in
     let tails : (q : ℕ) → has xs q ≡ has ys q =
     λ q. ⊎_elim
     (λ lt. has_below (x + 1) q xs f.1 (omega (arith, lt)) ∙ sym (has_below (x + 1) q ys rest (omega (arith, lt))))
@@ -70,13 +65,13 @@ same_ids n m (x ∷ xs) (y ∷ ys) f g same =
     (cases_lt q x) in
     ap (λ z. z ∷ xs) e ∙ ap (λ zs. y ∷ zs) (same_ids (x + 1) (x + 1) xs ys f.1 rest tails)
 
-pub From-with_id : (n : ℕ) (ids : List ℕ) (id : ℕ) → From n ids → n ≤ id → From n (with_id ids id)
-From-with_id n [] id f le = (le, tt)
-From-with_id n (x ∷ xs) id f le =
-    by_order id x (λ o. From n (match_ordering o (id ∷ x ∷ xs) (x ∷ xs) (x ∷ with_id xs id)))
+pub AscendFrom-with_id : (n : ℕ) (ids : List ℕ) (id : ℕ) → AscendFrom n ids → n ≤ id → AscendFrom n (with_id ids id)
+AscendFrom-with_id n [] id f le = (le, tt)
+AscendFrom-with_id n (x ∷ xs) id f le =
+    by_order id x (λ o. AscendFrom n (match_ordering o (id ∷ x ∷ xs) (x ∷ xs) (x ∷ with_id xs id)))
     (λ lt. (le, (omega (arith, lt), f.1)))
     (λ e. f)
-    (λ gt. (f.0, From-with_id (x + 1) xs id f.1 (omega (arith, gt))))
+    (λ gt. (f.0, AscendFrom-with_id (x + 1) xs id f.1 (omega (arith, gt))))
 
 or_swap : (a b c : Bool) → (a || (b || c)) ≡ (b || (a || c))
 or_swap true true c = refl
@@ -96,24 +91,24 @@ has-with_id (x ∷ xs) id q =
     (λ e. or_again (nat_eq q x) (has xs q) ∙ ap (λ z. nat_eq q z || (nat_eq q x || has xs q)) (sym e))
     (λ gt. ap (λ b. nat_eq q x || b) (has-with_id xs id q) ∙ or_swap (nat_eq q x) (nat_eq q id) (has xs q))
 
-pub From-ascending : (xs : List ℕ) → From 0 (ascending xs)
-From-ascending [] = tt
-From-ascending (x ∷ xs) = From-with_id 0 (ascending xs) x (From-ascending xs) (omega arith)
+pub AscendFrom-ascending : (xs : List ℕ) → AscendFrom 0 (ascending xs)
+AscendFrom-ascending [] = tt
+AscendFrom-ascending (x ∷ xs) = AscendFrom-with_id 0 (ascending xs) x (AscendFrom-ascending xs) (omega arith)
 
 pub has-ascending : (xs : List ℕ) (q : ℕ) → has (ascending xs) q ≡ has xs q
 has-ascending [] q = refl
 has-ascending (x ∷ xs) q = has-with_id (ascending xs) x q ∙ ap (λ b. nat_eq q x || b) (has-ascending xs q)
 
 -- the ascending list of a set is known by its ids
-pub ascending_is : (xs ys : List ℕ) → From 0 ys → ((q : ℕ) → has xs q ≡ has ys q) → ascending xs ≡ ys
-ascending_is xs ys f same = same_ids 0 0 (ascending xs) ys (From-ascending xs) f (λ q. has-ascending xs q ∙ same q)
+pub ascending_is : (xs ys : List ℕ) → AscendFrom 0 ys → ((q : ℕ) → has xs q ≡ has ys q) → ascending xs ≡ ys
+ascending_is xs ys f same = same_ids 0 0 (ascending xs) ys (AscendFrom-ascending xs) f (λ q. has-ascending xs q ∙ same q)
 
-pub From-filter : (p : ℕ → Bool) (n : ℕ) (ids : List ℕ) → From n ids → From n (filter p ids)
-From-filter p n [] f = tt
-From-filter p n (x ∷ xs) f =
-    let rest : From (x + 1) (filter p xs) = From-filter p (x + 1) xs f.1 in
-    let keep : Bool → Type 0 = λ b. From n (cond b (x ∷ filter p xs) (filter p xs)) in
-    elim (p x) as keep [ true ↦ (f.0, rest) | false ↦ From-sooner (x + 1) n (filter p xs) rest (omega (arith, f.0)) ]
+pub AscendFrom-filter : (p : ℕ → Bool) (n : ℕ) (ids : List ℕ) → AscendFrom n ids → AscendFrom n (filter p ids)
+AscendFrom-filter p n [] f = tt
+AscendFrom-filter p n (x ∷ xs) f =
+    let rest : AscendFrom (x + 1) (filter p xs) = AscendFrom-filter p (x + 1) xs f.1 in
+    let keep : Bool → Type 0 = λ b. AscendFrom n (cond b (x ∷ filter p xs) (filter p xs)) in
+    elim (p x) as keep [ true ↦ (f.0, rest) | false ↦ AscendFrom-sooner (x + 1) n (filter p xs) rest (omega (arith, f.0)) ]
 
 pub has-without : (taken ids : List ℕ) (q : ℕ) → has (without taken ids) q ≡ (not (has taken q) && has ids q)
 has-without taken ids q =
@@ -122,7 +117,7 @@ has-without taken ids q =
 -- ---- what a change of the keys is to the ascending list
 
 pub kept : (old new : List ℕ) → ((q : ℕ) → has new q ≡ has old q) → ascending new ≡ ascending old
-kept old new same = ascending_is new (ascending old) (From-ascending old) (λ q. same q ∙ sym (has-ascending old q))
+kept old new same = ascending_is new (ascending old) (AscendFrom-ascending old) (λ q. same q ∙ sym (has-ascending old q))
 
 cond_or : (b c : Bool) → cond b true c ≡ (b || c)
 cond_or true c = refl
@@ -134,12 +129,12 @@ cond_and false c = refl
 
 pub added : (old new : List ℕ) (id : ℕ) → ((q : ℕ) → has new q ≡ cond (nat_eq id q) true (has old q)) → ascending new ≡ with_id (ascending old) id
 added old new id same =
-    ascending_is new (with_id (ascending old) id) (From-with_id 0 (ascending old) id (From-ascending old) (omega arith))
+    ascending_is new (with_id (ascending old) id) (AscendFrom-with_id 0 (ascending old) id (AscendFrom-ascending old) (omega arith))
     (λ q. same q ∙ ap (λ b. cond b true (has old q)) (nat_eq_equiv.symm id q) ∙ cond_or (nat_eq q id) (has old q) ∙ ap (λ b. nat_eq q id || b) (sym (has-ascending old q)) ∙ sym (has-with_id (ascending old) id q))
 
 pub removed : (old new : List ℕ) (id : ℕ) → ((q : ℕ) → has new q ≡ cond (nat_eq id q) false (has old q)) → ascending new ≡ without (id ∷ []) (ascending old)
 removed old new id same =
-    ascending_is new (without (id ∷ []) (ascending old)) (From-filter (λ k. not (has (id ∷ []) k)) 0 (ascending old) (From-ascending old))
+    ascending_is new (without (id ∷ []) (ascending old)) (AscendFrom-filter (λ k. not (has (id ∷ []) k)) 0 (ascending old) (AscendFrom-ascending old))
     (λ q. same q ∙ ap (λ b. cond b false (has old q)) (nat_eq_equiv.symm id q) ∙ cond_and (nat_eq q id) (has old q) ∙ ap (λ b. not (nat_eq q id || false) && b) (sym (has-ascending old q)) ∙ sym (has-without (id ∷ []) (ascending old) q))
 
 pub nothing : (xs : List ℕ) → length xs ≡ 0 → ascending xs ≡ []
@@ -166,11 +161,11 @@ without_one_more x taken (y ∷ ys) =
 
 -- ---- a sorted list of ids that differ
 
-pub From-sorted : (n : ℕ) (xs : List ℕ) → IsNonDecreasing xs → AllPairs (λ x y. x ≢ y) xs → ((k : ℕ) (d : ℕ) → k < length xs → n ≤ get_or xs k d) → From n xs
-From-sorted n [] up apart low = tt
-From-sorted n (x ∷ xs) up apart low = (
+pub AscendFrom-sorted : (n : ℕ) (xs : List ℕ) → IsNonDecreasing xs → AllPairs (λ x y. x ≢ y) xs → ((k : ℕ) (d : ℕ) → k < length xs → n ≤ get_or xs k d) → AscendFrom n xs
+AscendFrom-sorted n [] up apart low = tt
+AscendFrom-sorted n (x ∷ xs) up apart low = (
   low 0 0 (omega arith),
-  From-sorted (x + 1) xs
+  AscendFrom-sorted (x + 1) xs
       (λ i j d le lt. up (suc i) (suc j) d (omega (arith, le)) (omega (arith, lt)))
       (λ i j d below lt. apart (suc i) (suc j) d (omega (arith, below)) (omega (arith, lt)))
       (λ k d lt.
@@ -182,7 +177,7 @@ From-sorted n (x ∷ xs) up apart low = (
 pub sorted_ids : (keys xs : List ℕ) → IsDistinct nat_eq keys → IsPermutation keys xs → IsSorted nat_cmp xs → xs ≡ ascending keys
 sorted_ids keys xs distinct same up =
     let apart : IsDistinct nat_eq xs = IsDistinct-IsPermutation nat_eq nat_eq_equiv.symm keys xs same distinct in
-    let from : From 0 xs = From-sorted 0 xs (IsNonDecreasingBy-from_sort (λ n. n) xs up) (AllPairs-from_IsDistinct Decides-eqb xs apart) (λ k d lt. omega arith) in
+    let from : AscendFrom 0 xs = AscendFrom-sorted 0 xs (IsNonDecreasingBy-from_sort (λ n. n) xs up) (AllPairs-from_IsDistinct Decides-eqb xs apart) (λ k d lt. omega arith) in
     sym (ascending_is keys xs from (λ q. list_any-IsPermutation (nat_eq q) keys xs same))
 
 pub purge_step : (ids s s' all : List ℕ) (i : ℕ) → i < length ids → without (drop i ids) s ≡ all → s' ≡ without (get_or ids i 0 ∷ []) s → without (drop (i + 1) ids) s' ≡ all
@@ -194,3 +189,31 @@ purge_step ids s s' all i lt so step =
 
 pub purge_end : (ids s all : List ℕ) (i : ℕ) → length ids ≤ i → without (drop i ids) s ≡ all → s ≡ all
 purge_end ids s all i le so = sym (without_none s) ∙ ap (λ t. without t s) (sym (drop_all i ids le)) ∙ so
+
+-- what is held, by its parts
+pub held_is : (h : Held) (ids : List ℕ) (room : ℕ) → h.ids ≡ ids → h.room ≡ room → h ≡ record { ids = ids; room = room }
+held_is h ids room e f = ap (λ xs. record { ids = xs; room = h.room }) e ∙ ap (λ r. record { ids = ids; room = r }) f
+
+-- ---- how many
+
+absent : (x : ℕ) (xs : List ℕ) → AllByRecursion (λ y. nat_eq x y ≡ false) xs → has xs x ≡ false
+absent x [] none = refl
+absent x (y ∷ ys) none = ap (λ b. b || has ys x) none.0 ∙ absent x ys none.1
+
+length-with_id : (ids : List ℕ) (id : ℕ) → has ids id ≡ false → length (with_id ids id) ≡ suc (length ids)
+length-with_id [] id none = refl
+length-with_id (x ∷ xs) id none =
+    by_order id x (λ o. length (match_ordering o (id ∷ x ∷ xs) (x ∷ xs) (x ∷ with_id xs id)) ≡ suc (length (x ∷ xs)))
+    (λ lt. refl)
+    (λ e. absurd (false≢true (sym none ∙ ap (λ b. b || has xs id) (eq-eqb id x e))))
+    (λ gt. ap suc (length-with_id xs id (second (nat_eq id x) (has xs id) none)))
+  where
+    second : (a b : Bool) → (a || b) ≡ false → b ≡ false
+    second true b e = absurd (false≢true (sym e))
+    second false b e = e
+
+pub length-ascending : (keys : List ℕ) → IsDistinct nat_eq keys → length (ascending keys) ≡ length keys
+unfolding IsDistinct
+length-ascending [] distinct = refl
+length-ascending (x ∷ xs) distinct =
+    length-with_id (ascending xs) x (has-ascending xs x ∙ absent x xs distinct.0) ∙ ap suc (length-ascending xs distinct.1)

@@ -1,1 +1,3 @@
-mod Ascending
+pub mod Ascending
+pub mod Merging
+pub mod Passing

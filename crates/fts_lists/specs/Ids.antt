@@ -1,10 +1,10 @@
 -- Sets of ids, as ascending lists.
-use Rattle.std.specs.Prelude.{ℕ, Bool, not, List, [], ◌∷◌, nat_eq}
+use Rattle.std.specs.Prelude.{◌≡◌, ℕ, ◌+◌, ◌≤◌, Bool, not, List, [], ◌∷◌, fold, nat_eq}
 use Rattle.std.specs.Ordering.{nat_cmp}
 use Rattle.std.specs.BTreeSet.{insert_key}
 use Rattle.std.specs.List.{list_any, filter}
 
--- the ids of a set in ascending order, each once, and how many more it can take without memory
+-- the ids of a set in ascending order, each once, and how many more it was given room for
 pub record Held : Type 0 where
   pub ids : List ℕ
   pub room : ℕ
@@ -17,6 +17,10 @@ has ids id = list_any (nat_eq id) ids
 abbrev pub with_id : List ℕ → ℕ → List ℕ
 with_id ids id = insert_key nat_cmp ids id
 
+-- ascending ids with some more, each in its place
+abbrev pub with_ids : List ℕ → List ℕ → List ℕ
+with_ids ids more = fold with_id ids more
+
 -- the ids that are not among those taken
 abbrev pub without : List ℕ → List ℕ → List ℕ
 without taken ids = filter (λ id. not (has taken id)) ids
@@ -25,3 +29,13 @@ without taken ids = filter (λ id. not (has taken id)) ids
 abbrev pub ascending : List ℕ → List ℕ
 ascending [] = []
 ascending (x ∷ xs) = with_id (ascending xs) x
+
+-- numbers from low on, each above the one before
+abbrev pub AscendFrom : ℕ → List ℕ → Type 0
+AscendFrom low [] = Unit {0}
+AscendFrom low (x ∷ xs) = (low ≤ x) × AscendFrom (x + 1) xs
+
+-- ids without some at the front that are below one: nothing is changed for that one and those above it
+pub record PassesBelow (id : ℕ) (ids rest : List ℕ) : Type 0 where
+  pub ascend : AscendFrom 0 rest
+  pub kept : (later : ℕ) → id ≤ later → has rest later ≡ has ids later

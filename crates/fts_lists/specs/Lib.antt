@@ -1,2 +1,3 @@
 pub mod Ids
 pub mod State
+pub mod Merging

@@ -1,26 +1,33 @@
-//! One set of ids.
-ghost use Rattle.std.specs.Prelude.{◌≡◌, ◌+◌, ◌<◌, ◌≤◌, ◌↔◌, [], ◌∷◌, IsTrue, IsOk, IfOk, OnOk, nat_eq};
+//! One set of ids, kept in no order.
+ghost use Rattle.std.specs.Prelude.{◌≡◌, ◌+◌, ◌-◌, ◌<◌, ◌≤◌, [], ◌∷◌, IsOk, IfOk, OnOk, OnErr};
+ghost use Rattle.std.specs.Prelude.{nat_eq, length};
 ghost use Rattle.std.specs.List.{IsDistinct};
-ghost use Rattle.fts_lists.specs.Ids.{has, with_id, without};
+ghost use Rattle.fts_lists.specs.Ids.{has, with_id, with_ids, without};
 
 use fts_types::DocId;
 use std::alloc::{AllocError, Global};
 use std::collections::HashSet;
 use std::marker::Model;
 
-/// A set of ids. An id is looked up, added and taken out in constant time; the ids are sorted when they are listed.
+/// A set of ids. An id is looked up, added and taken out in constant time; the ids are sorted when
+/// they are listed.
 #[derive(Drop)]
 pub struct IdSet {
     ids: HashSet<DocId>,
+    // How many more ids may be put in: what was asked for last, less what was put in since.
+    room: usize,
 }
 
 impl Model for IdSet {
+    ghost use Rattle.std.specs.Prelude.{◌≤◌};
     ghost use Rattle.std.specs.HashSet.{spare};
     ghost use Rattle.fts_lists.specs.Ids.{Held, ascending};
 
     ghost Value = { Held };
 
-    ghost view = { λ s. record { ids = ascending s.ids.keys; room = spare s.ids } };
+    ghost view = { λ s. record { ids = ascending s.ids.keys; room = s.room } };
+
+    ghost invariant = { λ s. s.room ≤ spare s.ids };
 }
 
 /// The keys of a set, as they come.
@@ -34,18 +41,19 @@ fn keys_of(alloc: Global, set: &HashSet<DocId>) -> Result<Vec<DocId>, AllocError
 impl IdSet {
     /// No ids, which will lie in the allocator's memory.
     pub fn new(alloc: Global) -> Self
-        ensures { result.ids ≡ [] }
+        ensures { result ≡ record { ids = []; room = 0 } }
     {
         IdSet {
             ids: HashSet::new(alloc),
+            room: 0,
         }
     }
 
-    /// Whether there is none.
-    pub fn is_empty(&self) -> bool
-        ensures { IsTrue result ↔ (self.now.ids ≡ []) }
+    /// The number of ids.
+    pub fn len(&self) -> usize
+        ensures { result ≡ length self.now.ids }
     {
-        self.ids.is_empty()
+        self.ids.len()
     }
 
     /// Whether the id is in the set.
@@ -64,40 +72,50 @@ impl IdSet {
         Ok(ids)
     }
 
-    /// Makes room for so many more ids. The ids stay as they are, with or without memory for it.
+    /// Makes room for so many more ids, in place of the room that was left.
     pub fn reserve(&mut self, more: usize) -> Result<(), AllocError>
-        ensures ids { self.new.ids ≡ self.old.ids }
-        ensures ok { OnOk result (more ≤ self.new.room) }
-        ensures room { self.old.room ≤ self.new.room }
+        ensures ok { OnOk result (self.new ≡ record { ids = self.old.ids; room = more }) }
+        ensures err { OnErr result (self.new ≡ self.old) }
         ensures succeeds { more ≤ self.old.room → IsOk result }
     {
-        self.ids.reserve(more)
+        self.ids.reserve(more)?;
+        self.room = more;
+        Ok(())
     }
 
-    /// Puts the id into the set. It takes no memory, and one place of the room at most.
-    pub fn add(&mut self, id: DocId)
+    /// Puts the id into the set. It takes no memory, and one place of the room.
+    fn add(&mut self, id: DocId)
         requires { 0 < self.old.room }
-        ensures ids { self.new.ids ≡ with_id self.old.ids id }
-        ensures room { self.old.room ≤ self.new.room + 1 }
+        ensures { self.new ≡ record { ids = with_id self.old.ids id; room = self.old.room - 1 } }
     {
         match self.ids.insert(id) {
-            Ok(_) => {}
+            Ok(_) => self.room -= 1,
             Err(_) => unreachable!(),
         }
     }
 
+    /// Puts these ids into the set. It takes no memory, and a place of the room for each.
+    pub fn put(&mut self, ids: &[DocId])
+        requires { length ids.now ≤ self.old.room }
+        ensures { self.new ≡ record
+            { ids = with_ids self.old.ids ids.now; room = self.old.room - length ids.now } }
+    {
+        for id in ids {
+            self.add(*id);
+        }
+    }
+
     /// Takes an id out, if it is there.
-    pub fn remove(&mut self, id: DocId)
-        ensures ids { self.new.ids ≡ without (id ∷ []) self.old.ids }
-        ensures room { self.old.room ≤ self.new.room }
+    fn remove(&mut self, id: DocId)
+        ensures { self.new ≡ record { ids = without (id ∷ []) self.old.ids; room = self.old.room } }
     {
         self.ids.remove(&id);
     }
 
-    /// Takes these ids out, those of them that are there. It takes time for each of them, not for the set.
+    /// Takes these ids out, those of them that are there. It takes time for each of them, not for
+    /// the set.
     pub fn purge(&mut self, ids: &[DocId])
-        ensures ids { self.new.ids ≡ without ids.now self.old.ids }
-        ensures room { self.old.room ≤ self.new.room }
+        ensures { self.new ≡ record { ids = without ids.now self.old.ids; room = self.old.room } }
     {
         for id in ids {
             self.remove(*id);

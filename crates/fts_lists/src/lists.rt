@@ -1,10 +1,13 @@
 //! The lists and numbers of an index.
-ghost use Rattle.std.specs.Prelude.{◌≡◌, ◌+◌, ◌<◌, ◌≤◌, ◌↔◌, [], true, false, Some, None, IsTrue, IsOk, IfOk, OnOk};
+ghost use Rattle.std.specs.Prelude.{◌≡◌, ◌+◌, ◌<◌, ◌≤◌, ◌↔◌, [], length, true, false, Some, None};
+ghost use Rattle.std.specs.Prelude.{IsTrue, IsOk, IfOk, OnOk, OnErr};
+ghost use Rattle.std.specs.List.Sorted.{IsStrictlyIncreasing};
 ghost use Rattle.std.specs.Option.{option_copied};
-ghost use Rattle.fts_lists.specs.Ids.{has, with_id, without};
-ghost use Rattle.fts_lists.specs.State.{held, ids_of, room_of, ChangesOnly};
+ghost use Rattle.fts_lists.specs.Ids.{has, with_id, with_ids, without};
+ghost use Rattle.fts_lists.specs.State.{held, ids_of, room_of, ChangesOnly, opened, closed};
 
 use crate::ids::IdSet;
+use crate::sorted::SortedIds;
 use fts_types::{DocId, Word};
 use std::alloc::{AllocError, Global};
 use std::marker::Model;
@@ -12,19 +15,20 @@ use std::marker::Model;
 /// One of the lists of deleted documents.
 #[derive(Debug, Clone, Copy, PartialEq, Eq)]
 pub enum DeleteList {
-    /// The documents of the tables that were deleted.
+    /// The documents of the tables that were deleted. They are kept ascending.
     Deleted,
-    /// Those of them that the open pass takes out of the tables.
+    /// Those of them that the open pass takes out of the tables. They are kept ascending.
     BeingDeleted,
     /// The documents deleted since the last flush.
     DeletedCache,
 }
 
-/// The three lists of deleted documents, how far the index is flushed, and how far its pass has come.
+/// The three lists of deleted documents, how far the index is flushed, and how far its pass has
+/// come.
 #[derive(Drop)]
 pub struct Lists {
-    deleted: IdSet,
-    being_deleted: IdSet,
+    deleted: SortedIds,
+    being_deleted: SortedIds,
     deleted_cache: IdSet,
     flushed: u64,
     synced: DocId,
@@ -37,11 +41,22 @@ impl Model for Lists {
 
     ghost Value = { State };
 
-    ghost view = { λ s. record { deleted = s.deleted; being_deleted = s.being_deleted; deleted_cache = s.deleted_cache; flushed = s.flushed; synced = s.synced; is_open = s.is_open; checkpoint = s.checkpoint } };
+    ghost view = { λ s. record {
+      deleted = s.deleted;
+      being_deleted = s.being_deleted;
+      deleted_cache
+          = s.deleted_cache;
+      flushed = s.flushed;
+      synced = s.synced;
+      is_open = s.is_open;
+      checkpoint =
+          s.checkpoint;
+    } };
 }
 
 impl Lists {
-    /// Empty lists, nothing flushed, and no pass. What they hold later lies in the allocator's memory.
+    /// Empty lists, nothing flushed, and no pass. What they hold later lies in the allocator's
+    /// memory.
     pub fn new(alloc: Global) -> Self
         ensures lists { (list : _) → ids_of list result ≡ [] }
         ensures flushed { result.flushed ≡ 0 }
@@ -50,8 +65,8 @@ impl Lists {
         ensures checkpoint { result.checkpoint ≡ None }
     {
         Lists {
-            deleted: IdSet::new(alloc),
-            being_deleted: IdSet::new(alloc),
+            deleted: SortedIds::new(alloc),
+            being_deleted: SortedIds::new(alloc),
             deleted_cache: IdSet::new(alloc),
             flushed: 0,
             synced: 0,
@@ -60,13 +75,14 @@ impl Lists {
         }
     }
 
-    fn set(&self, list: DeleteList) -> &IdSet
-        ensures { result.now ≡ held list self.now }
+    /// The number of ids in a list.
+    pub fn len(&self, list: DeleteList) -> usize
+        ensures { result ≡ length (ids_of list self.now) }
     {
         match list {
-            DeleteList::Deleted => &self.deleted,
-            DeleteList::BeingDeleted => &self.being_deleted,
-            DeleteList::DeletedCache => &self.deleted_cache,
+            DeleteList::Deleted => self.deleted.len(),
+            DeleteList::BeingDeleted => self.being_deleted.len(),
+            DeleteList::DeletedCache => self.deleted_cache.len(),
         }
     }
 
@@ -74,29 +90,57 @@ impl Lists {
     pub fn is_empty(&self, list: DeleteList) -> bool
         ensures { IsTrue result ↔ (ids_of list self.now ≡ []) }
     {
-        self.set(list).is_empty()
+        self.len(list) == 0
     }
 
-    /// Whether an id is in a list, in constant time.
+    /// Whether an id is in a list: in constant time for DELETED_CACHE, and else in time that is
+    /// logarithmic in the number of its ids. For ids that ascend, an `IdWalk` over the list is
+    /// faster.
     pub fn contains(&self, list: DeleteList, id: DocId) -> bool
         ensures { result ≡ has (ids_of list self.now) id }
     {
-        self.set(list).contains(id)
+        match list {
+            DeleteList::Deleted => self.deleted.contains(id),
+            DeleteList::BeingDeleted => self.being_deleted.contains(id),
+            DeleteList::DeletedCache => self.deleted_cache.contains(id),
+        }
     }
 
-    /// The ids of a list, ascending, as a copy that lies in the allocator's memory. Of n ids it takes time n log n.
+    /// The ids of DELETED, ascending, each once.
+    pub fn deleted(&self) -> &[DocId]
+        ensures value { result.now ≡ ids_of DeleteList.Deleted self.now }
+        ensures ascending { IsStrictlyIncreasing result.now }
+    {
+        self.deleted.as_slice()
+    }
+
+    /// The ids of BEING_DELETED, ascending, each once.
+    pub fn being_deleted(&self) -> &[DocId]
+        ensures value { result.now ≡ ids_of DeleteList.BeingDeleted self.now }
+        ensures ascending { IsStrictlyIncreasing result.now }
+    {
+        self.being_deleted.as_slice()
+    }
+
+    /// The ids of a list, ascending, as a copy that lies in the allocator's memory. Those of
+    /// DELETED_CACHE are sorted for it.
     pub fn ids(&self, alloc: Global, list: DeleteList) -> Result<Vec<DocId>, AllocError>
         ensures { IfOk result (λ ids. ids.items ≡ ids_of list self.now) }
     {
-        self.set(list).to_vec(alloc)
+        match list {
+            DeleteList::Deleted => self.deleted.as_slice().to_vec(alloc),
+            DeleteList::BeingDeleted => self.being_deleted.as_slice().to_vec(alloc),
+            DeleteList::DeletedCache => self.deleted_cache.to_vec(alloc),
+        }
     }
 
-    /// Makes room in a list for so many more ids. Where memory is wanting, all is as before.
+    /// Makes room in a list for so many more ids, in place of the room that it had. Where memory is
+    /// wanting, all is as before.
     pub fn reserve(&mut self, list: DeleteList, more: usize) -> Result<(), AllocError>
         ensures ids { ids_of list self.new ≡ ids_of list self.old }
         ensures others { ChangesOnly list self.old self.new }
-        ensures ok { OnOk result (more ≤ room_of list self.new) }
-        ensures room { room_of list self.old ≤ room_of list self.new }
+        ensures ok { OnOk result (room_of list self.new ≡ more) }
+        ensures err { OnErr result (room_of list self.new ≡ room_of list self.old) }
         ensures succeeds { more ≤ room_of list self.old → IsOk result }
     {
         match list {
@@ -106,25 +150,39 @@ impl Lists {
         }
     }
 
-    /// Puts an id into a list that has room, in constant time. It takes no memory, and one place of the room at most.
+    /// Puts ids that ascend into a list that has room for them. It takes no memory, and a place of
+    /// the room for each. In a list that is kept ascending it moves only what stands above the
+    /// smallest of them; in DELETED_CACHE it takes constant time for each.
+    pub fn add_all(&mut self, list: DeleteList, ids: &[DocId])
+        requires ascending { IsStrictlyIncreasing ids.now }
+        requires room { length ids.now ≤ room_of list self.old }
+        ensures ids { ids_of list self.new ≡ with_ids (ids_of list self.old) ids.now }
+        ensures others { ChangesOnly list self.old self.new }
+        ensures room { room_of list self.new + length ids.now ≡ room_of list self.old }
+    {
+        match list {
+            DeleteList::Deleted => self.deleted.put(ids),
+            DeleteList::BeingDeleted => self.being_deleted.put(ids),
+            DeleteList::DeletedCache => self.deleted_cache.put(ids),
+        }
+    }
+
+    /// Puts an id into a list that has room, as `add_all` does.
     pub fn add(&mut self, list: DeleteList, id: DocId)
         requires { 0 < room_of list self.old }
         ensures ids { ids_of list self.new ≡ with_id (ids_of list self.old) id }
         ensures others { ChangesOnly list self.old self.new }
-        ensures room { room_of list self.old ≤ room_of list self.new + 1 }
+        ensures room { room_of list self.new + 1 ≡ room_of list self.old }
     {
-        match list {
-            DeleteList::Deleted => self.deleted.add(id),
-            DeleteList::BeingDeleted => self.being_deleted.add(id),
-            DeleteList::DeletedCache => self.deleted_cache.add(id),
-        }
+        self.add_all(list, &[id]);
     }
 
-    /// Takes these ids out of a list, those of them that are there. It takes no memory, and constant time for each.
+    /// Takes these ids out of a list, those of them that are there. It takes no memory; in
+    /// DELETED_CACHE it takes constant time for each, and else it walks over the list for each.
     pub fn purge(&mut self, list: DeleteList, ids: &[DocId])
         ensures ids { ids_of list self.new ≡ without ids.now (ids_of list self.old) }
         ensures others { ChangesOnly list self.old self.new }
-        ensures room { room_of list self.old ≤ room_of list self.new }
+        ensures room { room_of list self.new ≡ room_of list self.old }
     {
         match list {
             DeleteList::Deleted => self.deleted.purge(ids),
@@ -169,10 +227,14 @@ impl Lists {
         self.checkpoint.as_ref()
     }
 
-    /// Opens a pass, which has worked on no word.
+    /// Opens a pass, which has worked on no word, over the ids of DELETED. They are copied within
+    /// the room of BEING_DELETED, and no memory is taken.
     pub fn open_pass(&mut self)
-        ensures { self.new ≡ record self.old { is_open = true; checkpoint = None } }
+        requires { length (ids_of DeleteList.Deleted self.old)
+            ≤ room_of DeleteList.BeingDeleted self.old }
+        ensures { self.new ≡ opened self.old }
     {
+        self.being_deleted.copy(&self.deleted);
         self.is_open = true;
         self.checkpoint = None;
     }
@@ -185,10 +247,13 @@ impl Lists {
         self.checkpoint = Some(word);
     }
 
-    /// Closes the pass. There is no checkpoint any more.
+    /// Closes the pass: its ids leave DELETED, in one walk over both, and no memory is taken. There
+    /// is no checkpoint any more.
     pub fn close_pass(&mut self)
-        ensures { self.new ≡ record self.old { is_open = false; checkpoint = None } }
+        ensures { self.new ≡ closed self.old }
     {
+        self.deleted.take_out(&self.being_deleted);
+        self.being_deleted.clear();
         self.is_open = false;
         self.checkpoint = None;
     }

@@ -1,4 +1,5 @@
-ghost use Rattle.std.specs.Prelude.{◌<◌, OnOk};
+ghost use Rattle.std.specs.Prelude.{◌<◌, IsTrue, OnOk};
+ghost use Rattle.std.specs.List.Sorted.{IsStrictlyIncreasing};
 ghost use Rattle.fts_lists.specs.State.{room_of};
 
 use super::*;
@@ -14,11 +15,22 @@ const LISTS: [DeleteList; 3] = [
     DeleteList::DeletedCache,
 ];
 
+// Ids that are put into a list together, some of them twice over.
+const BATCHES: [&[u64]; 6] = [
+    &[40, 50, 60],
+    &[45, 50, 55, 70],
+    &[],
+    &[1, 2],
+    &[1, 2, 3, 40, 80],
+    &[90],
+];
+
 // A list has these ids and no others.
 fn has_ids(rt: &impl Abort, lists: &Lists, list: DeleteList, plain: &BTreeSet<u64>) {
     for id in 0..300 {
         assert_eq!(rt; lists.contains(list, id), plain.contains(&id));
     }
+    assert_eq!(rt; lists.len(list), plain.len());
 }
 
 // Makes room for one more id. The list has its ids, with or without memory.
@@ -71,6 +83,109 @@ fn lists_are_sets(rt: HostRuntime) -> Result<(), Fail> {
     Ok(())
 }
 
+// Whether each id is above the one before.
+fn ascend(ids: &[u64]) -> bool
+    ensures { IsTrue result → IsStrictlyIncreasing ids.now }
+{
+    for at in 1..ids.len() {
+        if ids[at - 1] >= ids[at] {
+            return false;
+        }
+    }
+    true
+}
+
+// Makes room for these ids and puts them into a list, and into a plain set.
+fn put(
+    rt: &impl Abort,
+    lists: &mut Lists,
+    list: DeleteList,
+    plain: &mut BTreeSet<u64>,
+    ids: &[u64],
+) -> Result<(), Fail> {
+    lists.reserve(list, ids.len())?;
+    assert!(rt; ascend(ids));
+    lists.add_all(list, ids);
+    for id in ids {
+        plain.insert(*id)?;
+    }
+    Ok(())
+}
+
+#[test]
+fn batches_are_merged(rt: HostRuntime) -> Result<(), Fail> {
+    let alloc = rt.alloc();
+    let mut lists = Lists::new(alloc);
+    for list in LISTS {
+        let mut plain = BTreeSet::new(alloc);
+        for ids in BATCHES {
+            put(&rt, &mut lists, list, &mut plain, ids)?;
+            has_ids(&rt, &lists, list, &plain);
+        }
+    }
+    assert_eq!(rt;
+        lists.deleted(),
+        [1, 2, 3, 40, 45, 50, 55, 60, 70, 80, 90].as_slice()
+    );
+    assert_eq!(rt;
+        lists.ids(alloc, DeleteList::DeletedCache)?.as_slice(),
+        lists.deleted()
+    );
+    Ok(())
+}
+
+// Opens a pass over the ids of DELETED.
+fn open(rt: &impl Abort, lists: &mut Lists) -> Result<(), Fail> {
+    lists.reserve(DeleteList::BeingDeleted, lists.len(DeleteList::Deleted))?;
+    lists.open_pass();
+    assert_eq!(rt; lists.being_deleted(), lists.deleted());
+    Ok(())
+}
+
+// What is deleted while a pass is open stays when it is closed.
+#[test]
+fn a_pass_takes_out_its_own_ids(rt: HostRuntime) -> Result<(), Fail> {
+    let mut lists = Lists::new(rt.alloc());
+    let mut plain = BTreeSet::new(rt.alloc());
+    put(
+        &rt,
+        &mut lists,
+        DeleteList::Deleted,
+        &mut plain,
+        &[5, 7, 20, 30],
+    )?;
+    open(&rt, &mut lists)?;
+    put(
+        &rt,
+        &mut lists,
+        DeleteList::Deleted,
+        &mut plain,
+        &[6, 7, 40],
+    )?;
+    lists.close_pass();
+    assert_eq!(rt; lists.deleted(), [6, 40].as_slice());
+    assert!(rt; lists.is_empty(DeleteList::BeingDeleted));
+    Ok(())
+}
+
+// A walk agrees with a look-up of each id, in steps of any length.
+#[test]
+fn a_walk_finds_what_is_there(rt: HostRuntime) -> Result<(), Fail> {
+    let mut lists = Lists::new(rt.alloc());
+    let mut plain = BTreeSet::new(rt.alloc());
+    for ids in BATCHES {
+        put(&rt, &mut lists, DeleteList::Deleted, &mut plain, ids)?;
+    }
+    for step in 1..60 {
+        let mut walk = IdWalk::new(lists.deleted());
+        for n in 0..100_u64 {
+            let id = n.wrapping_mul(step);
+            assert_eq!(rt; walk.has(id), plain.contains(&id));
+        }
+    }
+    Ok(())
+}
+
 #[test]
 fn numbers_and_the_pass_are_kept(rt: HostRuntime) -> Result<(), Fail> {
     let alloc = rt.alloc();
@@ -78,7 +193,7 @@ fn numbers_and_the_pass_are_kept(rt: HostRuntime) -> Result<(), Fail> {
     assert!(rt; lists.flushed() == 0 && lists.synced() == 0 && !lists.is_open());
     lists.set_flushed(3, 42);
     assert_eq!(rt; (lists.flushed(), lists.synced()), (3, 42));
-    lists.open_pass();
+    open(&rt, &mut lists)?;
     assert!(rt; lists.is_open() && lists.checkpoint().is_none());
     lists.set_checkpoint(Word::copied(alloc, b"apple")?);
     let word = Word::copied(alloc, b"apple")?;

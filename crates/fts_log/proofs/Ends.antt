@@ -1,10 +1,11 @@
 -- The places that an opening keeps.
 use Rattle.std.proofs.Common.{◌≡◌, ℕ, ◌+◌, ◌-◌, ◌<◌, ◌≤◌, List, [], ◌∷◌, ◌++◌, length, take, drop, get_or, zero, suc, refl, sym, ◌∙◌, ap, subst, ◌⊎◌, inl, inr, ⊎_elim, append_assoc, length-append, arith}
+use Rattle.std.proofs.Math.Nat.{add-zero, add-suc}
 use Rattle.std.proofs.Math.ListN.{get_or-append}
 use Rattle.std.proofs.Math.Seq.{get_or-append_seam}
 use Rattle.std.proofs.lemmas.Bool.{cases_lt}
 use Rattle.std.proofs.lemmas.List.{take_at, drop_at, drop-drop, get_or-take}
-use Rattle.fts_log.specs.Place.{start_of, IsSpaced}
+use Rattle.fts_log.specs.Place.{start_of, AreWithin, IsSpaced}
 use Rattle.fts_log.specs.Record.{record_of, records, ends_from}
 use Rattle.fts_log.proofs.Bytes.{length-record_of}
 
@@ -29,6 +30,18 @@ last_more ends next =
     let size : length (ends ++ next ∷ []) ≡ suc (length ends) = omega (arith, length-append ends (next ∷ [])) in
     sym (get_or-append_seam ends next [] 0) ∙ ap (start_of (ends ++ next ∷ [])) (sym size)
 
+-- records begin one behind the other
+starts_rise : (ends : List ℕ) (k n : ℕ) → IsSpaced ends → k + n ≤ length ends → start_of ends k ≤ start_of ends (k + n)
+starts_rise ends k zero spaced within = let same : start_of ends (k + 0) ≡ start_of ends k = ap (start_of ends) (add-zero k) in omega (arith, same)
+starts_rise ends k (suc n) spaced within =
+    omega (arith, starts_rise ends k n spaced (omega (arith, within)), spaced (k + n) (omega (arith, within)), ap (start_of ends) (add-suc k n))
+
+-- each record ends no further than the last one
+pub all_before : (ends : List ℕ) (at : ℕ) → IsSpaced ends → at ≡ start_of ends (length ends) → AreWithin (at + 1) ends
+all_before ends at spaced last k small =
+    let rest : suc k + (length ends - suc k) ≡ length ends = omega (arith, small) in
+    omega (arith, last, ap (start_of ends) rest, starts_rise ends (suc k) (length ends - suc k) spaced (omega (arith, rest)))
+
 -- where record k begins, if the first begins at a place
 pub start_in : ℕ → List ℕ → ℕ → ℕ
 start_in base ends zero = base
@@ -38,6 +51,16 @@ start_in-cons : (base next : ℕ) (ends : List ℕ) (k : ℕ) → start_in base 
 unfolding start_in
 start_in-cons base next ends zero = refl
 start_in-cons base next ends (suc k) = refl
+
+-- a record begins behind all those before it
+pub start_is : (base : ℕ) (entries : List (List ℕ)) (k : ℕ) → k ≤ length entries → start_in base (ends_from base entries) k ≡ base + length (records (take k entries))
+unfolding start_in
+start_is base entries zero within = sym (add-zero base)
+start_is base [] (suc k) within = absurd (omega (arith, within))
+start_is base (payload ∷ entries) (suc k) within =
+    let next = base + length (record_of payload) in
+    start_in-cons base next (ends_from next entries) k ∙ start_is next entries k (omega (arith, within))
+    ∙ omega (arith, length-append (record_of payload) (records (take k entries)))
 
 -- the payload of an entry, between the places that are kept
 pub record IsAt (file payload : List ℕ) (from to : ℕ) : Type 0 where

@@ -7,3 +7,4 @@ pub mod Ends
 pub mod Finding
 pub mod Unique
 pub mod Crashing
+pub mod Reading

@@ -5,8 +5,9 @@ use Rattle.std.proofs.lemmas.List.Elements.{All-push}
 use Rattle.fts_disk.specs.Device.{Files}
 use Rattle.fts_log.specs.declared.place.Place.{Place}
 use Rattle.fts_log.specs.declared.place.Place.TheVariants.{Closed, Whole, Broken}
-use Rattle.fts_log.specs.Record.{Fits, record_of, records, front, ends_from, IsLog, IsBrokenAt}
-use Rattle.fts_log.specs.Scan.{Stands}
+use Rattle.fts_log.specs.Record.{Fits, record_of, records, front, ends_from}
+use Rattle.fts_log.specs.declared.found.Found.{Found}
+use Rattle.fts_log.specs.Scan.{Stands, EndsAs, IsFoundIn}
 use Rattle.fts_log.proofs.Bytes.{front-push, length-front-push, length-record_of, ends_from-push}
 
 -- these entries stand before the place, and their records end at these places
@@ -40,11 +41,16 @@ module _ (file : List ℕ) (at : ℕ) (ends : List ℕ) (entries : List (List �
         fit = All-push Fits entries payload so_far.fit stands.1;
       }
 
-  pub found_closed : Stands file at Closed → IsLog (take 8 file) entries file
-  found_closed stands = record { gate = stands.0; rest = stands.1; closed = stands.2; bytes = so_far.bytes ∙ ap (λ (rest : List ℕ). front (take 8 file) entries ++ rest) stands.3; fit = so_far.fit }
-
-  pub found_broken : Stands file at Broken → IsBrokenAt (take 8 file) at file
-  found_broken stands = record { entries = entries; rest = drop at file; fit = so_far.fit; bytes = so_far.bytes; place = so_far.place; broken = stands }
+  -- what was found where the records end
+  pub found_end : (found : Found) → EndsAs found.is_whole (drop at file) → found.gate ≡ at → found.ends.items ≡ ends → IsFoundIn (take 8 file) entries file found
+  found_end found ends_as gate places = record {
+    rest = drop at file;
+    bytes = so_far.bytes;
+    fit = so_far.fit;
+    «end» = ends_as;
+    gate = gate ∙ so_far.place;
+    ends = places ∙ so_far.places;
+  }
 
 -- one record more, as a device reads
 pub scanned_next : (old now : Files) (at next : ℕ) (place : Place) (ends new : List ℕ) → (entries : List (List ℕ)) × IsScanned (old 0) at ends entries

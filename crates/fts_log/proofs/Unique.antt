@@ -64,19 +64,19 @@ one_list magic entries others file one other =
 pub not_damaged : (magic : List ℕ) (entries : List (List ℕ)) (file : List ℕ) (at : ℕ) → IsLog magic entries file → IsDamagedAt magic at file → ⊥
 unfolding NotWhole
 not_damaged magic entries file at log (inl (place, no_magic)) = no_magic (records entries ++ log.gate ∷ log.rest) (log.bytes ∙ append_assoc magic (records entries) (log.gate ∷ log.rest))
-not_damaged magic entries file at log (inr damaged) =
-    let both = one_reading entries damaged.entries (log.gate ∷ log.rest) damaged.rest log.fit damaged.fit
+not_damaged magic entries file at log (inr (others, damaged)) =
+    let both = one_reading entries others (log.gate ∷ log.rest) damaged.rest log.fit damaged.fit
     (closed_not_whole log.gate log.rest log.closed) damaged.broken.not_whole
-    (behind_magic magic file entries damaged.entries (log.gate ∷ log.rest) damaged.rest log.bytes damaged.bytes) in
+    (behind_magic magic file entries others (log.gate ∷ log.rest) damaged.rest log.bytes damaged.bytes) in
     log.closed (damaged.broken.not_closed log.gate log.rest (sym both.1))
 
 -- a file is damaged at one place alone
 pub one_place : (magic file : List ℕ) (at other : ℕ) → IsDamagedAt magic at file → IsDamagedAt magic other file → at ≡ other
 unfolding NotWhole
 one_place magic file at other (inl (here, no_magic)) (inl (there, none)) = here ∙ sym there
-one_place magic file at other (inl (here, no_magic)) (inr b) = absurd (no_magic (records b.entries ++ b.rest) (b.bytes ∙ append_assoc magic (records b.entries) b.rest))
-one_place magic file at other (inr a) (inl (there, no_magic)) = absurd (no_magic (records a.entries ++ a.rest) (a.bytes ∙ append_assoc magic (records a.entries) a.rest))
-one_place magic file at other (inr a) (inr b) =
-    let both = one_reading a.entries b.entries a.rest b.rest a.fit b.fit a.broken.not_whole b.broken.not_whole
-    (behind_magic magic file a.entries b.entries a.rest b.rest a.bytes b.bytes) in
+one_place magic file at other (inl (here, no_magic)) (inr (bs, b)) = absurd (no_magic (records bs ++ b.rest) (b.bytes ∙ append_assoc magic (records bs) b.rest))
+one_place magic file at other (inr (as_, a)) (inl (there, no_magic)) = absurd (no_magic (records as_ ++ a.rest) (a.bytes ∙ append_assoc magic (records as_) a.rest))
+one_place magic file at other (inr (as_, a)) (inr (bs, b)) =
+    let both = one_reading as_ bs a.rest b.rest a.fit b.fit a.broken.not_whole b.broken.not_whole
+    (behind_magic magic file as_ bs a.rest b.rest a.bytes b.bytes) in
     a.place ∙ ap (λ (entries : List (List ℕ)). length (front magic entries)) both.0 ∙ sym b.place

@@ -19,4 +19,5 @@ pub record IsAfter (magic : List ℕ) (entries : List (List ℕ)) (payload : Lis
 
 -- the one or the other; images and files are those at the begin of the append
 abbrev pub IsBeforeOrAfter : List ℕ → List (List ℕ) → List ℕ → Images → Files → Images
-IsBeforeOrAfter magic entries payload images files c = IsBefore magic entries images c ⊎ IsAfter magic entries payload files c
+IsBeforeOrAfter magic entries payload images files c = IsBefore magic entries images c
+    ⊎ IsAfter magic entries payload files c

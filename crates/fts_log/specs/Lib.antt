@@ -3,7 +3,9 @@ pub mod Record
 pub mod Error
 pub mod Frame
 pub mod Framing
+pub mod Found
 pub mod Log
 pub mod Place
 pub mod Scan
+pub mod Records
 pub mod Device

@@ -1,16 +1,22 @@
 -- What a log stands for.
-use Rattle.std.specs.Prelude.{◌≡◌, ℕ, ◌+◌, List, [], length, take, Option, Some, None}
+use Rattle.std.specs.Prelude.{◌≡◌, ℕ, ◌+◌, List, length, take, Result, Ok, Err, IfOk, OnOk, OnErr}
 use Rattle.fts_disk.specs.Crash.{OnlyIn}
 use Rattle.fts_disk.specs.declared.disk.Disk.{Ghosts}
 use Rattle.fts_log.specs.declared.log.Log.{Log}
-use Rattle.fts_log.specs.declared.found.Found.{Found}
+use Rattle.fts_log.specs.declared.error.AppendError.{AppendError}
 use Rattle.fts_log.specs.declared.frame.Framed.{Framed}
+use Rattle.fts_log.specs.Found.{ends_in}
 use Rattle.fts_log.specs.Frame.{payload_of}
 use Rattle.fts_log.specs.Record.{IsLog, log_end, ends_from}
 
 -- the device on which the log stands
 abbrev pub device_of : {D : Type 0} {disk : Ghosts D} → Log D disk → D
 device_of log = log.device
+
+-- the device behind a call that makes a log of it: the log's, or the one that is handed back
+abbrev pub device_left : {D E : Type 0} {disk : Ghosts D} → Result (Log D disk) (E × D) → D
+device_left (Ok log) = device_of log
+device_left (Err error) = error.1
 
 -- the bytes with which the file begins
 abbrev pub magic_of : {D : Type 0} {disk : Ghosts D} → Log D disk → List ℕ
@@ -28,14 +34,10 @@ count_of log = log.count
 abbrev pub end_of : {D : Type 0} {disk : Ghosts D} → Log D disk → ℕ
 end_of log = log.end
 
--- the end after an append of the frame: an open gate, a length of four bytes and the payload come before the closed gate
+-- the end after an append of the frame: an open gate, a length of four bytes and the payload come before the closed
+-- gate
 abbrev pub end_after : {D : Type 0} {disk : Ghosts D} → Log D disk → Framed → ℕ
 end_after log framed = end_of log + length (payload_of framed) + 5
-
--- where the records end that an opening found, if there was one
-abbrev pub ends_in : Option Found → List ℕ
-ends_in (Some found) = found.ends.items
-ends_in None = []
 
 -- where the records end that the opening of this log found
 abbrev pub found_ends : {D : Type 0} {disk : Ghosts D} → Log D disk → List ℕ
@@ -51,6 +53,24 @@ pub record KeepsMaking {D : Type 0} {disk : Ghosts D} (old new : Log D disk) : T
   pub limit : limit_of new ≡ limit_of old
   pub found : found_count new ≡ found_count old
 
+-- all that is the log's own is as before
+pub record KeepsNumbers {D : Type 0} {disk : Ghosts D} (old new : Log D disk) : Type 0 where
+  pub making : KeepsMaking old new
+  pub count : count_of new ≡ count_of old
+  pub «end» : end_of new ≡ end_of old
+
+-- the numbers of an append: the entry has the next number, and the log then has one entry more and ends behind it;
+-- where there is an error, they are as before
+pub record Numbers {D : Type 0} {disk : Ghosts D} (framed : Framed) (result : Result ℕ AppendError)
+    (old new : Log D disk)
+    : Type 0 where
+  pub making : KeepsMaking old new
+  pub number : IfOk result (λ number. number ≡ count_of old)
+  pub counted : OnOk result (count_of new ≡ count_of old + 1)
+  pub grown : OnOk result (end_of new ≡ end_after old framed)
+  pub uncounted : OnErr result (count_of new ≡ count_of old)
+  pub ungrown : OnErr result (end_of new ≡ end_of old)
+
 -- file 0 is a log of these entries, and the log's numbers are theirs; a crash leaves file 0 as it reads, whatever is
 -- pending in the other files
 pub record StandsFor {D : Type 0} {disk : Ghosts D} (entries : List (List ℕ)) (log : Log D disk) : Type 0 where
@@ -59,7 +79,3 @@ pub record StandsFor {D : Type 0} {disk : Ghosts D} (entries : List (List ℕ)) 
   pub count : count_of log ≡ length entries
   pub durable : OnlyIn 0 (disk.seen (device_of log)) (disk.images (device_of log))
   pub ends : found_ends log ≡ take (found_count log) (ends_from (length (magic_of log)) entries)
-
--- the log stands for some entries: no append of it answered a fault of the device
-abbrev pub IsReady : {D : Type 0} {disk : Ghosts D} → Log D disk → Type 0
-IsReady log = (entries : List (List ℕ)) × StandsFor entries log

@@ -9,3 +9,7 @@ start_of ends (suc k) = slice_index ends k
 -- each record has room for its gate and its length
 abbrev pub IsSpaced : List ℕ → Type 0
 IsSpaced ends = (k : ℕ) → k < length ends → start_of ends k + 5 ≤ slice_index ends k
+
+-- each of these places lies before the end
+abbrev pub AreWithin : ℕ → List ℕ → Type 0
+AreWithin end_ ends = (k : ℕ) → k < length ends → slice_index ends k < end_

@@ -1,16 +1,18 @@
 //! Making a log.
-ghost use Rattle.std.specs.Prelude.{◌≡◌, ◌^◌, ◌≤◌, ◌++◌, [], ◌∷◌, length, IsTrue, IfOk, IfErr, OnOk};
-ghost use Rattle.fts_faults.specs.Count.{Rose, HasCause};
+ghost use Rattle.std.specs.Prelude.{◌≡◌, ◌^◌, ◌≤◌, ◌++◌, [], ◌∷◌, length, IsTrue, IfOk, IsErr};
+ghost use Rattle.std.specs.Prelude.{OnOk};
+ghost use Rattle.fts_faults.specs.Count.{CountsFault, HasCause};
 ghost use Rattle.fts_disk.specs.Crash.{Only};
 ghost use Rattle.fts_log.specs.Device.{SameOthers};
-ghost use Rattle.fts_log.specs.Log.{StandsFor, device_of, magic_of, limit_of, found_count, count_of, end_of};
+ghost use Rattle.fts_log.specs.Log.{StandsFor, device_of, magic_of, limit_of, found_count};
+ghost use Rattle.fts_log.specs.Log.{count_of, end_of, device_left};
 
 use crate::Log;
 use fts_disk::{Disk, Failed};
 
-/// Makes file 0 of the device a log without entries, whatever it held: it is cut to 0, the magic and a
-/// closed gate are written, and a sync makes them durable. `limit` is the largest end that the log may have,
-/// in bytes. Takes no memory.
+/// Makes file 0 of the device a log without entries, whatever it held: it is cut to 0, the magic
+/// and a closed gate are written, and a sync makes them durable. `limit` is the largest end that
+/// the log may have, in bytes. Takes no memory.
 ///
 /// # Errors
 ///
@@ -19,16 +21,15 @@ pub fn create_log<D: Disk>(device: D, magic: [u8; 8], limit: u64) -> Result<Log<
     requires { limit ≤ 2 ^ 32 }
 
     ensures created { IfOk result (λ log. IsTrue D.tells → StandsFor [] log) }
-    ensures durable { IfOk result (λ log. IsTrue D.tells → Only (D.seen (device_of log)) (D.images (device_of log))) }
-    ensures bytes { IfOk result (λ log. IsTrue D.tells → D.seen (device_of log) 0 ≡ magic ++ 0 ∷ []) }
+    ensures durable { IfOk result (λ log. IsTrue D.tells
+        → Only (D.seen (device_of log)) (D.images (device_of log))) }
+    ensures bytes { IfOk result (λ log. IsTrue D.tells
+        → D.seen (device_of log) 0 ≡ magic ++ 0 ∷ []) }
     ensures kept { IfOk result (λ log. (magic_of log ≡ magic) × (limit_of log ≡ limit)) }
-    ensures empty { IfOk result (λ log. (count_of log ≡ 0) × (end_of log ≡ 9) × (found_count log ≡ 0)) }
-    ensures others { IfOk result (λ log. IsTrue D.tells → SameOthers (D.seen device) (D.seen (device_of log))) }
-    ensures never_falls { IfOk result (λ log. D.faults device ≤ D.faults (device_of log)) }
-
-    ensures others_err { IfErr result (λ e. IsTrue D.tells → SameOthers (D.seen device) (D.seen e.1)) }
-    ensures failed { IfErr result (λ e. Rose (D.faults device) (D.faults e.1)) }
-    ensures never_falls_err { IfErr result (λ e. D.faults device ≤ D.faults e.1) }
+    ensures empty { IfOk result (λ log. (count_of log ≡ 0) × (end_of log ≡ 9)
+        × (found_count log ≡ 0)) }
+    ensures others { IsTrue D.tells → SameOthers (D.seen device) (D.seen (device_left result)) }
+    ensures faults { CountsFault (IsErr result) (D.faults device) (D.faults (device_left result)) }
 {
     let mut device = device;
     match start(&mut device, magic) {
@@ -47,7 +48,8 @@ pub fn create_log<D: Disk>(device: D, magic: [u8; 8], limit: u64) -> Result<Log<
 // Writes the magic and a closed gate, and nothing else, and makes them durable.
 fn start<D: Disk>(device: &mut D, magic: [u8; 8]) -> Result<(), Failed>
     ensures bytes { OnOk result (IsTrue D.tells → D.seen device.new 0 ≡ magic ++ 0 ∷ []) }
-    ensures durable { OnOk result (IsTrue D.tells → Only (D.seen device.new) (D.images device.new)) }
+    ensures durable { OnOk result (IsTrue D.tells
+        → Only (D.seen device.new) (D.images device.new)) }
     ensures others { IsTrue D.tells → SameOthers (D.seen device.old) (D.seen device.new) }
     ensures width { length magic ≡ 8 }
     ensures cause { HasCause (D.faults device.old) (D.faults device.new) result }

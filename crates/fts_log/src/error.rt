@@ -11,8 +11,9 @@ use std::fmt;
 pub enum OpenError {
     /// There was no memory for what the opening keeps.
     NoMemory,
-    /// The bytes are no log. `at` is 0 where the magic is wrong or missing; else it is the place of the gate
-    /// of the first record that is not whole, or the place where a missing gate should stand.
+    /// The bytes are no log. `at` is 0 where the magic is wrong or missing; else it is the place of
+    /// the gate of the first record that is not whole, or the place where a missing gate should
+    /// stand.
     Damaged { at: u64 },
     /// The device failed.
     DiskFault,
@@ -110,13 +111,13 @@ impl From<Failed> for OpenError {
     }
 }
 
-impl<T: Drop> From<AllocFailed<T>> for OpenError {
-    ghost use Rattle.fts_log.specs.declared.error.OpenError.TheVariants.{NoMemory};
+impl<T: Drop> From<AllocFailed<T>> for EntryError {
+    ghost use Rattle.fts_log.specs.declared.error.EntryError.TheVariants.{NoMemory};
 
     ghost from_gives = { λ _ e. e ≡ NoMemory };
 
     fn from(_: AllocFailed<T>) -> Self {
-        OpenError::NoMemory
+        EntryError::NoMemory
     }
 }
 

@@ -1,11 +1,13 @@
 //! A record that is made piece by piece before it is appended.
-ghost use Rattle.std.specs.Prelude.{◌≡◌, ◌+◌, ◌^◌, ◌<◌, ◌≤◌, ◌++◌, [], length, drop, IfOk, vec_len, vec_capacity};
+ghost use Rattle.std.specs.Prelude.{◌≡◌, ◌+◌, ◌^◌, ◌<◌, ◌≤◌, ◌++◌, [], length, drop, IfOk, vec_len};
+ghost use Rattle.std.specs.Prelude.{vec_capacity};
 ghost use Rattle.std.specs.Int.{w32, to_be_bytes};
 ghost use Rattle.fts_log.specs.Framing.{staged, inner};
 
 use std::alloc::{AllocError, Global};
 
-/// The payload of a record, in the bytes that an append writes: the length, the payload and a closed gate.
+/// The payload of a record, in the bytes that an append writes: the length, the payload and a
+/// closed gate.
 #[derive(Drop)]
 pub struct Framed {
     bytes: Vec<u8>,

@@ -1,12 +1,13 @@
 //! A log of entries in file 0 of a device, each acknowledged only once it is durable.
 //!
-//! The file is a magic of 8 bytes, then records, then a closed gate, then any rest. A record is the gate
-//! byte `01`, a length of four bytes, big end first, and that many bytes of payload. A closed gate is any
-//! byte other than `01`; it ends the log. An append writes the length, the payload and a closed gate behind
-//! the gate that is closed, makes them durable, then opens that gate and makes it durable: so a crash at any
-//! moment leaves the old entries, or these and the new one.
+//! The file is a magic of 8 bytes, then records, then a closed gate, then any rest. A record is the
+//! gate byte `01`, a length of four bytes, big end first, and that many bytes of payload. A closed
+//! gate is any byte other than `01`; it ends the log. An append writes the length, the payload and
+//! a closed gate behind the gate that is closed, makes them durable, then opens that gate and makes
+//! it durable: so a crash at any moment leaves the old entries, or these and the new one.
 #![tactic(auto)]
 
+mod begun;
 mod create;
 mod error;
 mod found;
@@ -15,14 +16,17 @@ mod laws;
 mod log;
 mod opening;
 mod place;
+mod records;
 mod window;
 
+pub use begun::is_begun;
 pub use create::create_log;
 pub use error::{AppendError, EntryError, OpenError};
 pub use frame::Framed;
 pub use laws::{not_damaged, one_list, one_place};
 pub use log::Log;
-pub use opening::open_log;
+pub use opening::{open_log, read_records};
+pub use records::Records;
 
 #[cfg(test)]
 mod tests;

@@ -1,7 +1,8 @@
 //! What stands at a place of a log's file.
 ghost use Rattle.std.specs.Prelude.{◌≡◌, ℕ, List, ◌+◌, ◌^◌, ◌<◌, ◌≤◌, length, take, drop};
 
-/// What stands at a place of a file: a closed gate, a whole record, which ends at `next`, or neither.
+/// What stands at a place of a file: a closed gate, a whole record, which ends at `next`, or
+/// neither.
 #[derive(Clone, Copy)]
 pub(crate) enum Place {
     Closed,
@@ -12,13 +13,15 @@ pub(crate) enum Place {
 impl Place {
     ghost use Rattle.fts_log.specs.Scan.{Stands};
 
-    /// What stands at `at`, by the first five bytes from there on, or fewer where the file ends. The file
-    /// has `file_length` bytes.
+    /// What stands at `at`, by the first five bytes from there on, or fewer where the file ends.
+    /// The file has `file_length` bytes.
     pub(crate) fn from_head(head: &[u8], at: u64, file_length: u64) -> Self
         requires within { at ≤ file_length }
         requires small { file_length < 2 ^ 63 }
-        ensures stands { (file : List ℕ) → length file ≡ file_length → head.now ≡ take 5 (drop at file) → Stands file at result }
-        ensures next { (next : ℕ) → result ≡ Place.Whole next → (at + 5 ≤ next) × (next ≤ file_length) }
+        ensures stands { (file : List ℕ) → length file ≡ file_length
+            → head.now ≡ take 5 (drop at file) → Stands file at result }
+        ensures next { (next : ℕ) → result ≡ Place.Whole next
+            → (at + 5 ≤ next) × (next ≤ file_length) }
     {
         match head {
             [1, a, b, c, d] => {

@@ -1,5 +1,5 @@
 ghost use Rattle.std.specs.Prelude.{◌^◌, ◌<◌, [], length, IfOk, OnOk};
-ghost use Rattle.fts_log.specs.Log.{StandsFor, IsReady};
+ghost use Rattle.fts_log.specs.Log.{StandsFor};
 
 use super::*;
 use fts_disk::{Call, Disk, Kind, MemDisk};
@@ -29,9 +29,7 @@ fn framed(alloc: Global, payload: &[u8]) -> Result<Framed, Fail>
 
 // Appends an entry, and returns its number.
 fn append(alloc: Global, log: &mut Log<MemDisk>, payload: &[u8]) -> Result<u64, Fail>
-    requires room { length payload.now < 2 ^ 32 }
-    requires ready { IsReady log.old }
-    ensures ready { OnOk result (IsReady log.new) }
+    requires { length payload.now < 2 ^ 32 }
 {
     Ok(log.append(&framed(alloc, payload)?)?)
 }

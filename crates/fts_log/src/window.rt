@@ -1,8 +1,8 @@
 //! Reading a file of a device, a stretch at a time.
-ghost use Rattle.std.specs.Prelude.{◌≡◌, ℕ, List, ◌+◌, ◌-◌, ◌<◌, ◌≤◌, ◌^◌, length, take, drop, min, IsTrue, IfOk, OnOk, IsErrOf};
-ghost use Rattle.fts_faults.specs.Count.{Rose};
-ghost use Rattle.fts_disk.specs.Moments.{LeavesAsBefore};
-ghost use Rattle.fts_log.specs.Device.{LooksOnly};
+ghost use Rattle.std.specs.Prelude.{◌≡◌, ℕ, List, ◌+◌, ◌-◌, ◌<◌, ◌≤◌, ◌^◌, length, take, drop, min};
+ghost use Rattle.std.specs.Prelude.{IsTrue, IfOk, OnOk, IsErrOf};
+ghost use Rattle.fts_faults.specs.Count.{CountsFault};
+ghost use Rattle.fts_disk.specs.Moments.{Looks};
 
 use crate::EntryError;
 use fts_disk::Disk;
@@ -29,12 +29,12 @@ pub(crate) fn read_bytes<D: Disk>(
     size: usize,
 ) -> Result<Vec<u8>, EntryError>
     requires { IsTrue D.tells → at + size ≤ length (D.seen device.old 0) }
-    ensures bytes { IfOk result (λ bytes. IsTrue D.tells → bytes.items ≡ take size (drop at (D.seen device.old 0))) }
+    ensures bytes { IfOk result (λ bytes. IsTrue D.tells
+        → bytes.items ≡ take size (drop at (D.seen device.old 0))) }
     ensures size { IfOk result (λ bytes. length bytes.items ≡ size) }
-    ensures looks { IsTrue D.tells → LooksOnly D.Disk device.old device.new }
-    ensures crash { IsTrue D.tells → LeavesAsBefore D.Disk device.old device.new }
-    ensures failed { IsErrOf result EntryError.DiskFault → Rose (D.faults device.old) (D.faults device.new) }
-    ensures never_falls { D.faults device.old ≤ D.faults device.new }
+    ensures looks { IsTrue D.tells → Looks D.Disk device.old device.new }
+    ensures faults { CountsFault (IsErrOf result EntryError.DiskFault) (D.faults device.old)
+        (D.faults device.new) }
 {
     let mut bytes = vec![in alloc; 0; size]?;
     device.read_at(0, at, &mut bytes)?;
@@ -53,20 +53,22 @@ impl Window {
     ) -> Result<Self, EntryError>
         requires told { IsTrue D.tells → length (D.seen device.old 0) ≡ file_length }
         requires within { at ≤ file_length }
-        ensures shows { IfOk result (λ window. IsTrue D.tells → Shows window (D.seen device.old 0)) }
+        ensures shows { IfOk result
+            (λ window. IsTrue D.tells → Shows window (D.seen device.old 0)) }
         ensures start { IfOk result (λ window. window.start ≡ at) }
-        ensures size { IfOk result (λ window. length window.bytes.items ≡ min (file_length - at) 65536) }
-        ensures looks { IsTrue D.tells → LooksOnly D.Disk device.old device.new }
-        ensures crash { IsTrue D.tells → LeavesAsBefore D.Disk device.old device.new }
-        ensures failed { IsErrOf result EntryError.DiskFault → Rose (D.faults device.old) (D.faults device.new) }
-        ensures never_falls { D.faults device.old ≤ D.faults device.new }
+        ensures size { IfOk result (λ window. length window.bytes.items
+            ≡ min (file_length - at) 65536) }
+        ensures looks { IsTrue D.tells → Looks D.Disk device.old device.new }
+        ensures faults { CountsFault (IsErrOf result EntryError.DiskFault) (D.faults device.old)
+            (D.faults device.new) }
     {
         let size = (file_length - at).min(STRETCH) as usize;
         let bytes = read_bytes(alloc, device, at, size)?;
         Ok(Window { start: at, bytes })
     }
 
-    /// Goes on to `at`, so that the window has the first five bytes from there on, or as many as the file has.
+    /// Goes on to `at`, so that the window has the first five bytes from there on, or as many as
+    /// the file has.
     pub(crate) fn cover<D: Disk>(
         &mut self,
         alloc: Global,
@@ -80,11 +82,11 @@ impl Window {
         requires small { file_length < 2 ^ 63 }
         ensures shows { OnOk result (IsTrue D.tells → Shows self.new (D.seen device.old 0)) }
         ensures start { OnOk result (self.new.start ≤ at) }
-        ensures size { OnOk result (at - self.new.start + min (file_length - at) 5 ≤ length self.new.bytes.items) }
-        ensures looks { IsTrue D.tells → LooksOnly D.Disk device.old device.new }
-        ensures crash { IsTrue D.tells → LeavesAsBefore D.Disk device.old device.new }
-        ensures failed { IsErrOf result EntryError.DiskFault → Rose (D.faults device.old) (D.faults device.new) }
-        ensures never_falls { D.faults device.old ≤ D.faults device.new }
+        ensures size { OnOk result (at - self.new.start + min (file_length - at) 5
+            ≤ length self.new.bytes.items) }
+        ensures looks { IsTrue D.tells → Looks D.Disk device.old device.new }
+        ensures faults { CountsFault (IsErrOf result EntryError.DiskFault) (D.faults device.old)
+            (D.faults device.new) }
     {
         let wanted = (file_length - at).min(HEAD);
         if self.start <= at && at - self.start + wanted <= self.bytes.len() as u64 {
@@ -98,8 +100,10 @@ impl Window {
     pub(crate) fn head(&self, at: u64, file_length: u64) -> &[u8]
         requires start { self.now.start ≤ at }
         requires within { at ≤ file_length }
-        requires size { at - self.now.start + min (file_length - at) 5 ≤ length self.now.bytes.items }
-        ensures bytes { (file : List ℕ) → length file ≡ file_length → Shows self.now file → result.now ≡ take 5 (drop at file) }
+        requires size { at - self.now.start + min (file_length - at) 5
+            ≤ length self.now.bytes.items }
+        ensures bytes { (file : List ℕ) → length file ≡ file_length → Shows self.now file
+            → result.now ≡ take 5 (drop at file) }
     {
         let from = (at - self.start) as usize;
         let wanted = (file_length - at).min(HEAD) as usize;

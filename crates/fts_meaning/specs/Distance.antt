@@ -1,4 +1,5 @@
-use Rattle.std.specs.Prelude.{ℕ, ◌+◌, ◌*◌, ◌-◌, Bool, not, ◌==◌, ◌&&◌, ◌||◌, nat_le, List, take, drop, fold, slice_index, if◌then◌else◌, Option, None, Some}
+use Rattle.std.specs.Prelude.{ℕ, ◌+◌, ◌*◌, ◌-◌, Bool, not, ◌==◌, ◌&&◌, ◌||◌, nat_le, List, take, drop, fold}
+use Rattle.std.specs.Prelude.{slice_index, if◌then◌else◌, Option, None, Some}
 use Rattle.std.specs.List.{prefix_len}
 use Rattle.std.specs.Char.{is_ascii_digit}
 use Rattle.fts_words.specs.Byte.{word_at}

@@ -12,7 +12,8 @@ closed text place = count_by (λ byte. byte == 41) (take place text)
 -- a `(` without its `)`: from behind it up to any place, no more brackets close than open
 pub record IsLoneOpen (text : List ℕ) (place : ℕ) : Type 0 where
   pub is : slice_index text place ≡ 40
-  pub none : (end : ℕ) → place < end → end ≤ length text → closed text end + opened text (place + 1) ≤ opened text end + closed text (place + 1)
+  pub none : (end : ℕ) → place < end → end ≤ length text
+      → closed text end + opened text (place + 1) ≤ opened text end + closed text (place + 1)
 
 -- a `)` without its `(`: from any place up to it, no more brackets open than close
 pub record IsLoneClose (text : List ℕ) (place : ℕ) : Type 0 where

@@ -94,13 +94,15 @@ abbrev mutual
   pub none_excluded : Rules → List (List ℕ) → Terms → Bool
   none_excluded rules columns none = true
   none_excluded rules columns (more term rest) =
-      not (stays rules term && (is_excluded (sign_of_term term) && term_holds rules columns term)) && none_excluded rules columns rest
+      not (stays rules term && (is_excluded (sign_of_term term) && term_holds rules columns term)) && none_excluded
+      rules columns rest
 
   -- each required term that stays holds
   pub each_required : Rules → List (List ℕ) → Terms → Bool
   each_required rules columns none = true
   each_required rules columns (more term rest) =
-      (not (stays rules term && is_required (sign_of_term term)) || term_holds rules columns term) && each_required rules columns rest
+      (not (stays rules term && is_required (sign_of_term term)) || term_holds rules columns term) && each_required
+      rules columns rest
 
   -- a required term stays
   pub has_required : Rules → Terms → Bool
@@ -111,7 +113,8 @@ abbrev mutual
   pub some_optional : Rules → List (List ℕ) → Terms → Bool
   some_optional rules columns none = false
   some_optional rules columns (more term rest) =
-      (stays rules term && (is_optional (sign_of_term term) && term_holds rules columns term)) || some_optional rules columns rest
+      (stays rules term && (is_optional (sign_of_term term) && term_holds rules columns term)) || some_optional rules
+      columns rest
 
 -- the list of terms holds in the row
 abbrev pub list_holds : Rules → List (List ℕ) → Terms → Bool

@@ -1,4 +1,5 @@
-use Rattle.std.specs.Prelude.{◌≡◌, ℕ, ◌+◌, ◌-◌, Bool, not, ◌==◌, ◌&&◌, ◌||◌, List, [], ◌∷◌, length, map, drop, flat_map, slice_index, slice_range, if◌then◌else◌, Option, None, Some, is_none}
+use Rattle.std.specs.Prelude.{◌≡◌, ℕ, ◌+◌, ◌-◌, Bool, not, ◌==◌, ◌&&◌, ◌||◌, List, [], ◌∷◌, length, map, drop, flat_map}
+use Rattle.std.specs.Prelude.{slice_index, slice_range, if◌then◌else◌, Option, None, Some, is_none}
 use Rattle.std.specs.List.{range_with_len}
 use Rattle.fts_words.specs.declared.span.Span.{Span}
 use Rattle.fts_words.specs.Byte.{is_word_byte, word_at, lowered}
@@ -9,7 +10,8 @@ use Rattle.fts_meaning.specs.declared.sign.Sign.TheVariants.{Optional, Required,
 use Rattle.fts_meaning.specs.Quote.{closing_quote}
 use Rattle.fts_meaning.specs.Distance.{Tail, distance_tail}
 use Rattle.fts_meaning.specs.Plain.{plain}
-use Rattle.fts_meaning.specs.Tree.{Operand, word, prefix, phrase, distance, Terms, Token, single, opening, closing, stray, written}
+use Rattle.fts_meaning.specs.Tree.{Operand, word, prefix, phrase, distance, Terms, Token, single, opening, closing}
+use Rattle.fts_meaning.specs.Tree.{stray, written}
 
 -- In what follows `query` is the text of a query and `text` is what is left of it, `plain query`.
 
@@ -25,8 +27,8 @@ sign_of byte = if byte == 43 then Required else (if byte == 45 then Excluded els
 abbrev pub begins_unit : ℕ → Bool
 begins_unit byte = is_word_byte byte || ((byte == 34) || (byte == 40))
 
--- A byte that is at fault by itself: a sign that is not directly before a word byte, a quote or a `(`; a `*` (42) that is not
--- directly behind a word; an `@` (64), which no distance has; a quote that no other one closes.
+-- A byte that is at fault by itself: a sign that is not directly before a word byte, a quote or a `(`; a `*` (42) that
+-- is not directly behind a word; an `@` (64), which no distance has; a quote that no other one closes.
 unfoldable pub stray_at : List ℕ → List ℕ → ℕ → Bool
 stray_at query text place =
     let byte = slice_index text place in
@@ -42,7 +44,8 @@ words_in text = map (λ span. lowered (bytes_of text span)) (raw_words text)
 -- the word or prefix that a raw word of the text is: a prefix where a `*` stands directly behind it
 abbrev pub word_operand : List ℕ → Span → Operand
 word_operand text span =
-    if slice_index text span.to == 42 then prefix (lowered (bytes_of text span)) else word (lowered (bytes_of text span))
+    if slice_index text span.to == 42 then prefix (lowered (bytes_of text span)) else word
+    (lowered (bytes_of text span))
 
 -- the phrase or distance of these words
 abbrev pub with_tail : List (List ℕ) → Option Tail → Operand
@@ -64,7 +67,8 @@ tokens_at query text place =
     else (if byte == 34 then single sign (quoted query place (closing_quote query place)) ∷ []
     else (if byte == 40 then opening sign ∷ []
     else (if byte == 41 then closing ∷ []
-    else (if starts (in_word text) place then single sign (word_operand text (run_at (in_word text) (length text) place)) ∷ []
+    else (if starts (in_word text) place then single sign
+    (word_operand text (run_at (in_word text) (length text) place)) ∷ []
     else []))))
 
 -- what begins at a place or behind it

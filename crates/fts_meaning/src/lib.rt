@@ -1,7 +1,8 @@
-//! What a Boolean query is and what it finds: its tree, the bytes of its text that are at fault, the rows in which it
-//! holds.
+//! What a Boolean query is and what it finds: its tree, the bytes of its text that are at fault,
+//! the rows in which it holds.
 //!
-//! The definitions are in `specs/`. This crate has the types that they are about, and the laws that hold of them.
+//! The definitions are in `specs/`. This crate has the types that they are about, and the laws that
+//! hold of them.
 #![tactic(auto)]
 
 mod laws;

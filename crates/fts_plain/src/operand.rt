@@ -33,7 +33,8 @@ fn has_indexed(
     is_prefix: bool,
 ) -> Result<bool, AllocError>
     requires { IsRow columns.now }
-    ensures { IfOk result (λ found. found ≡ some_indexed (rules_of settings.now) columns.now (fits is_prefix word.now)) }
+    ensures { IfOk result (λ found. found
+        ≡ some_indexed (rules_of settings.now) columns.now (fits is_prefix word.now)) }
 {
     let mut rest = indexed_words(settings, columns);
     while let Some(found) = rest.next() {
@@ -61,7 +62,8 @@ fn text_has_distance(
     words: &Texts,
     number: u16,
 ) -> Result<bool, AllocError>
-    ensures { IfOk result (λ found. found ≡ lies_near (rules_of settings.now) words.now number text.now) }
+    ensures { IfOk result (λ found. found
+        ≡ lies_near (rules_of settings.now) words.now number text.now) }
 {
     let all = words_in(alloc, text)?;
     Ok(is_near(settings, &all, words, usize::from(number)))
@@ -87,7 +89,8 @@ fn has_distance(
     words: &Texts,
     number: u16,
 ) -> Result<bool, AllocError>
-    ensures { IfOk result (λ found. found ≡ list_any (lies_near (rules_of settings.now) words.now number) columns.now) }
+    ensures { IfOk result (λ found. found
+        ≡ list_any (lies_near (rules_of settings.now) words.now number) columns.now) }
 {
     for column in 0..columns.len() {
         if text_has_distance(alloc, settings, columns.text(column), words, number)? {
@@ -105,7 +108,8 @@ pub(crate) fn operand_holds(
     operand: &Operand,
 ) -> Result<bool, AllocError>
     requires { IsRow columns.now }
-    ensures { IfOk result (λ holds. holds ≡ operand_holds (rules_of settings.now) columns.now (operand_view operand.now)) }
+    ensures { IfOk result (λ holds. holds
+        ≡ operand_holds (rules_of settings.now) columns.now (operand_view operand.now)) }
 {
     match operand {
         Operand::Word(word) => has_indexed(alloc, settings, columns, word.as_slice(), false),

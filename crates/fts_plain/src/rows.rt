@@ -27,7 +27,9 @@ fn look_at(
     ids: &mut Vec<DocId>,
 ) -> Result<(), AllocError>
     requires { IsRow row.now.texts }
-    ensures { OnOk result (ids.new.items ≡ ids.old.items ++ scan (rules_of settings.now) (row_view row.now ∷ []) (tree_of query.now)) }
+    ensures { OnOk result (ids.new.items
+        ≡ ids.old.items ++ scan (rules_of settings.now) (row_view row.now ∷ [])
+        (tree_of query.now)) }
 {
     if !list_holds(alloc, settings, &row.texts, query.terms.as_slice())? {
         return Ok(());
@@ -36,9 +38,11 @@ fn look_at(
     Ok(())
 }
 
-/// The document ids of the rows in which a query holds under the settings, in the order of the rows.
+/// The document ids of the rows in which a query holds under the settings, in the order of the
+/// rows.
 ///
-/// The texts of each row are 1 to 8, of at most 65,535 bytes together. The only refusal is for want of memory.
+/// The texts of each row are 1 to 8, of at most 65,535 bytes together. The only refusal is for want
+/// of memory.
 ///
 /// Source: MySQL 8.0 Reference Manual, "Boolean Full-Text Searches".
 pub fn scan(
@@ -48,7 +52,8 @@ pub fn scan(
     query: &Query,
 ) -> Result<Vec<DocId>, AllocError>
     requires { All (λ row. IsRow row.texts) rows.now }
-    ensures { IfOk result (λ ids. ids.items ≡ scan (rules_of settings.now) (map row_view rows.now) (tree_of query.now)) }
+    ensures { IfOk result (λ ids. ids.items
+        ≡ scan (rules_of settings.now) (map row_view rows.now) (tree_of query.now)) }
 {
     let mut ids = Vec::new(alloc);
     for row in rows {

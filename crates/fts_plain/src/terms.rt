@@ -23,7 +23,8 @@ fn sign_of(term: &Term) -> Sign
     }
 }
 
-/// Whether a term stays: it is no word that can't be indexed, and no group without a term that stays.
+/// Whether a term stays: it is no word that can't be indexed, and no group without a term that
+/// stays.
 #[cycle(staying)]
 fn stays(settings: &Settings, term: &Term) -> bool
     ensures { result ≡ stays (rules_of settings.now) (term_view term.now) }
@@ -68,7 +69,8 @@ fn term_holds(
     term: &Term,
 ) -> Result<bool, AllocError>
     requires { IsRow columns.now }
-    ensures { IfOk result (λ holds. holds ≡ term_holds (rules_of settings.now) columns.now (term_view term.now)) }
+    ensures { IfOk result (λ holds. holds
+        ≡ term_holds (rules_of settings.now) columns.now (term_view term.now)) }
 {
     match term {
         Term::Leaf(_, operand) => operand_holds(alloc, settings, columns, operand),
@@ -85,7 +87,8 @@ pub(crate) fn list_holds(
     terms: &[Term],
 ) -> Result<bool, AllocError>
     requires { IsRow columns.now }
-    ensures { IfOk result (λ holds. holds ≡ list_holds (rules_of settings.now) columns.now (terms_view terms.now)) }
+    ensures { IfOk result (λ holds. holds
+        ≡ list_holds (rules_of settings.now) columns.now (terms_view terms.now)) }
 {
     let mut verdict = Verdict::new();
     for term in terms {

@@ -34,10 +34,13 @@ impl Verdict {
 
     /// Adds a term: its sign, whether it stays, and whether it holds.
     pub(crate) fn with(self, sign: Sign, stays: bool, holds: bool) -> Verdict
-        ensures none { result.none_excluded ≡ (self.none_excluded && not (stays && (is_excluded sign && holds))) }
-        ensures each { result.each_required ≡ (self.each_required && (not (stays && is_required sign) || holds)) }
+        ensures none { result.none_excluded
+            ≡ (self.none_excluded && not (stays && (is_excluded sign && holds))) }
+        ensures each { result.each_required
+            ≡ (self.each_required && (not (stays && is_required sign) || holds)) }
         ensures has { result.has_required ≡ (self.has_required || (stays && is_required sign)) }
-        ensures some { result.some_optional ≡ (self.some_optional || (stays && (is_optional sign && holds))) }
+        ensures some { result.some_optional
+            ≡ (self.some_optional || (stays && (is_optional sign && holds))) }
     {
         Verdict {
             none_excluded: self.none_excluded && !(stays && (is_excluded(sign) && holds)),
@@ -49,7 +52,8 @@ impl Verdict {
 
     /// Whether the list holds.
     pub(crate) fn holds(self) -> bool
-        ensures { result ≡ (self.none_excluded && (self.each_required && (self.has_required || self.some_optional))) }
+        ensures { result ≡ (self.none_excluded &&
+            (self.each_required && (self.has_required || self.some_optional))) }
     {
         self.none_excluded && (self.each_required && (self.has_required || self.some_optional))
     }

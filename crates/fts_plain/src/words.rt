@@ -79,7 +79,8 @@ fn stands_among(all: &Texts, from: usize, count: usize, word: &[u8]) -> bool
 /// Whether a word can't be an indexed word, or is among so many words from a place on.
 fn word_is_close(settings: &Settings, all: &Texts, from: usize, count: usize, word: &[u8]) -> bool
     requires { from ≤ length all.now }
-    ensures { result ≡ (not (is_indexable (rules_of settings.now) word.now) || is_among (take count (drop from all.now)) word.now) }
+    ensures { result ≡ (not (is_indexable (rules_of settings.now) word.now) || is_among
+        (take count (drop from all.now)) word.now) }
 {
     !is_indexable(settings, word) || stands_among(all, from, count, word)
 }
@@ -107,7 +108,8 @@ fn each_stands_among(
 /// Whether each indexable word is among `number + 1` words that stand one behind another.
 pub(crate) fn is_near(settings: &Settings, all: &Texts, words: &Texts, number: usize) -> bool
     requires { number < 2 ^ 16 }
-    ensures { result ≡ from_some_place all.now (is_close (rules_of settings.now) (number + 1) words.now) }
+    ensures { result ≡ from_some_place all.now
+        (is_close (rules_of settings.now) (number + 1) words.now) }
 {
     for place in 0..all.len() {
         if each_stands_among(settings, all, place, number + 1, words) {

@@ -1,9 +1,11 @@
-ghost use Rattle.std.specs.Prelude.{◌≡◌, ◌+◌, ◌-◌, ◌<◌, ◌≤◌, ◌^◌, [], ◌∷◌, ◌++◌, length, slice_index, IfOk, OnOk, IsSome};
+ghost use Rattle.std.specs.Prelude.{◌≡◌, ◌+◌, ◌-◌, ◌<◌, ◌≤◌, ◌^◌, [], ◌∷◌, ◌++◌, length};
+ghost use Rattle.std.specs.Prelude.{slice_index, IfOk, OnOk, IsSome};
 ghost use Rattle.fts_words.specs.Run.{starts, run_at};
 ghost use Rattle.fts_words.specs.RawWords.{in_word};
 ghost use Rattle.fts_meaning.specs.Quote.{closing_quote};
 ghost use Rattle.fts_meaning.specs.Tree.{opening, closing, single, written, written_term};
-ghost use Rattle.fts_meaning.specs.Token.{sign_of, stray_at, quoted, word_operand, tokens_at, tokens_from};
+ghost use Rattle.fts_meaning.specs.Token.{sign_of, stray_at, quoted, word_operand, tokens_at};
+ghost use Rattle.fts_meaning.specs.Token.{tokens_from};
 ghost use Rattle.fts_meaning.specs.Nesting.{Nests};
 ghost use Rattle.fts_query.specs.View.{operand_view, term_view, terms_view};
 ghost use Rattle.fts_query.specs.Built.{written_so_far, height_of};
@@ -32,7 +34,8 @@ fn sign_of(byte: u8) -> Sign
 /// The word or prefix of the word that starts at a place.
 fn word_at(alloc: Global, text: &[u8], from: usize) -> Result<Operand, AllocError>
     requires { from ≤ length text.now }
-    ensures { IfOk result (λ operand. operand_view operand ≡ word_operand text.now (run_at (in_word text.now) (length text.now) from)) }
+    ensures { IfOk result (λ operand. operand_view operand
+        ≡ word_operand text.now (run_at (in_word text.now) (length text.now) from)) }
 {
     let to = word_end(text, from);
     let word = lowered(alloc, &text[from..to])?;
@@ -83,7 +86,9 @@ impl Builder {
 
     /// Adds an operand.
     fn add(&mut self, sign: Sign, operand: Operand) -> Result<(), AllocError>
-        ensures written { OnOk result (written_so_far self.new ≡ written_so_far self.old ++ single sign (operand_view operand) ∷ []) }
+        ensures written { OnOk result
+            (written_so_far self.new
+            ≡ written_so_far self.old ++ single sign (operand_view operand) ∷ []) }
         ensures height { height_of self.new ≡ height_of self.old }
     {
         self.terms.push(Term::Leaf(sign, operand))?;
@@ -92,7 +97,8 @@ impl Builder {
 
     /// Opens a bracket.
     fn open_bracket(&mut self, alloc: Global, sign: Sign) -> Result<(), AllocError>
-        ensures written { OnOk result (written_so_far self.new ≡ written_so_far self.old ++ opening sign ∷ []) }
+        ensures written { OnOk result
+            (written_so_far self.new ≡ written_so_far self.old ++ opening sign ∷ []) }
         ensures height { OnOk result (height_of self.new ≡ height_of self.old + 1) }
     {
         let before = mem::replace(&mut self.terms, Vec::new(alloc));
@@ -103,7 +109,8 @@ impl Builder {
     /// Closes the bracket that was opened last.
     fn close_bracket(&mut self) -> Result<(), AllocError>
         requires { 0 < height_of self.old }
-        ensures written { OnOk result (written_so_far self.new ≡ written_so_far self.old ++ closing ∷ []) }
+        ensures written { OnOk result
+            (written_so_far self.new ≡ written_so_far self.old ++ closing ∷ []) }
         ensures height { OnOk result (height_of self.new ≡ height_of self.old - 1) }
     {
         if let Some(Bracket { sign, before }) = self.brackets.pop() {
@@ -123,8 +130,11 @@ impl Builder {
     ) -> Result<(), AllocError>
         requires within { place < length text.now }
         requires nests { Nests (height_of self.old) (tokens_from query.now text.now place) }
-        ensures written { OnOk result (written_so_far self.new ≡ written_so_far self.old ++ tokens_at query.now text.now place) }
-        ensures nests { OnOk result (Nests (height_of self.new) (tokens_from query.now text.now (place + 1))) }
+        ensures written { OnOk result
+            (written_so_far self.new
+            ≡ written_so_far self.old ++ tokens_at query.now text.now place) }
+        ensures nests { OnOk result
+            (Nests (height_of self.new) (tokens_from query.now text.now (place + 1))) }
     {
         let sign = sign_of(byte_at(text, place.saturating_sub(1)));
         if text[place] == b'"' {
@@ -153,7 +163,10 @@ impl Builder {
     ) -> Result<(), AllocError>
         requires within { from < 2 ^ 63 }
         requires closed { IsSome (closing_quote query.now from) }
-        ensures written { OnOk result (written_so_far self.new ≡ written_so_far self.old ++ single sign (quoted query.now from (closing_quote query.now from)) ∷ []) }
+        ensures written { OnOk result
+            (written_so_far self.new
+            ≡ written_so_far self.old ++ single sign
+            (quoted query.now from (closing_quote query.now from)) ∷ []) }
         ensures height { height_of self.new ≡ height_of self.old }
     {
         if let Some(to) = next_quote(query, from + 1) {
@@ -167,7 +180,8 @@ impl Builder {
 /// The terms of a query without a byte at fault. `text` is what is left of the query.
 pub(crate) fn build(alloc: Global, query: &[u8], text: &[u8]) -> Result<Vec<Term>, AllocError>
     requires { Nests 0 (tokens_from query.now text.now 0) }
-    ensures { IfOk result (λ terms. written (terms_view terms.items) ≡ tokens_from query.now text.now 0) }
+    ensures { IfOk result (λ terms. written (terms_view terms.items)
+        ≡ tokens_from query.now text.now 0) }
 {
     let mut builder = Builder::new(alloc);
     for place in 0..text.len() {

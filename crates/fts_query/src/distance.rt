@@ -1,4 +1,5 @@
-ghost use Rattle.std.specs.Prelude.{◌≡◌, ◌+◌, ◌-◌, ◌*◌, ◌<◌, ◌≤◌, length, None, Some, IfNone, IfSome};
+ghost use Rattle.std.specs.Prelude.{◌≡◌, ◌+◌, ◌-◌, ◌*◌, ◌<◌, ◌≤◌, length, None, Some, IfNone};
+ghost use Rattle.std.specs.Prelude.{IfSome};
 ghost use Rattle.std.specs.List.{prefix_len};
 ghost use Rattle.std.specs.Char.{is_ascii_digit};
 ghost use Rattle.fts_meaning.specs.Distance.{decimal_value, blanks, distance_tail};
@@ -52,10 +53,12 @@ fn grown(value: u32, digit: u8) -> u32
     }
 }
 
-/// What makes a phrase a distance, where it stands behind the closing quote: how many bytes it has, and its number.
+/// What makes a phrase a distance, where it stands behind the closing quote: how many bytes it has,
+/// and its number.
 pub(crate) fn distance_tail(behind: &[u8]) -> Option<(usize, u16)>
     ensures none { IfNone result (distance_tail behind.now ≡ None) }
-    ensures some { IfSome result (λ tail. distance_tail behind.now ≡ Some (record { len = tail.0; number = tail.1 })) }
+    ensures some { IfSome result (λ tail. distance_tail behind.now
+        ≡ Some (record { len = tail.0; number = tail.1 })) }
     ensures within { IfSome result (λ tail. tail.0 ≤ length behind.now) }
 {
     let mark = blank_count(behind);

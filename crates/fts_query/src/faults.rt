@@ -1,7 +1,8 @@
 ghost use Rattle.std.specs.Prelude.{◌≡◌, ℕ, ◌+◌, ◌<◌, ◌≤◌, ◌^◌, ◌==◌, ◌&&◌, nat_le, length};
 ghost use Rattle.fts_meaning.specs.Token.{is_sign, begins_unit, stray_at};
 ghost use Rattle.fts_meaning.specs.Fault.{opened, closed, IsLoneOpen, IsFaulty, IsTooDeep};
-ghost use Rattle.fts_query.specs.Found.{IsEarly, IsFirstBetween, IsSeenFrom, height_behind, earlier};
+ghost use Rattle.fts_query.specs.Found.{IsEarly, IsFirstBetween, IsSeenFrom, height_behind};
+ghost use Rattle.fts_query.specs.Found.{earlier};
 
 use crate::quotes::next_quote;
 use crate::words::{byte_at, has_word_byte};

@@ -53,8 +53,9 @@ impl From<AllocError> for ParseError {
 
 /// The query of a text, by the rules of `docs/LANGUAGE.md`, "The Boolean language".
 ///
-/// The refusals are tried in this order: `TooLong` above 4,096 bytes; `Syntax` at the leftmost byte at fault;
-/// `TooDeep` at the first bracket that stands more than 32 deep. The time is linear in the text.
+/// The refusals are tried in this order: `TooLong` above 4,096 bytes; `Syntax` at the leftmost byte
+/// at fault; `TooDeep` at the first bracket that stands more than 32 deep. The time is linear in
+/// the text.
 ///
 /// Source: MySQL 8.0 Reference Manual, "Boolean Full-Text Searches".
 pub fn parse(alloc: Global, text: &[u8]) -> Result<Query, ParseError>

@@ -17,7 +17,8 @@ fn fill_with_spaces(text: &mut [u8], from: usize, to: usize)
     }
 }
 
-/// Where the phrase ends whose closing quote is given: behind it, and behind the tail of a distance where one follows.
+/// Where the phrase ends whose closing quote is given: behind it, and behind the tail of a distance
+/// where one follows.
 fn phrase_end(query: &[u8], close: usize) -> usize
     requires { close < length query.now }
     ensures end { result ≡ phrase_end query.now close }
@@ -44,7 +45,8 @@ fn hide_phrases(query: &[u8], text: &mut [u8])
     }
 }
 
-/// What is left of a query once its quotes are paired: its bytes, with spaces in place of phrases and distances.
+/// What is left of a query once its quotes are paired: its bytes, with spaces in place of phrases
+/// and distances.
 pub(crate) fn plain_text(alloc: Global, query: &[u8]) -> Result<Vec<u8>, AllocError>
     ensures { IfOk result (λ text. text.items ≡ plain query.now) }
 {

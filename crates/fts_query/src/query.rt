@@ -10,7 +10,8 @@ pub enum Operand {
     Prefix(Vec<u8>),
     /// Words that stand one behind another: `"word word"`. Words that are not indexed are kept.
     Phrase(Texts),
-    /// Words that stand close together, and how far the first is from the last at most: `"word word" @number`.
+    /// Words that stand close together, and how far the first is from the last at most: `"word
+    /// word" @number`.
     Distance(Texts, u16),
 }
 

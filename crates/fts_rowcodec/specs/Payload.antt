@@ -1,9 +1,10 @@
-use Rattle.std.specs.Prelude.{ℕ, ◌<◌, ◌≤◌, ◌^◌, Bool, if◌then◌else◌, List, [], ◌∷◌, ◌++◌, length, All, Option, Some, None}
+use Rattle.std.specs.Prelude.{ℕ, ◌<◌, ◌≤◌, ◌^◌, Bool, if◌then◌else◌, List, [], ◌∷◌, ◌++◌, length, All, Option, Some}
+use Rattle.std.specs.Prelude.{None}
 use Rattle.std.specs.List.{flat_map}
 use Rattle.std.specs.Int.{w16, w32, w64, to_be_bytes}
 use Rattle.fts_types.specs.declared.settings.Settings.{Settings}
 use Rattle.fts_commits.specs.Commit.{Commit}
-use Rattle.fts_commits.specs.Fits.{IsCommit}
+use Rattle.fts_commits.specs.Fits.{FitsId, IsCommit}
 use Rattle.fts_commits.specs.declared.change.Change.{Change}
 use Rattle.fts_commits.specs.declared.change.Change.TheVariants.{Insert, Update, Delete}
 
@@ -63,7 +64,7 @@ FitsNewText None = Unit {0}
 
 -- a change whose numbers fit their bytes
 abbrev pub FitsBytes : Change → Type 0
-FitsBytes (Insert key doc texts) = (key < 2 ^ 64) × All FitsText texts
+FitsBytes (Insert key doc texts) = (key < 2 ^ 64) × All FitsText texts × FitsId doc
 FitsBytes (Update key texts) = (key < 2 ^ 64) × All FitsNewText texts
 FitsBytes (Delete key) = key < 2 ^ 64
 

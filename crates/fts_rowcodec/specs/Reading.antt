@@ -22,4 +22,5 @@ IsRowChange columns change = FitsColumns columns change × IsPlainInsert change 
 
 -- settings whose numbers fit their bytes
 abbrev pub FitNumbers : Settings → Type 0
-FitNumbers settings = (settings.optimize_words < 2 ^ 16) × (settings.cache_bytes < 2 ^ 32) × (settings.batch_docs < 2 ^ 32)
+FitNumbers settings = (settings.optimize_words < 2 ^ 16) × (settings.cache_bytes < 2 ^ 32)
+    × (settings.batch_docs < 2 ^ 32)

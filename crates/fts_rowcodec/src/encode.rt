@@ -1,9 +1,13 @@
-ghost use Rattle.std.specs.Prelude.{◌≡◌, ◌<◌, ◌≤◌, ◌++◌, ◌∷◌, All, None, slice_index_or, length, IfOk, OnOk};
+ghost use Rattle.std.specs.Prelude.{◌≡◌, ◌<◌, ◌≤◌, ◌++◌, ◌∷◌, All, None, slice_index_or, length};
+ghost use Rattle.std.specs.Prelude.{IfOk, OnOk};
 ghost use Rattle.std.specs.List.{flat_map};
 ghost use Rattle.std.specs.Int.{w64, to_be_bytes};
 ghost use Rattle.fts_commits.specs.declared.change.Change.TheVariants.{Insert, Update};
 ghost use Rattle.fts_types.specs.Settings.{AreSettings};
-ghost use Rattle.fts_rowcodec.specs.Payload.{FitsBytes, FitsText, FitsNewText, new_payload, text_payload, doc_payload, change_payload, commit_payload, column_payload, numbers_payload, settings_payload};
+ghost use Rattle.fts_rowcodec.specs.Payload.{FitsBytes, FitsText, FitsNewText, new_payload};
+ghost use Rattle.fts_rowcodec.specs.Payload.{text_payload, doc_payload, change_payload};
+ghost use Rattle.fts_rowcodec.specs.Payload.{commit_payload, column_payload, numbers_payload};
+ghost use Rattle.fts_rowcodec.specs.Payload.{settings_payload};
 
 use fts_commits::{Change, NewTexts};
 use fts_types::{Names, RowTexts, Settings};
@@ -105,7 +109,8 @@ fn put_insert(
     texts: &RowTexts,
 ) -> Result<(), AllocError>
     requires { All FitsText texts.now }
-    ensures { OnOk result (bytes.new.items ≡ bytes.old.items ++ change_payload (Insert key doc texts.now)) }
+    ensures { OnOk result (bytes.new.items
+        ≡ bytes.old.items ++ change_payload (Insert key doc texts.now)) }
 {
     put_key(bytes, 1, key)?;
     put_doc(bytes, doc)?;
@@ -116,7 +121,8 @@ fn put_insert(
 fn put_new_text(bytes: &mut Vec<u8>, texts: &NewTexts, place: usize) -> Result<(), AllocError>
     requires in_place { place < length texts.now }
     requires fits { FitsNewText (slice_index_or texts.now place None) }
-    ensures { OnOk result (bytes.new.items ≡ bytes.old.items ++ new_payload (slice_index_or texts.now place None)) }
+    ensures { OnOk result (bytes.new.items
+        ≡ bytes.old.items ++ new_payload (slice_index_or texts.now place None)) }
 {
     match texts.text(place) {
         None => bytes.push(0)?,
@@ -142,7 +148,8 @@ fn put_new_texts(bytes: &mut Vec<u8>, texts: &NewTexts) -> Result<(), AllocError
 /// Puts an UPDATE behind the others.
 fn put_update(bytes: &mut Vec<u8>, key: u64, texts: &NewTexts) -> Result<(), AllocError>
     requires { All FitsNewText texts.now }
-    ensures { OnOk result (bytes.new.items ≡ bytes.old.items ++ change_payload (Update key texts.now)) }
+    ensures { OnOk result (bytes.new.items
+        ≡ bytes.old.items ++ change_payload (Update key texts.now)) }
 {
     put_key(bytes, 2, key)?;
     put_new_texts(bytes, texts)

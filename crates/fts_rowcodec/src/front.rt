@@ -1,12 +1,14 @@
 //! Readers of the front of some bytes: what stands there, and what stands behind it.
 
-ghost use Rattle.std.specs.Prelude.{◌≡◌, ◌<◌, ◌^◌, ◌++◌, ◌∷◌, ℕ, List, length, true, IfSome, IsSomeAnd};
+ghost use Rattle.std.specs.Prelude.{◌≡◌, ◌<◌, ◌^◌, ◌++◌, ◌∷◌, ℕ, List, length, true, IfSome};
+ghost use Rattle.std.specs.Prelude.{IsSomeAnd};
 ghost use Rattle.std.specs.Int.{w16, w32, w64, to_be_bytes};
 
 /// What stands behind this byte.
 pub(crate) fn behind(bytes: &[u8], byte: u8) -> Option<&[u8]>
     ensures found { IfSome result (λ rest. bytes.now ≡ byte ∷ rest.now) }
-    ensures complete { (rest : List ℕ) → bytes.now ≡ byte ∷ rest → IsSomeAnd result (λ found. found.now ≡ rest) }
+    ensures complete { (rest : List ℕ) → bytes.now ≡ byte ∷ rest
+        → IsSomeAnd result (λ found. found.now ≡ rest) }
 {
     match bytes {
         [first, rest @ ..] if *first == byte => Some(rest),
@@ -17,7 +19,8 @@ pub(crate) fn behind(bytes: &[u8], byte: u8) -> Option<&[u8]>
 /// A number of two bytes.
 pub(crate) fn u16_at(bytes: &[u8]) -> Option<(u16, &[u8])>
     ensures found { IfSome result (λ found. bytes.now ≡ to_be_bytes w16 found.0 ++ found.1.now) }
-    ensures complete { (n : ℕ) (rest : List ℕ) → n < 2 ^ 16 → bytes.now ≡ to_be_bytes w16 n ++ rest → IsSomeAnd result (λ found. (found.0 ≡ n) × (found.1.now ≡ rest)) }
+    ensures complete { (n : ℕ) (rest : List ℕ) → n < 2 ^ 16 → bytes.now ≡ to_be_bytes w16 n ++ rest
+        → IsSomeAnd result (λ found. (found.0 ≡ n) × (found.1.now ≡ rest)) }
 {
     if bytes.len() < 2 {
         return None;
@@ -29,7 +32,8 @@ pub(crate) fn u16_at(bytes: &[u8]) -> Option<(u16, &[u8])>
 /// A number of four bytes.
 pub(crate) fn u32_at(bytes: &[u8]) -> Option<(u32, &[u8])>
     ensures found { IfSome result (λ found. bytes.now ≡ to_be_bytes w32 found.0 ++ found.1.now) }
-    ensures complete { (n : ℕ) (rest : List ℕ) → n < 2 ^ 32 → bytes.now ≡ to_be_bytes w32 n ++ rest → IsSomeAnd result (λ found. (found.0 ≡ n) × (found.1.now ≡ rest)) }
+    ensures complete { (n : ℕ) (rest : List ℕ) → n < 2 ^ 32 → bytes.now ≡ to_be_bytes w32 n ++ rest
+        → IsSomeAnd result (λ found. (found.0 ≡ n) × (found.1.now ≡ rest)) }
 {
     if bytes.len() < 4 {
         return None;
@@ -42,7 +46,8 @@ pub(crate) fn u32_at(bytes: &[u8]) -> Option<(u32, &[u8])>
 /// A number of eight bytes.
 pub(crate) fn u64_at(bytes: &[u8]) -> Option<(u64, &[u8])>
     ensures found { IfSome result (λ found. bytes.now ≡ to_be_bytes w64 found.0 ++ found.1.now) }
-    ensures complete { (n : ℕ) (rest : List ℕ) → n < 2 ^ 64 → bytes.now ≡ to_be_bytes w64 n ++ rest → IsSomeAnd result (λ found. (found.0 ≡ n) × (found.1.now ≡ rest)) }
+    ensures complete { (n : ℕ) (rest : List ℕ) → n < 2 ^ 64 → bytes.now ≡ to_be_bytes w64 n ++ rest
+        → IsSomeAnd result (λ found. (found.0 ≡ n) × (found.1.now ≡ rest)) }
 {
     if bytes.len() < 8 {
         return None;
@@ -56,8 +61,11 @@ pub(crate) fn u64_at(bytes: &[u8]) -> Option<(u64, &[u8])>
 
 /// So many bytes.
 pub(crate) fn bytes_at(bytes: &[u8], count: usize) -> Option<(&[u8], &[u8])>
-    ensures found { IfSome result (λ found. (bytes.now ≡ found.0.now ++ found.1.now) × (length found.0.now ≡ count)) }
-    ensures complete { (front : List ℕ) (rest : List ℕ) → length front ≡ count → bytes.now ≡ front ++ rest → IsSomeAnd result (λ found. (found.0.now ≡ front) × (found.1.now ≡ rest)) }
+    ensures found { IfSome result (λ found. (bytes.now ≡ found.0.now ++ found.1.now)
+        × (length found.0.now ≡ count)) }
+    ensures complete { (front : List ℕ) (rest : List ℕ) → length front ≡ count
+        → bytes.now ≡ front ++ rest
+        → IsSomeAnd result (λ found. (found.0.now ≡ front) × (found.1.now ≡ rest)) }
 {
     if bytes.len() < count {
         return None;

@@ -1,4 +1,5 @@
-//! The payloads of the rows log: the settings, which are its first entry, and commits, which are the others.
+//! The payloads of the rows log: the settings, which are its first entry, and commits, which are
+//! the others.
 #![tactic(auto)]
 
 mod commit;

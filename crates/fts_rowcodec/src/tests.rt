@@ -5,7 +5,8 @@ use std::alloc::{AllocError, Global};
 use std::process::Abort;
 use std::test::*;
 
-// The settings that `create --columns body` makes, and those of `create --columns title,body --min 2 --no-stopword`.
+// The settings that `create --columns body` makes, and those of `create --columns title,body --min
+// 2 --no-stopword`.
 const SETTINGS: [u8; 20] = [
     0, 1, 4, 0x62, 0x6f, 0x64, 0x79, 3, 0x54, 1, 7, 0xd0, 0, 0x7a, 0x12, 0, 0, 0, 3, 0xe8,
 ];
@@ -25,7 +26,8 @@ const ONE_TWICE: [u8; 19] = [
     0, 2, 1, 0x61, 1, 0x61, 3, 0x54, 1, 7, 0xd0, 0, 0x7a, 0x12, 0, 0, 0, 3, 0xe8,
 ];
 
-// The row with the key 1 and the text `apple`; and a row 1 with `cat` and an empty text before one with the largest key.
+// The row with the key 1 and the text `apple`; and a row 1 with `cat` and an empty text before one
+// with the largest key.
 const INSERT: [u8; 20] = [
     1, 0, 1, 1, 0, 0, 0, 0, 0, 0, 0, 1, 0, 0, 5, 0x61, 0x70, 0x70, 0x6c, 0x65,
 ];
@@ -130,7 +132,8 @@ fn with_byte(alloc: Global, bytes: &[u8], place: usize, byte: u8) -> Result<Vec<
     Ok(bytes)
 }
 
-// Each place with a byte that does not belong there: the kind, a count, a length, a letter, a number out of its bounds.
+// Each place with a byte that does not belong there: the kind, a count, a length, a letter, a
+// number out of its bounds.
 #[test]
 fn refuses_a_wrong_byte_of_settings(rt: HostRuntime) -> Result<(), Fail> {
     for (place, byte) in [
@@ -225,8 +228,8 @@ fn decodes_two_inserts(rt: HostRuntime) -> Result<(), Fail> {
     Ok(())
 }
 
-// Each place with a byte that does not belong there: the kind, the count, an UPDATE, a DELETE, a flag, a length, a text's
-// byte.
+// Each place with a byte that does not belong there: the kind, the count, an UPDATE, a DELETE, a
+// flag, a length, a text's byte.
 #[test]
 fn refuses_a_wrong_byte_of_a_commit(rt: HostRuntime) -> Result<(), Fail> {
     for (place, byte) in [

@@ -1,19 +1,21 @@
 -- Why a commit is refused.
-use Rattle.std.specs.Prelude.{◌≡◌, ◌⊎◌, Result, Err}
-use Rattle.fts_commits.specs.Commit.{Refused, duplicate_key, doc_id_order, doc_id_gap, ids_full, text_too_long, rows_full}
+use Rattle.std.specs.Prelude.{◌≡◌, ℕ, ◌<◌, Result, Err}
+use Rattle.fts_commits.specs.declared.refusal.Refusal.{Refusal}
+use Rattle.fts_commits.specs.declared.refusal.Refusal.TheVariants.{TextTooLong, RowsFull}
 use Rattle.fts_rows.specs.declared.error.PlanError.{PlanError}
-use Rattle.fts_rows.specs.declared.error.PlanError.TheVariants.{NoMemory, DuplicateKey, DocIdOrder, DocIdGap, IdsFull, TextTooLong, RowsFull}
+use Rattle.fts_rows.specs.declared.error.PlanError.TheVariants.{NoMemory, Refused}
 
--- the error tells why this was refused, with its numbers
-abbrev pub IsRefused : {X : Type 0} → Result X Refused → PlanError → Type 0
-IsRefused outcome NoMemory = ⊥
-IsRefused outcome (DuplicateKey change key) = outcome ≡ Err (duplicate_key change key)
-IsRefused outcome (DocIdOrder given largest) = outcome ≡ Err (doc_id_order given largest)
-IsRefused outcome (DocIdGap given largest) = outcome ≡ Err (doc_id_gap given largest)
-IsRefused outcome (IdsFull largest) = outcome ≡ Err (ids_full largest)
-IsRefused outcome (TextTooLong change length) = outcome ≡ Err (text_too_long change length)
-IsRefused outcome (RowsFull rows) = outcome ≡ Err (rows_full rows)
+-- why there is no plan: memory ran out, or this was refused, and so
+abbrev pub IsNoPlan : {X : Type 0} → Result X Refusal → PlanError → Type 0
+IsNoPlan outcome NoMemory = Unit {0}
+IsNoPlan outcome (Refused refusal) = outcome ≡ Err refusal
 
--- why there is no plan: memory was wanting, or the commit is refused
-abbrev pub IsNoPlan : {X : Type 0} → Result X Refused → PlanError → Type 0
-IsNoPlan outcome error = (error ≡ NoMemory) ⊎ IsRefused outcome error
+-- memory ran out, or the texts of this change's row have so many bytes, which are too many
+abbrev pub IsTooLong : ℕ → ℕ → PlanError → Type 0
+IsTooLong change bytes NoMemory = Unit {0}
+IsTooLong change bytes (Refused refusal) = (65535 < bytes) × (refusal ≡ TextTooLong change bytes)
+
+-- memory ran out, or so many rows would stand, which are more than the limit
+abbrev pub IsTooMany : ℕ → ℕ → PlanError → Type 0
+IsTooMany limit rows NoMemory = Unit {0}
+IsTooMany limit rows (Refused refusal) = (limit < rows) × (refusal ≡ RowsFull rows)

@@ -10,7 +10,8 @@ use std::alloc::{AllocError, Global};
 use std::collections::HashSet;
 use std::marker::Model;
 
-/// What a commit does to the rows: the rows that it adds, and the largest document id that is used after it.
+/// What a commit does to the rows: the rows that it adds, and the largest document id that is used
+/// after it.
 #[derive(Drop)]
 pub struct Plan {
     // By ascending ids.
@@ -31,7 +32,8 @@ impl Model for Plan {
 
     ghost view = { λ p. record { births = map row_of p.births.items; largest = p.largest } };
 
-    ghost invariant = { λ p. (key : ℕ) → contains nat_eq p.keys key ≡ has_key key (map row_of p.births.items) };
+    ghost invariant = { λ p. (key : ℕ)
+        → contains nat_eq p.keys key ≡ has_key key (map row_of p.births.items) };
 }
 
 impl Plan {
@@ -49,7 +51,8 @@ impl Plan {
     /// The rows that the commit adds behind all others, by ascending ids.
     pub fn births(&self) -> &[Row]
         ensures births { map row_of result.now ≡ self.now.births }
-        ensures added { (held : Held) (after : RowList) → PlanFor held self.now after → after.list ≡ (rows_of held).list ++ map row_of result.now }
+        ensures added { (held : Held) (after : RowList) → PlanFor held self.now after
+            → after.list ≡ (rows_of held).list ++ map row_of result.now }
     {
         &self.births
     }
@@ -70,7 +73,8 @@ impl Plan {
 
     /// Adds a row.
     pub(crate) fn add(&mut self, row: Row) -> Result<(), AllocError>
-        ensures { OnOk result (self.new ≡ record { births = self.old.births ++ row_of row ∷ []; largest = row.doc }) }
+        ensures { OnOk result (self.new
+            ≡ record { births = self.old.births ++ row_of row ∷ []; largest = row.doc }) }
     {
         self.keys.reserve(1)?;
         self.births.reserve(1)?;

@@ -1,46 +1,47 @@
 //! How a commit is planned.
-ghost use Rattle.std.specs.Prelude.{◌≡◌, ◌⊎◌, ◌+◌, ◌<◌, ◌≤◌, ℕ, ◌++◌, length, sum_by, All, Ok, Err, IfOk, IfErr, OnOk};
-ghost use Rattle.fts_commits.specs.Commit.{Rows as RowList, doc_for, has_key, after_change, after_changes, after_commit};
+ghost use Rattle.std.specs.Prelude.{◌≡◌, ◌+◌, ◌<◌, ◌≤◌, ℕ, ◌++◌, length, sum_by, All, Ok, IfOk};
+ghost use Rattle.std.specs.Prelude.{IfErr, OnOk};
+ghost use Rattle.fts_commits.specs.Commit.{Rows as RowList, doc_for, has_key, after_change};
+ghost use Rattle.fts_commits.specs.Commit.{after_changes, after_commit};
 ghost use Rattle.fts_commits.specs.declared.change.Change.TheVariants.{Insert};
 ghost use Rattle.fts_commits.specs.Fits.{IsPlainInsert};
-ghost use Rattle.fts_rows.specs.declared.error.PlanError.TheVariants.{NoMemory, TextTooLong, RowsFull};
 ghost use Rattle.fts_rows.specs.Rows.{rows_of, limits_of};
 ghost use Rattle.fts_rows.specs.Plan.{Fits, PlanFor, rows_with};
-ghost use Rattle.fts_rows.specs.Refusal.{IsNoPlan, IsRefused};
+ghost use Rattle.fts_rows.specs.Refusal.{IsNoPlan, IsTooLong, IsTooMany};
 
 use crate::error::PlanError;
 use crate::plan::Plan;
 use crate::row::Row;
 use crate::rows::Rows;
-use fts_commits::Change;
+use fts_commits::{Change, Refusal};
 use fts_types::{DocId, Key, RowTexts};
 
-/// How far a given document id may be above the largest that was used (MySQL: `FTS_DOC_ID_MAX_STEP`).
+/// How far a given document id may be above the largest that was used (MySQL:
+/// `FTS_DOC_ID_MAX_STEP`).
 const LARGEST_STEP: DocId = 65_535;
 
 /// How many bytes the texts of a row have at most, together.
 const LONGEST_TEXTS: usize = 65_535;
 
 /// The document id of a new row: the one that is given, or the next one.
-fn next_doc(limit: DocId, largest: DocId, given: Option<DocId>) -> Result<DocId, PlanError>
-    ensures ok { IfOk result (λ doc. doc_for limit largest given ≡ Ok doc) }
+fn next_doc(limit: DocId, largest: DocId, given: Option<DocId>) -> Result<DocId, Refusal>
+    ensures id { result ≡ doc_for limit largest given }
     ensures above { IfOk result (λ doc. largest < doc) }
-    ensures refused { IfErr result (IsNoPlan (doc_for limit largest given)) }
 {
     let Some(given) = given else {
         if largest >= limit {
-            return Err(PlanError::IdsFull { largest });
+            return Err(Refusal::IdsFull { largest });
         }
         return Ok(largest + 1);
     };
     if given <= largest {
-        return Err(PlanError::DocIdOrder { given, largest });
+        return Err(Refusal::DocIdOrder { given, largest });
     }
     if given - largest > LARGEST_STEP {
-        return Err(PlanError::DocIdGap { given, largest });
+        return Err(Refusal::DocIdGap { given, largest });
     }
     if given > limit {
-        return Err(PlanError::IdsFull { largest });
+        return Err(Refusal::IdsFull { largest });
     }
     Ok(given)
 }
@@ -48,7 +49,7 @@ fn next_doc(limit: DocId, largest: DocId, given: Option<DocId>) -> Result<DocId,
 /// Fails where the texts of a row have too many bytes together.
 fn check_length(change: u64, texts: &RowTexts) -> Result<(), PlanError>
     ensures ok { OnOk result (sum_by length texts.now ≤ 65535) }
-    ensures refused { IfErr result (λ error. (error ≡ NoMemory) ⊎ ((65535 < sum_by length texts.now) × (error ≡ TextTooLong change (sum_by length texts.now)))) }
+    ensures refused { IfErr result (IsTooLong change (sum_by length texts.now)) }
 {
     // Texts of more bytes than this are in no memory.
     let Some(length) = texts.size() else {
@@ -56,7 +57,7 @@ fn check_length(change: u64, texts: &RowTexts) -> Result<(), PlanError>
     };
     if length > LONGEST_TEXTS {
         let length = length as u64;
-        return Err(PlanError::TextTooLong { change, length });
+        return Err(PlanError::from(Refusal::TextTooLong { change, length }));
     }
     Ok(())
 }
@@ -78,16 +79,21 @@ impl Rows {
         given: Option<DocId>,
         texts: &RowTexts,
     ) -> Result<(), PlanError>
-        ensures ok { OnOk result (after_change self.now.limits.ids change (Insert key given texts.now) (rows_with plan.old self.now.rows) ≡ Ok (rows_with plan.new self.now.rows)) }
-        ensures fits { OnOk result ((count : ℕ) → Fits self.now.rows plan.old count → Fits self.now.rows plan.new (count + 1)) }
-        ensures refused { IfErr result (IsNoPlan (after_change self.now.limits.ids change (Insert key given texts.now) (rows_with plan.old self.now.rows))) }
+        ensures ok { OnOk result (after_change self.now.limits.ids change
+            (Insert key given texts.now) (rows_with plan.old self.now.rows)
+            ≡ Ok (rows_with plan.new self.now.rows)) }
+        ensures fits { OnOk result ((count : ℕ) → Fits self.now.rows plan.old count
+            → Fits self.now.rows plan.new (count + 1)) }
+        ensures refused { IfErr result
+            (IsNoPlan (after_change self.now.limits.ids change (Insert key given texts.now)
+            (rows_with plan.old self.now.rows))) }
     {
         if self.is_taken(plan, key) {
-            return Err(PlanError::DuplicateKey { change, key });
+            return Err(PlanError::from(Refusal::DuplicateKey { change, key }));
         }
         let doc = match next_doc(self.limits().ids, plan.largest(), given) {
             Ok(doc) => doc,
-            Err(error) => return Err(error),
+            Err(refusal) => return Err(PlanError::from(refusal)),
         };
         if let Err(error) = check_length(change, texts) {
             return Err(error);
@@ -102,9 +108,13 @@ impl Rows {
     /// Adds what one change makes of the rows to a plan.
     fn change(&self, plan: &mut Plan, number: u64, change: &Change) -> Result<(), PlanError>
         requires insert { IsPlainInsert change.now }
-        ensures ok { OnOk result (after_change self.now.limits.ids number change.now (rows_with plan.old self.now.rows) ≡ Ok (rows_with plan.new self.now.rows)) }
-        ensures fits { OnOk result ((count : ℕ) → Fits self.now.rows plan.old count → Fits self.now.rows plan.new (count + 1)) }
-        ensures refused { IfErr result (IsNoPlan (after_change self.now.limits.ids number change.now (rows_with plan.old self.now.rows))) }
+        ensures ok { OnOk result (after_change self.now.limits.ids number change.now
+            (rows_with plan.old self.now.rows) ≡ Ok (rows_with plan.new self.now.rows)) }
+        ensures fits { OnOk result ((count : ℕ) → Fits self.now.rows plan.old count
+            → Fits self.now.rows plan.new (count + 1)) }
+        ensures refused { IfErr result
+            (IsNoPlan (after_change self.now.limits.ids number change.now
+            (rows_with plan.old self.now.rows))) }
     {
         match change {
             Change::Insert { key, doc, texts } => self.insert(plan, number, *key, *doc, texts),
@@ -115,9 +125,11 @@ impl Rows {
     /// The plan of these changes, which takes no heed of how many rows there may be.
     fn draft(&self, changes: &[Change]) -> Result<Plan, PlanError>
         requires inserts { All IsPlainInsert changes.now }
-        ensures ok { IfOk result (λ plan. after_changes self.now.limits.ids 1 changes.now self.now.rows ≡ Ok (rows_with plan self.now.rows)) }
+        ensures ok { IfOk result (λ plan. after_changes self.now.limits.ids 1 changes.now
+            self.now.rows ≡ Ok (rows_with plan self.now.rows)) }
         ensures fits { IfOk result (λ plan. Fits self.now.rows plan (length changes.now)) }
-        ensures refused { IfErr result (IsNoPlan (after_changes self.now.limits.ids 1 changes.now self.now.rows)) }
+        ensures refused { IfErr result
+            (IsNoPlan (after_changes self.now.limits.ids 1 changes.now self.now.rows)) }
     {
         let mut plan = Plan::new(self.alloc(), self.largest());
         let mut number = 0;
@@ -132,8 +144,10 @@ impl Rows {
 
     /// Fails where there would be more rows than the limit.
     fn check_rows(&self, plan: &Plan) -> Result<(), PlanError>
-        ensures ok { OnOk result (length (self.now.rows.list ++ plan.now.births) ≤ self.now.limits.rows) }
-        ensures refused { IfErr result (λ error. (error ≡ NoMemory) ⊎ ((self.now.limits.rows < length (self.now.rows.list ++ plan.now.births)) × (error ≡ RowsFull (length (self.now.rows.list ++ plan.now.births))))) }
+        ensures ok { OnOk result (length (self.now.rows.list ++ plan.now.births)
+            ≤ self.now.limits.rows) }
+        ensures refused { IfErr result
+            (IsTooMany self.now.limits.rows (length (self.now.rows.list ++ plan.now.births))) }
     {
         // More rows than this are in no memory.
         let Some(rows) = self.len().checked_add(plan.births().len()) else {
@@ -141,19 +155,23 @@ impl Rows {
         };
         let rows = rows as u64;
         if rows > self.limits().rows {
-            return Err(PlanError::RowsFull { rows });
+            return Err(PlanError::from(Refusal::RowsFull { rows }));
         }
         Ok(())
     }
 
-    /// Plans a commit: the rows that it adds, with their document ids, or why it is refused. The rows stay as they
-    /// are, and have room for what is planned.
+    /// Plans a commit: the rows that it adds, with their document ids, or why it is refused. The
+    /// rows stay as they are, and have room for what is planned.
     ///
     /// It takes time for the bytes of the changes, and a look-up for each key.
     pub fn plan(&mut self, changes: &[Change]) -> Result<Plan, PlanError>
         requires inserts { All IsPlainInsert changes.now }
-        ensures planned { IfOk result (λ plan. (after : RowList) × (after_commit (limits_of self.old) changes.now (rows_of self.old) ≡ Ok after) × PlanFor self.new plan after) }
-        ensures refused { IfErr result (λ error. (error ≡ NoMemory) ⊎ IsRefused (after_commit (limits_of self.old) changes.now (rows_of self.old)) error) }
+        ensures planned { IfOk result
+            (λ plan. (after : RowList)
+            × (after_commit (limits_of self.old) changes.now (rows_of self.old) ≡ Ok after)
+            × PlanFor self.new plan after) }
+        ensures refused { IfErr result
+            (IsNoPlan (after_commit (limits_of self.old) changes.now (rows_of self.old))) }
         ensures rows { rows_of self.new ≡ rows_of self.old }
         ensures limits { limits_of self.new ≡ limits_of self.old }
     {
@@ -173,16 +191,16 @@ impl Rows {
 mod tests {
     use super::*;
 
-    const NEXT: [(DocId, DocId, Option<DocId>, Result<DocId, PlanError>); 10] = [
+    const NEXT: [(DocId, DocId, Option<DocId>, Result<DocId, Refusal>); 10] = [
         (9, 0, None, Ok(1)),
         (9, 8, None, Ok(9)),
-        (9, 9, None, Err(PlanError::IdsFull { largest: 9 })),
+        (9, 9, None, Err(Refusal::IdsFull { largest: 9 })),
         (9, 4, Some(5), Ok(5)),
         (
             9,
             4,
             Some(4),
-            Err(PlanError::DocIdOrder {
+            Err(Refusal::DocIdOrder {
                 given: 4,
                 largest: 4,
             }),
@@ -191,18 +209,18 @@ mod tests {
             9,
             4,
             Some(0),
-            Err(PlanError::DocIdOrder {
+            Err(Refusal::DocIdOrder {
                 given: 0,
                 largest: 4,
             }),
         ),
-        (9, 4, Some(10), Err(PlanError::IdsFull { largest: 4 })),
+        (9, 4, Some(10), Err(Refusal::IdsFull { largest: 4 })),
         (70_000, 4, Some(65_539), Ok(65_539)),
         (
             70_000,
             4,
             Some(65_540),
-            Err(PlanError::DocIdGap {
+            Err(Refusal::DocIdGap {
                 given: 65_540,
                 largest: 4,
             }),
@@ -211,7 +229,7 @@ mod tests {
             9,
             4,
             Some(65_540),
-            Err(PlanError::DocIdGap {
+            Err(Refusal::DocIdGap {
                 given: 65_540,
                 largest: 4,
             }),

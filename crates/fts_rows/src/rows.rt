@@ -1,4 +1,5 @@
-ghost use Rattle.std.specs.Prelude.{◌≡◌, ◌+◌, ◌<◌, ◌≤◌, ◌↔◌, [], ◌∷◌, ◌++◌, false, length, IsTrue, OnOk};
+ghost use Rattle.std.specs.Prelude.{◌≡◌, ◌+◌, ◌<◌, ◌≤◌, ◌↔◌, [], ◌∷◌, ◌++◌, false, length, IsTrue};
+ghost use Rattle.std.specs.Prelude.{OnOk};
 ghost use Rattle.std.specs.Option.{option_copied, option_map};
 ghost use Rattle.fts_commits.specs.Commit.{Rows as RowList, no_rows, has_key};
 ghost use Rattle.fts_rows.specs.Row.{row_of};
@@ -107,7 +108,8 @@ impl Rows {
 
     /// The row with this key, in constant time.
     pub fn row(&self, key: Key) -> Option<&Row>
-        ensures { option_map row_of (option_copied result) ≡ row_with_key key (rows_of self.now).list }
+        ensures { option_map row_of (option_copied result)
+            ≡ row_with_key key (rows_of self.now).list }
     {
         match self.places.get(&key) {
             Some(place) => self.list.get(*place),
@@ -117,7 +119,8 @@ impl Rows {
 
     /// The row with this document id, by a binary search.
     fn row_with_id(&self, doc: DocId) -> Option<&Row>
-        ensures { option_map row_of (option_copied result) ≡ row_with_id doc (rows_of self.now).list }
+        ensures { option_map row_of (option_copied result)
+            ≡ row_with_id doc (rows_of self.now).list }
     {
         match self.list.binary_search_by_key(&doc, |row| row.doc) {
             Ok(place) => Some(&self.list[place]),
@@ -150,7 +153,8 @@ impl Rows {
         requires room { 0 < self.old.room }
         requires key { has_key row.key (rows_of self.old).list ≡ false }
         requires id { (rows_of self.old).largest < row.doc }
-        ensures rows { rows_of self.new ≡ record { list = (rows_of self.old).list ++ row_of row ∷ []; largest = row.doc } }
+        ensures rows { rows_of self.new
+            ≡ record { list = (rows_of self.old).list ++ row_of row ∷ []; largest = row.doc } }
         ensures limits { limits_of self.new ≡ limits_of self.old }
         ensures room { self.old.room ≤ self.new.room + 1 }
     {
@@ -162,7 +166,8 @@ impl Rows {
         self.list.push_reserved(row);
     }
 
-    /// Does to the rows what was planned for them. It takes no memory, and constant time for each row.
+    /// Does to the rows what was planned for them. It takes no memory, and constant time for each
+    /// row.
     pub fn install(&mut self, plan: Plan)
         requires { (after : RowList) × PlanFor self.old plan after }
         ensures rows { (after : RowList) → PlanFor self.old plan after → rows_of self.new ≡ after }

@@ -1,6 +1,9 @@
 use Rattle.std.specs.Prelude.{ℕ, List, [], ◌∷◌, ◌++◌, codes, decimal}
+use Rattle.fts_commits.specs.Refusal.{refusal_text}
 use Rattle.fts_schema.specs.declared.reply.Reply.{Reply}
-use Rattle.fts_schema.specs.declared.reply.Reply.TheVariants.{Committed, Found, DuplicateKey, DocIdOrder, DocIdGap, IdsFull, TextTooLong, RowsFull, NoSuchTable, NoSuchColumn, WrongColumns, LogFull, Nothing, Syntax, QuerySyntax, LineTooLong}
+use Rattle.fts_schema.specs.declared.reply.Reply.TheVariants.{Committed, Found, Refused, NoSuchTable, NoSuchColumn}
+use Rattle.fts_schema.specs.declared.reply.Reply.TheVariants.{WrongColumns, LogFull, Nothing, Syntax, QuerySyntax}
+use Rattle.fts_schema.specs.declared.reply.Reply.TheVariants.{LineTooLong}
 
 -- each document id in decimal, a space before it
 abbrev pub ids_text : List ℕ → List ℕ
@@ -16,16 +19,7 @@ docs_text (id ∷ ids) = ids_text (id ∷ ids)
 abbrev pub text_of : Reply → List ℕ
 text_of (Committed number) = codes "OK commit " ++ (decimal number ++ 10 ∷ [])
 text_of (Found number docs) = codes "OK as of " ++ (decimal number ++ 58 ∷ (docs_text docs ++ 10 ∷ []))
-text_of (DuplicateKey change key) =
-    codes "ERROR duplicate key " ++ (decimal key ++ (codes " in change " ++ (decimal change ++ 10 ∷ [])))
-text_of (DocIdOrder given largest) =
-    codes "ERROR document id " ++ (decimal given ++ (codes " not above " ++ (decimal largest ++ 10 ∷ [])))
-text_of (DocIdGap given largest) =
-    codes "ERROR document id " ++ (decimal given ++ (codes " more than 65535 above " ++ (decimal largest ++ 10 ∷ [])))
-text_of (IdsFull largest) = codes "ERROR document ids full at " ++ (decimal largest ++ 10 ∷ [])
-text_of (TextTooLong change length) =
-    codes "ERROR text too long " ++ (decimal length ++ (codes " in change " ++ (decimal change ++ 10 ∷ [])))
-text_of (RowsFull rows) = codes "ERROR rows full at " ++ (decimal rows ++ 10 ∷ [])
+text_of (Refused refusal) = codes "ERROR " ++ (refusal_text refusal ++ 10 ∷ [])
 text_of (NoSuchTable name) = codes "ERROR no such table " ++ (name ++ 10 ∷ [])
 text_of (NoSuchColumn name) = codes "ERROR no such column " ++ (name ++ 10 ∷ [])
 text_of WrongColumns = codes "ERROR columns and values do not fit" ++ 10 ∷ []

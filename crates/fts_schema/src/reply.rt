@@ -2,8 +2,7 @@ ghost use Rattle.std.specs.Prelude.{◌≡◌, ◌∷◌, ◌++◌, [], ℕ, Lis
 ghost use Rattle.fts_schema.specs.Reply.{text_of, ids_text};
 
 use crate::doc_ids::DocIds;
-use fts_commits::Text;
-use fts_types::{DocId, Key};
+use fts_commits::{Refusal, Text};
 use std::alloc::{AllocError, Global};
 
 /// The reply to one line of a script.
@@ -13,19 +12,10 @@ pub enum Reply {
     Committed { number: u64 },
     /// As of commit `number`, 0 before the first, the search found the documents `docs`.
     Found { number: u64, docs: DocIds },
-    /// Change `change` of the commit, from 1, has the key `key`, which a row has already. Nothing changed.
-    DuplicateKey { change: u64, key: Key },
-    /// A change gives the document id `given`, which isn't above `largest`, the largest that was used. Nothing changed.
-    DocIdOrder { given: DocId, largest: DocId },
-    /// A change gives the document id `given`, which is more than 65,535 above `largest`. Nothing changed.
-    DocIdGap { given: DocId, largest: DocId },
-    /// A change needs a document id above the largest that there may be; `largest` was used. Nothing changed.
-    IdsFull { largest: DocId },
-    /// The row of change `change`, from 1, would have texts of `length` bytes together, above 65,535. Nothing changed.
-    TextTooLong { change: u64, length: u64 },
-    /// `rows` rows would stand after the commit, above their limit. Nothing changed.
-    RowsFull { rows: u64 },
-    /// With the commit the log would end at byte `end`, from 0, which is above its limit. Nothing changed.
+    /// The rows refuse the line's commit, which changes nothing.
+    Refused { refusal: Refusal },
+    /// With the commit the log would end at byte `end`, from 0, which is above its limit. Nothing
+    /// changed.
     LogFull { end: u64 },
     /// A blank line or a comment, which is not answered: its text has no bytes.
     Nothing,
@@ -58,22 +48,7 @@ pub fn reply_text(alloc: Global, reply: &Reply) -> Result<Vec<u8>, AllocError>
         ),
         Reply::Committed { number } => bytes_of(format!(in alloc; "OK commit {number}\n")),
         Reply::Found { number, docs } => bytes_of(found_text(alloc, *number, docs.as_slice())),
-        Reply::DuplicateKey { change, key } => bytes_of(format!(in alloc;
-            "ERROR duplicate key {key} in change {change}\n"
-        )),
-        Reply::DocIdOrder { given, largest } => {
-            bytes_of(format!(in alloc; "ERROR document id {given} not above {largest}\n"))
-        }
-        Reply::DocIdGap { given, largest } => bytes_of(format!(in alloc;
-            "ERROR document id {given} more than 65535 above {largest}\n"
-        )),
-        Reply::IdsFull { largest } => {
-            bytes_of(format!(in alloc; "ERROR document ids full at {largest}\n"))
-        }
-        Reply::TextTooLong { change, length } => bytes_of(format!(in alloc;
-            "ERROR text too long {length} in change {change}\n"
-        )),
-        Reply::RowsFull { rows } => bytes_of(format!(in alloc; "ERROR rows full at {rows}\n")),
+        Reply::Refused { refusal } => bytes_of(format!(in alloc; "ERROR {refusal}\n")),
         Reply::LogFull { end } => bytes_of(format!(in alloc; "ERROR log full at {end}\n")),
         Reply::Nothing => Ok(Vec::new(alloc)),
         Reply::Syntax { at } => bytes_of(format!(in alloc; "ERROR syntax at {at}\n")),
@@ -85,7 +60,8 @@ pub fn reply_text(alloc: Global, reply: &Reply) -> Result<Vec<u8>, AllocError>
 
 // The bytes of a text, if there was memory for it.
 fn bytes_of(text: Result<String, AllocError>) -> Result<Vec<u8>, AllocError>
-    ensures { (bytes : List ℕ) → IfOk text (λ t. string_bytes t ≡ bytes) → IfOk result (λ b. b.items ≡ bytes) }
+    ensures { (bytes : List ℕ) → IfOk text (λ t. string_bytes t ≡ bytes)
+        → IfOk result (λ b. b.items ≡ bytes) }
 {
     Ok(text?.into_bytes())
 }

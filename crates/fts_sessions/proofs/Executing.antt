@@ -1,5 +1,5 @@
 -- A statement's steps are those of its line.
-use Rattle.std.proofs.Common.{◌≡◌, ℕ, List, [], ◌∷◌, refl, ap, subst, sym, ◌∙◌, inl, inr}
+use Rattle.std.proofs.Common.{◌≡◌, ℕ, List, [], ◌∷◌, refl, ap, subst, sym, ◌∙◌, inl, inr, append-nil}
 use Rattle.std.specs.Prelude.{Bool, true, false, Option, Some, None, Result, Ok, Err}
 use Rattle.fts_types.specs.declared.settings.Settings.{Settings}
 use Rattle.fts_commits.specs.declared.change.Change.{Change}
@@ -12,15 +12,17 @@ use Rattle.fts_sql.specs.Fault.{IsFaultAt}
 use Rattle.fts_sql.specs.declared.value.Value.{Value}
 use Rattle.fts_sql.specs.declared.statement.Statement.{Statement}
 use Rattle.fts_sql.specs.declared.statement.Statement.TheVariants.{Insert, Match}
-use Rattle.fts_steps.specs.State.{State}
+use Rattle.fts_commits.specs.Commit.{Commit}
+use Rattle.fts_steps.specs.State.{State, with_commits}
+use Rattle.fts_steps.specs.Step.{Ask, Answer, committed, refused, full, found, disk_fault, no_memory, after, doubt_of, LeftBy}
 use Rattle.fts_sessions.specs.declared.ended.Ended.{Ended}
 use Rattle.fts_sessions.specs.declared.ended.Ended.TheVariants.{NoMemory}
 use Rattle.fts_sessions.specs.declared.steps.EngineSteps.{Ghosts}
 use Rattle.fts_sessions.specs.Request.{makes, blank, unknown}
 use Rattle.fts_sessions.specs.Query.{query_word}
 use Rattle.fts_sessions.specs.Table.{are_names, change_of}
-use Rattle.fts_sessions.specs.Conversation.{Next, asks, ends, search_for, unknown_name, insert_begins, match_begins, unless_unknown, begins}
-use Rattle.fts_sessions.specs.Execute.{Executes, Does}
+use Rattle.fts_sessions.specs.Conversation.{Next, asks, ends, search_for, unknown_name, insert_begins, match_begins, unless_unknown, begins, reply_to}
+use Rattle.fts_sessions.specs.Execute.{Executes, Does, Leaves}
 
 -- a statement that ends without a step has a reply
 record IsReply (told : Result Reply Ended) : Type 0 where
@@ -51,6 +53,22 @@ has_reply settings (Match table names query) told is =
     known_reply (unknown_name settings.columns table names) (match_begins (are_names settings.columns names) (query_word query)) told
     (match_reply (are_names settings.columns names) (query_word query)) is
 
+-- what a step leaves by its answer, it leaves by the outcome that tells it
+told_leaves : {S : Type 0} (steps : Ghosts S) (ask : Ask) (answer : Answer) (state : State) (new : S) (outcome : Result Reply Ended) → reply_to answer ≡ outcome
+    → LeftBy steps.stands steps.reads ask answer state new → Leaves steps outcome state (record { ask = ask; answer = answer } ∷ []) new
+told_leaves steps ask answer state new outcome told left =
+    subst (λ (outcome : Result Reply Ended). Leaves steps outcome state (record { ask = ask; answer = answer } ∷ []) new) told (by_answer answer left)
+  where
+    by_answer : (answer : Answer) → LeftBy steps.stands steps.reads ask answer state new → Leaves steps (reply_to answer) state (record { ask = ask; answer = answer } ∷ []) new
+    by_answer (committed number) left = left
+    by_answer (refused why) left = left
+    by_answer (full end_) left = left
+    by_answer (found number docs) left = left
+    by_answer no_memory left = left
+    by_answer disk_fault (inl reads) = inl reads
+    by_answer disk_fault (inr reads) =
+        inr (subst (λ (commits : List Commit). steps.reads (with_commits state commits) new) (sym (append-nil (doubt_of ask disk_fault))) reads)
+
 module _ {S : Type 0} (steps : Ghosts S) (state : State) (line : List ℕ) where
   -- memory ran out before the first step
   pub gives_up : (old new : S) (outcome : Result Reply Ended) → steps.stands state old → outcome ≡ Err NoMemory → new ≡ old → Executes steps state (whole line) old outcome new
@@ -78,8 +96,8 @@ module _ {S : Type 0} (steps : Ghosts S) (state : State) (line : List ℕ) where
     next_done old new outcome (asks ask) e stands (inl made) = record {
       calls = record { ask = ask; answer = made.answer } ∷ [];
       says = inl (makes statement, is, (e, ap ends made.told));
-      follows = (made.may, tt);
-      leaves = made.leaves;
+      follows = (made.made.may, tt);
+      leaves = told_leaves steps ask made.answer (after state ask made.answer) new outcome made.told made.made.stands;
     }
     next_done old new outcome (asks ask) e stands (inr gave) = gives_up old new outcome stands gave.0 gave.1
     next_done old new outcome (ends told) e stands (inl out, same) = ended old new told outcome e (has_reply state.settings statement told e) stands out same

@@ -132,7 +132,7 @@ row_can columns key values made true is one few fit found =
             (length-map values text_in ∙ count, texts_fit values (All-tail IsFit (Number key) values fit) (and_parts _ _ is).1) (λ k d less. absurd (omega arith));
         plain = All-cons IsPlainInsert (change.Insert key None (map text_in values)) [] tt (λ k d less. absurd (omega arith));
       };
-      numbers = All-cons FitsNumbers (change.Insert key None (map text_in values)) [] (All-head IsFit (Number key) values fit) (λ k d less. absurd (omega arith));
+      numbers = All-cons FitsNumbers (change.Insert key None (map text_in values)) [] (All-head IsFit (Number key) values fit, tt) (λ k d less. absurd (omega arith));
     })
 
 values_can : (columns : ℕ) (values : List Value) (made : Change) → 1 ≤ columns → columns ≤ 8 → AreFit values → Some made ≡ insert_of columns values → CanCommit columns (made ∷ [])

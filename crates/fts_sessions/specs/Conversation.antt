@@ -1,13 +1,16 @@
-use Rattle.std.specs.Prelude.{◌≡◌, ℕ, Bool, true, false, if◌then◌else◌, codes, List, [], ◌∷◌, ◌++◌, Option, Some, None, Result, Ok, Err}
+use Rattle.std.specs.Prelude.{◌≡◌, ℕ, Bool, true, false, if◌then◌else◌, codes, List, [], ◌∷◌, ◌++◌, Option, Some, None}
+use Rattle.std.specs.Prelude.{Result, Ok, Err}
 use Rattle.std.specs.Str.{str_eq_ignore_ascii_case}
 use Rattle.fts_types.specs.declared.settings.Settings.{Settings}
-use Rattle.fts_commits.specs.Commit.{Refused, duplicate_key, doc_id_order, doc_id_gap, ids_full, text_too_long, rows_full}
 use Rattle.fts_commits.specs.declared.change.Change.{Change}
 use Rattle.fts_schema.specs.declared.reply.Reply.{Reply}
-use Rattle.fts_schema.specs.declared.reply.Reply.TheVariants.{Committed, Found, DuplicateKey, DocIdOrder, DocIdGap, IdsFull, TextTooLong, RowsFull, NoSuchTable, NoSuchColumn, WrongColumns, LogFull, Nothing, Syntax, QuerySyntax, LineTooLong}
+use Rattle.fts_schema.specs.declared.reply.Reply.TheVariants.{Committed, Found, Refused, NoSuchTable, NoSuchColumn}
+use Rattle.fts_schema.specs.declared.reply.Reply.TheVariants.{WrongColumns, LogFull, Nothing, Syntax, QuerySyntax}
+use Rattle.fts_schema.specs.declared.reply.Reply.TheVariants.{LineTooLong}
 use Rattle.fts_sql.specs.declared.statement.Statement.{Statement}
 use Rattle.fts_sql.specs.declared.statement.Statement.TheVariants.{Insert, Match}
-use Rattle.fts_steps.specs.Step.{Ask, to_commit, to_find, Answer, committed, refused, full, found, disk_fault, no_memory, Call}
+use Rattle.fts_steps.specs.Step.{Ask, to_commit, to_find, Answer, committed, refused, full, found, disk_fault}
+use Rattle.fts_steps.specs.Step.{no_memory, Call}
 use Rattle.fts_sessions.specs.declared.ended.Ended.{Ended}
 use Rattle.fts_sessions.specs.declared.ended.Ended.TheVariants.{NoMemory, DiskFault}
 use Rattle.fts_sessions.specs.Query.{query_word}
@@ -19,19 +22,10 @@ pub data Next : Type 0 where
   asks : Ask → Next
   ends : Result Reply Ended → Next
 
--- the reply that tells why the rows refuse a commit
-abbrev pub refusal_reply : Refused → Reply
-refusal_reply (duplicate_key change key) = DuplicateKey change key
-refusal_reply (doc_id_order given largest) = DocIdOrder given largest
-refusal_reply (doc_id_gap given largest) = DocIdGap given largest
-refusal_reply (ids_full largest) = IdsFull largest
-refusal_reply (text_too_long change long) = TextTooLong change long
-refusal_reply (rows_full rows) = RowsFull rows
-
 -- the reply that tells an answer; a fault or want of memory has none, and ends the run
 abbrev pub reply_to : Answer → Result Reply Ended
 reply_to (committed number) = Ok (Committed number)
-reply_to (refused why) = Ok (refusal_reply why)
+reply_to (refused why) = Ok (Refused why)
 reply_to (full end) = Ok (LogFull end)
 reply_to (found number docs) = Ok (Found number docs)
 reply_to disk_fault = Err DiskFault
@@ -72,7 +66,8 @@ abbrev pub begins : Settings → Statement → Next
 begins settings (Insert table names values) =
     unless_unknown (unknown_name settings.columns table names) (insert_begins (change_of settings.columns names values))
 begins settings (Match table names query) =
-    unless_unknown (unknown_name settings.columns table names) (match_begins (are_names settings.columns names) (query_word query))
+    unless_unknown (unknown_name settings.columns table names)
+    (match_begins (are_names settings.columns names) (query_word query))
 
 -- what comes next, after the answers so far
 abbrev pub next : Settings → Request → List Answer → Next
@@ -86,4 +81,5 @@ next settings unread answers = ends (Ok LineTooLong)
 abbrev pub Converses : Settings → Request → List Answer → List Call → Result Reply Ended → Type 0
 Converses settings request answers [] outcome = next settings request answers ≡ ends outcome
 Converses settings request answers (call ∷ calls) outcome =
-    (next settings request answers ≡ asks call.ask) × Converses settings request (answers ++ call.answer ∷ []) calls outcome
+    (next settings request answers ≡ asks call.ask)
+    × Converses settings request (answers ++ call.answer ∷ []) calls outcome

@@ -1,5 +1,6 @@
 -- What a statement means for the table `docs` with its columns.
-use Rattle.std.specs.Prelude.{ℕ, Bool, true, false, ◌&&◌, ◌||◌, ◌==◌, if◌then◌else◌, List, [], ◌∷◌, length, map, codes, Option, Some, None}
+use Rattle.std.specs.Prelude.{ℕ, Bool, true, false, ◌&&◌, ◌||◌, ◌==◌, if◌then◌else◌, List, [], ◌∷◌, length, map, codes}
+use Rattle.std.specs.Prelude.{Option, Some, None}
 use Rattle.std.specs.List.{list_all, list_any}
 use Rattle.std.specs.Str.{str_eq_ignore_ascii_case}
 use Rattle.fts_commits.specs.declared.change.Change.{Change}
@@ -7,7 +8,8 @@ use Rattle.fts_commits.specs.declared.change.Change.TheVariants as change
 use Rattle.fts_sql.specs.declared.value.Value.{Value}
 use Rattle.fts_sql.specs.declared.value.Value.TheVariants.{Number, Text}
 
--- whether the table has a column of this name: the key, the document id, or a text column; names are compared case apart
+-- whether the table has a column of this name: the key, the document id, or a text column; names are compared case
+-- apart
 abbrev pub is_known : List (List ℕ) → List ℕ → Bool
 is_known columns name =
     str_eq_ignore_ascii_case name (codes "id") || str_eq_ignore_ascii_case name (codes "fts_doc_id")
@@ -40,9 +42,11 @@ abbrev pub insert_of : ℕ → List Value → Option Change
 insert_of columns [] = None
 insert_of columns (Text text ∷ values) = None
 insert_of columns (Number key ∷ values) =
-    if (length values == columns) && list_all is_text values then Some (change.Insert key None (map text_in values)) else None
+    if (length values == columns) && list_all is_text values then Some (change.Insert key None (map text_in values))
+    else None
 
--- the INSERT of values into columns of these names: `id`, and then all text columns in the order in which they were created
+-- the INSERT of values into columns of these names: `id`, and then all text columns in the order in which they were
+-- created
 abbrev pub change_of : List (List ℕ) → List (List ℕ) → List Value → Option Change
 change_of columns names values =
     if are_names (codes "id" ∷ columns) names then insert_of (length columns) values else None

@@ -15,7 +15,7 @@ pub struct Direct<D: Disk> {
 }
 
 impl<D: Disk> EngineSteps for Direct<D> {
-    ghost use Rattle.fts_engine.specs.Stands.{Stands, Reads, engine_limits, engine_faults, Stands-reads};
+    ghost use Rattle.fts_engine.specs.Stands.{Stands, Reads, engine_limits, engine_faults};
 
     ghost tells = { D.tells };
 
@@ -26,8 +26,6 @@ impl<D: Disk> EngineSteps for Direct<D> {
     ghost limits = { λ steps. engine_limits steps.engine };
 
     ghost faults = { λ steps. engine_faults steps.engine };
-
-    ghost is_read = { λ steps state stands. Stands-reads state steps.engine stands };
 
     fn commit(&mut self, changes: &[Change]) -> Result<u64, CommitError> {
         self.engine.commit(changes)

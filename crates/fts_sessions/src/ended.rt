@@ -6,7 +6,8 @@ use std::fmt;
 pub enum Ended {
     /// Memory ran out. The step that asked for it changed nothing.
     NoMemory,
-    /// The device failed. Whether the line's commit is in the log is open until the log is opened again.
+    /// The device failed. Whether the line's commit is in the log is open until the log is opened
+    /// again.
     DiskFault,
 }
 

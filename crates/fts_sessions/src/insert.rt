@@ -1,6 +1,7 @@
 ghost use Rattle.std.specs.Prelude.{◌≡◌, length, map, IfOk};
 ghost use Rattle.std.specs.List.{list_all};
-ghost use Rattle.fts_sessions.specs.Table.{is_text, text_in, insert_of as the_insert_of, change_of as the_change_of};
+ghost use Rattle.fts_sessions.specs.Table.{is_text, text_in, insert_of as the_insert_of};
+ghost use Rattle.fts_sessions.specs.Table.{change_of as the_change_of};
 
 use crate::names::are_insert_columns;
 use fts_commits::Change;
@@ -8,7 +9,8 @@ use fts_sql::{Value, Values};
 use fts_types::{Names, RowTexts};
 use std::alloc::{AllocError, Global};
 
-/// The change that an INSERT of these values into columns of these names asks for, if they fit the table.
+/// The change that an INSERT of these values into columns of these names asks for, if they fit the
+/// table.
 pub fn change_of(
     alloc: Global,
     columns: &Names,

@@ -1,7 +1,9 @@
-ghost use Rattle.std.specs.Prelude.{◌≡◌, ◌<◌, ◌+◌, ◌∷◌, [], length, drop, codes, slice_index_or, Some, None, IfSome, IfNone};
+ghost use Rattle.std.specs.Prelude.{◌≡◌, ◌<◌, ◌+◌, ◌∷◌, [], length, drop, codes, slice_index_or};
+ghost use Rattle.std.specs.Prelude.{Some, None, IfSome, IfNone};
 ghost use Rattle.std.specs.List.{list_any};
 ghost use Rattle.std.specs.Str.{str_eq_ignore_ascii_case};
-ghost use Rattle.fts_sessions.specs.Table.{is_known as is_known_name, first_unknown as the_first_unknown, are_names};
+ghost use Rattle.fts_sessions.specs.Table.{is_known as is_known_name};
+ghost use Rattle.fts_sessions.specs.Table.{first_unknown as the_first_unknown, are_names};
 
 use fts_types::Names;
 
@@ -51,7 +53,8 @@ fn is_listed(columns: &Names, name: &[u8]) -> bool
     false
 }
 
-/// Whether the names from a place on are those of all text columns, in the order in which they were created.
+/// Whether the names from a place on are those of all text columns, in the order in which they were
+/// created.
 fn are_columns(columns: &Names, names: &Names, from: usize) -> bool
     requires { length names.now ≡ length columns.now + from }
     ensures { result ≡ are_names columns.now (drop from names.now) }
@@ -74,7 +77,8 @@ pub fn are_text_columns(columns: &Names, names: &Names) -> bool
     are_columns(columns, names, 0)
 }
 
-/// Whether the names are `id` and those of all text columns, in the order in which they were created.
+/// Whether the names are `id` and those of all text columns, in the order in which they were
+/// created.
 pub fn are_insert_columns(columns: &Names, names: &Names) -> bool
     ensures { result ≡ are_names (codes "id" ∷ columns.now) names.now }
 {

@@ -8,12 +8,15 @@ use fts_commits::Text;
 use fts_token::raw_words;
 use std::alloc::{AllocError, Global};
 
-/// The word that a query is, with its letters lowered, if the query is one raw word and nothing else.
+/// The word that a query is, with its letters lowered, if the query is one raw word and nothing
+/// else.
 #[tactic(auto, using(crate::proofs::Queries::query_is_raw, crate::proofs::Queries::raw_is_query))]
 pub fn query_word(alloc: Global, query: &[u8]) -> Result<Option<Text>, AllocError>
     ensures word { IfOk result (λ word. word ≡ the_query_word query.now) }
-    ensures found { IfOk result (λ word. IfSome word (λ found. IsRawWord query.now 0 (length query.now) × (found ≡ lowered query.now))) }
-    ensures none { IfOk result (λ word. IfNone word (IsRawWord query.now 0 (length query.now) → ⊥)) }
+    ensures found { IfOk result (λ word. IfSome word
+        (λ found. IsRawWord query.now 0 (length query.now) × (found ≡ lowered query.now))) }
+    ensures none { IfOk result (λ word. IfNone word
+        (IsRawWord query.now 0 (length query.now) → ⊥)) }
 {
     if !is_raw_word(query) {
         return Ok(None);

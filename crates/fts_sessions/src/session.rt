@@ -1,5 +1,5 @@
 ghost use Rattle.std.specs.Prelude.{◌≡◌, ◌≤◌, ℕ, ◌∷◌, [], length, IsTrue, IfOk, Err};
-ghost use Rattle.fts_faults.specs.Count.{Rose};
+ghost use Rattle.fts_faults.specs.Count.{CountsFault};
 ghost use Rattle.fts_io.specs.Text.{whole};
 ghost use Rattle.fts_steps.specs.State.{State};
 ghost use Rattle.fts_steps.specs.Step.{to_commit, to_find};
@@ -8,7 +8,8 @@ ghost use Rattle.fts_sql.specs.declared.statement.Statement.TheVariants.{Insert,
 ghost use Rattle.fts_sessions.specs.Execute.{Executes, Makes, Does};
 ghost use Rattle.fts_steps.specs.Answers.{commit_answer_of};
 ghost use Rattle.fts_sessions.specs.Texts.{AreFit};
-ghost use Rattle.fts_sessions.specs.Conversation.{begins, reply_to, unknown_name as the_unknown_name};
+ghost use Rattle.fts_sessions.specs.Conversation.{begins, reply_to};
+ghost use Rattle.fts_sessions.specs.Conversation.{unknown_name as the_unknown_name};
 
 use crate::insert::change_of;
 use crate::names::{are_text_columns, first_unknown, is_same};
@@ -42,12 +43,11 @@ impl Session {
         gate: &G,
         line: &[u8],
     ) -> Result<Reply, Ended>
-        requires { IsTrue S.tells → (state : State) × S.stands state steps.old }
         ensures executes { IsTrue S.tells → (state : State) → S.stands state steps.old
             → Executes S.EngineSteps state (whole line.now) steps.old result steps.new }
         ensures limits { S.limits steps.new ≡ S.limits steps.old }
-        ensures failed { result ≡ Err Ended.DiskFault → Rose (S.faults steps.old) (S.faults steps.new) }
-        ensures never_falls { S.faults steps.old ≤ S.faults steps.new }
+        ensures faults { CountsFault (result ≡ Err Ended.DiskFault)
+            (S.faults steps.old) (S.faults steps.new) }
     {
         gate.pass(Point::Statement, self.number);
         let outcome = self.outcome(steps, gate, line);
@@ -62,12 +62,11 @@ impl Session {
         gate: &G,
         line: &[u8],
     ) -> Result<Reply, Ended>
-        requires { IsTrue S.tells → (state : State) × S.stands state steps.old }
         ensures executes { IsTrue S.tells → (state : State) → S.stands state steps.old
             → Executes S.EngineSteps state (whole line.now) steps.old result steps.new }
         ensures limits { S.limits steps.new ≡ S.limits steps.old }
-        ensures failed { result ≡ Err Ended.DiskFault → Rose (S.faults steps.old) (S.faults steps.new) }
-        ensures never_falls { S.faults steps.old ≤ S.faults steps.new }
+        ensures faults { CountsFault (result ≡ Err Ended.DiskFault)
+            (S.faults steps.old) (S.faults steps.new) }
     {
         match parse_statement(self.alloc, line) {
             Ok(
@@ -111,13 +110,13 @@ fn insert<S: EngineSteps>(
     names: &Names,
     values: &Values,
 ) -> Result<Reply, Ended>
-    requires fit { AreFit values.now }
-    requires ready { IsTrue S.tells → (state : State) × S.stands state steps.old }
+    requires { AreFit values.now }
     ensures does { IsTrue S.tells → (state : State) → S.stands state steps.old
-        → Does S.EngineSteps state (begins state.settings (Insert table names.now values.now)) steps.old result steps.new }
+        → Does S.EngineSteps state (begins state.settings (Insert table names.now values.now))
+        steps.old result steps.new }
     ensures limits { S.limits steps.new ≡ S.limits steps.old }
-    ensures failed { result ≡ Err Ended.DiskFault → Rose (S.faults steps.old) (S.faults steps.new) }
-    ensures never_falls { S.faults steps.old ≤ S.faults steps.new }
+    ensures faults { CountsFault (result ≡ Err Ended.DiskFault)
+        (S.faults steps.old) (S.faults steps.new) }
 {
     let columns = &steps.settings().columns;
     match unknown_name(alloc, columns, table, names) {
@@ -134,13 +133,13 @@ fn insert<S: EngineSteps>(
 
 // The step of a commit of one change, and what tells its answer.
 fn commit<S: EngineSteps>(steps: &mut S, change: Change) -> Result<Reply, Ended>
-    requires commit { (columns : ℕ) × CanCommit columns (change ∷ []) }
-    requires ready { IsTrue S.tells → (state : State) × S.stands state steps.old × CanCommit (length state.settings.columns) (change ∷ []) }
-    ensures makes { IsTrue S.tells → (state : State) → S.stands state steps.old → CanCommit (length state.settings.columns) (change ∷ [])
+    requires { (columns : ℕ) × CanCommit columns (change ∷ []) }
+    ensures makes { IsTrue S.tells → (state : State) → S.stands state steps.old
+        → CanCommit (length state.settings.columns) (change ∷ [])
         → Makes S.EngineSteps state (to_commit (change ∷ [])) steps.old result steps.new }
     ensures limits { S.limits steps.new ≡ S.limits steps.old }
-    ensures failed { result ≡ Err Ended.DiskFault → Rose (S.faults steps.old) (S.faults steps.new) }
-    ensures never_falls { S.faults steps.old ≤ S.faults steps.new }
+    ensures faults { CountsFault (result ≡ Err Ended.DiskFault)
+        (S.faults steps.old) (S.faults steps.new) }
 {
     match steps.commit(&[change]) {
         Ok(number) => Ok(Reply::Committed { number }),
@@ -154,12 +153,7 @@ fn told(error: CommitError) -> Result<Reply, Ended>
     ensures failed { result ≡ Err Ended.DiskFault → error ≡ CommitError.DiskFault }
 {
     match error {
-        CommitError::DuplicateKey { change, key } => Ok(Reply::DuplicateKey { change, key }),
-        CommitError::DocIdOrder { given, largest } => Ok(Reply::DocIdOrder { given, largest }),
-        CommitError::DocIdGap { given, largest } => Ok(Reply::DocIdGap { given, largest }),
-        CommitError::IdsFull { largest } => Ok(Reply::IdsFull { largest }),
-        CommitError::TextTooLong { change, length } => Ok(Reply::TextTooLong { change, length }),
-        CommitError::RowsFull { rows } => Ok(Reply::RowsFull { rows }),
+        CommitError::Refused { refusal } => Ok(Reply::Refused { refusal }),
         CommitError::LogFull { end } => Ok(Reply::LogFull { end }),
         CommitError::NoMemory => Err(Ended::NoMemory),
         CommitError::DiskFault => Err(Ended::DiskFault),
@@ -187,8 +181,8 @@ fn unknown_name(
     }
 }
 
-// The step of a search, and what tells its answer. One that does not fit the table, or whose query isn't one word, makes
-// no step.
+// The step of a search, and what tells its answer. One that does not fit the table, or whose query
+// isn't one word, makes no step.
 fn search<S: EngineSteps, G: Gate>(
     alloc: Global,
     steps: &S,
@@ -198,9 +192,9 @@ fn search<S: EngineSteps, G: Gate>(
     names: &Names,
     query: &[u8],
 ) -> Result<Reply, Ended>
-    requires ready { IsTrue S.tells → (state : State) × S.stands state steps.now }
     ensures does { IsTrue S.tells → (state : State) → S.stands state steps.now
-        → Does S.EngineSteps state (begins state.settings (Match table names.now query.now)) steps.now result steps.now }
+        → Does S.EngineSteps state (begins state.settings (Match table names.now query.now))
+        steps.now result steps.now }
     ensures failed { result ≡ Err Ended.DiskFault → ⊥ }
 {
     let columns = &steps.settings().columns;
@@ -226,7 +220,6 @@ fn look_for<S: EngineSteps, G: Gate>(
     number: u32,
     word: &[u8],
 ) -> Result<Reply, Ended>
-    requires ready { IsTrue S.tells → (state : State) × S.stands state steps.now }
     ensures makes { IsTrue S.tells → (state : State) → S.stands state steps.now
         → Makes S.EngineSteps state (to_find word.now) steps.now result steps.now }
     ensures failed { result ≡ Err Ended.DiskFault → ⊥ }

@@ -1,9 +1,9 @@
-ghost use Rattle.std.specs.Prelude.{◌≡◌, ℕ, ◌≤◌, Bool, List, [], ◌∷◌, ◌⊎◌, false, IsTrue, IsErrOf, Ok, length};
-ghost use Rattle.fts_faults.specs.Count.{Rose};
+ghost use Rattle.std.specs.Prelude.{◌≡◌, ℕ, ◌≤◌, Bool, IsTrue, IsErrOf, length};
+ghost use Rattle.fts_faults.specs.Count.{CountsFault};
 ghost use Rattle.fts_types.specs.declared.limits.Limits.{Limits};
 ghost use Rattle.fts_commits.specs.Fits.{CanCommit};
-ghost use Rattle.fts_steps.specs.State.{State, with_commits};
-ghost use Rattle.fts_steps.specs.Step.{to_commit, to_find, after, MayAnswer, is_disk_fault};
+ghost use Rattle.fts_steps.specs.State.{State};
+ghost use Rattle.fts_steps.specs.Step.{to_commit, to_find, MayAnswer, Steps, LeftBy};
 ghost use Rattle.fts_steps.specs.Answers.{commit_answer_of, view_answer_of};
 
 use fts_commits::Change;
@@ -11,7 +11,8 @@ use fts_steps::{CommitError, View};
 use fts_types::Settings;
 use std::alloc::AllocError;
 
-/// The steps of an engine, each at once. A contract sees the engine as the state that it stands for.
+/// The steps of an engine, each at once. A contract sees the engine as the state that it stands
+/// for.
 pub trait EngineSteps {
     /// Whether its device tells its content.
     ghost tells: { Bool };
@@ -30,19 +31,14 @@ pub trait EngineSteps {
 
     /// Makes a commit of these changes, and returns its number, from 1.
     fn commit(&mut self, changes: &[Change]) -> Result<u64, CommitError>
-        requires commit { (columns : ℕ) × CanCommit columns changes.now }
-        requires ready { IsTrue tells → (state : State) × stands state self.old × CanCommit (length state.settings.columns) changes.now }
-        ensures answers { IsTrue tells → (state : State) → stands state self.old → CanCommit (length state.settings.columns) changes.now
-            → MayAnswer (limits self.old) state (to_commit changes.now) (commit_answer_of result) }
-        ensures stands { IsTrue tells → (state : State) → stands state self.old → CanCommit (length state.settings.columns) changes.now
-            → is_disk_fault (commit_answer_of result) ≡ false
-            → stands (after state (to_commit changes.now) (commit_answer_of result)) self.new }
-        ensures doubt { IsTrue tells → (state : State) → stands state self.old → CanCommit (length state.settings.columns) changes.now
-            → IsErrOf result CommitError.DiskFault
-            → reads state self.new ⊎ reads (with_commits state (changes.now ∷ [])) self.new }
+        requires { (columns : ℕ) × CanCommit columns changes.now }
+        ensures steps { IsTrue tells → (state : State) → stands state self.old
+            → CanCommit (length state.settings.columns) changes.now
+            → Steps (LeftBy stands reads (to_commit changes.now) (commit_answer_of result))
+            (limits self.old) state (to_commit changes.now) (commit_answer_of result) self.new }
         ensures limits { limits self.new ≡ limits self.old }
-        ensures failed { IsErrOf result CommitError.DiskFault → Rose (faults self.old) (faults self.new) }
-        ensures never_falls { faults self.old ≤ faults self.new };
+        ensures faults { CountsFault (IsErrOf result CommitError.DiskFault)
+            (faults self.old) (faults self.new) };
 
     /// Looks for the rows that have the word.
     fn view(&self, word: &[u8]) -> Result<View, AllocError>
@@ -53,7 +49,6 @@ pub trait EngineSteps {
     fn settings(&self) -> &Settings
         ensures some { 1 ≤ length result.now.columns }
         ensures few { length result.now.columns ≤ 8 }
-        ensures settings { IsTrue tells → (state : State) → stands state self.now → state.settings ≡ result.now };
-
-    ghost is_read: { (steps : Self) (state : State) → stands state steps → reads state steps };
+        ensures settings { IsTrue tells → (state : State) → stands state self.now
+            → state.settings ≡ result.now };
 }

@@ -22,10 +22,11 @@ pub record IsMisplaced (tokens : List Placed) (at : ℕ) : Type 0 where
 -- the tokens are a front of some statement, and then comes something that is no token, or the line ends too early
 pub record IsCutShort (tokens : List Placed) (ending : Ending) (at : ℕ) : Type 0 where
   pub front : Viable (tokens_in tokens)
-  pub here : (ending ≡ unreadable at) ⊎ ((ending ≡ whole at) × ((statement : Statement) → Writes statement (tokens_in tokens) → ⊥))
+  pub here : (ending ≡ unreadable at) ⊎ ((ending ≡ whole at)
+      × ((statement : Statement) → Writes statement (tokens_in tokens) → ⊥))
 
--- the line is not blank, and its fault lies at this place, from 1: at the first token that no statement can have there, or
--- at the faulty byte of what is no token, or, where the line ends too early, behind its last byte
+-- the line is not blank, and its fault lies at this place, from 1: at the first token that no statement can have there,
+-- or at the faulty byte of what is no token, or, where the line ends too early, behind its last byte
 pub record IsFaultAt (line : List ℕ) (at : ℕ) : Type 0 where
   pub not_blank : IsBlank line → ⊥
   pub tokens : List Placed

@@ -1,4 +1,5 @@
-use Rattle.std.specs.Prelude.{◌≡◌, ℕ, ◌<◌, Bool, ◌==◌, ◌&&◌, true, false, if◌then◌else◌, List, [], ◌∷◌, map, length, codes, Option, Some, None}
+use Rattle.std.specs.Prelude.{◌≡◌, ℕ, ◌<◌, Bool, ◌==◌, ◌&&◌, true, false, if◌then◌else◌, List, [], ◌∷◌, map, length}
+use Rattle.std.specs.Prelude.{codes, Option, Some, None}
 use Rattle.std.specs.List.{list_all}
 use Rattle.std.specs.Str.{bytes_eq, str_to_ascii_lowercase}
 use Rattle.fts_sql.specs.Token.{Token, name, number, string, mark}
@@ -74,7 +75,8 @@ pub record IsList (kind : Kind) (tokens found rest : List Token) : Type 0 where
   pub kinds : list_all (is_kind kind) found ≡ true
   pub some : 0 < length found
   pub to : (behind : List Item) → Spells behind rest → Spells (in_brackets found behind) tokens
-  pub from : (elements : List Token) (behind : List Item) → list_all (is_kind kind) elements ≡ true → 0 < length elements
+  pub from : (elements : List Token) (behind : List Item) → list_all (is_kind kind) elements ≡ true
+      → 0 < length elements
       → Spells (in_brackets elements behind) tokens → (elements ≡ found) × Spells behind rest
 
 -- the tokens begin with no list in brackets

@@ -1,4 +1,5 @@
-use Rattle.std.specs.Prelude.{◌≡◌, ◌⊎◌, ℕ, ◌^◌, ◌+◌, ◌≤◌, Bool, ◌==◌, ◌||◌, not, true, false, List, [], ◌∷◌, ◌++◌, length}
+use Rattle.std.specs.Prelude.{◌≡◌, ◌⊎◌, ℕ, ◌^◌, ◌+◌, ◌≤◌, Bool, ◌==◌, ◌||◌, not, true, false, List, [], ◌∷◌, ◌++◌}
+use Rattle.std.specs.Prelude.{length}
 use Rattle.std.specs.List.{list_all}
 use Rattle.std.specs.Char.{is_ascii_digit}
 use Rattle.std.specs.Str.Parse.{digits_value}
@@ -51,14 +52,14 @@ IsUnreadable bytes offset =
 pub data Placed : Type 0 where
   placed : ℕ → Token → Placed
 
--- where a line's tokens end: at its end, or at something that is no token; with the place behind the line's last byte, or
--- of the faulty byte
+-- where a line's tokens end: at its end, or at something that is no token; with the place behind the line's last byte,
+-- or of the faulty byte
 pub data Ending : Type 0 where
   whole : ℕ → Ending
   unreadable : ℕ → Ending
 
--- the bytes, of which the first has this place in its line, are these tokens, each as wide as it goes, with blanks before,
--- between and behind them, and end so
+-- the bytes, of which the first has this place in its line, are these tokens, each as wide as it goes, with blanks
+-- before, between and behind them, and end so
 abbrev pub Reads : ℕ → List ℕ → List Placed → Ending → Type 0
 Reads place bytes [] (whole at) = (list_all is_blank bytes ≡ true) × (at ≡ place + length bytes)
 Reads place bytes [] (unreadable at) =

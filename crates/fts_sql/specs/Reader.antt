@@ -41,7 +41,8 @@ IsPlaceIn tokens ending at = IsMisplaced tokens at ⊎ (Viable (tokens_in tokens
 
 -- what the tokens of a line say, which end so, by cases
 abbrev pub SaysIn : List Placed → Ending → Said → Type 0
-SaysIn tokens ending (SaysStatement statement) = ((end : ℕ) × (ending ≡ whole end)) × Writes statement (tokens_in tokens)
+SaysIn tokens ending (SaysStatement statement) = ((end : ℕ) × (ending ≡ whole end))
+    × Writes statement (tokens_in tokens)
 SaysIn tokens ending (SaysFault at) = IsMisplaced tokens at ⊎ IsCutShort tokens ending at
 
 -- what a line says that is not blank, by cases

@@ -1,4 +1,5 @@
-use Rattle.std.specs.Prelude.{◌≡◌, ℕ, ◌^◌, ◌<◌, Bool, ◌==◌, ◌||◌, true, false, if◌then◌else◌, List, [], ◌∷◌, ◌++◌, length, codes}
+use Rattle.std.specs.Prelude.{◌≡◌, ℕ, ◌^◌, ◌<◌, Bool, ◌==◌, ◌||◌, true, false, if◌then◌else◌, List, [], ◌∷◌, ◌++◌}
+use Rattle.std.specs.Prelude.{length, codes}
 use Rattle.std.specs.List.{list_all, list_any}
 use Rattle.std.specs.Char.{is_ascii_digit}
 use Rattle.std.specs.Str.Parse.{digits_value}
@@ -36,11 +37,12 @@ pub record IsFront (test : ℕ → Bool) (bytes front rest : List ℕ) : Type 0 
   pub passes : list_all test front ≡ true
   pub ends : begins_with test rest ≡ false
 
--- the bytes write the token: a name, its first byte no digit; a number below 2 ^ 64 in decimal digits; a string of printable
--- bytes and tabs between apostrophes
+-- the bytes write the token: a name, its first byte no digit; a number below 2 ^ 64 in decimal digits; a string of
+-- printable bytes and tabs between apostrophes
 abbrev pub IsSpelling : Token → List ℕ → Type 0
 IsSpelling (name word) bytes =
-    (0 < length bytes) × (list_all is_word_byte bytes ≡ true) × (begins_with is_ascii_digit bytes ≡ false) × (bytes ≡ word)
+    (0 < length bytes) × (list_all is_word_byte bytes ≡ true) × (begins_with is_ascii_digit bytes ≡ false)
+    × (bytes ≡ word)
 IsSpelling (number n) bytes =
     (0 < length bytes) × (list_all is_ascii_digit bytes ≡ true) × (digits_value 10 bytes ≡ n) × (n < 2 ^ 64)
 IsSpelling (string text) bytes = (bytes ≡ 39 ∷ (quoted text ++ 39 ∷ [])) × (list_all is_text_byte text ≡ true)

@@ -15,7 +15,8 @@ use std::alloc::{AllocError, Global};
 
 /// The names that the tokens are; another token is left out.
 pub fn copy_names(alloc: Global, tokens: &[Token]) -> Result<Names, AllocError>
-    ensures { IfOk result (λ names. list_all (is_kind kinds.Name) (map token_of tokens.now) ≡ true → map name names ≡ map token_of tokens.now) }
+    ensures { IfOk result (λ names. list_all (is_kind kinds.Name) (map token_of tokens.now) ≡ true
+        → map name names ≡ map token_of tokens.now) }
 {
     let mut names = Names::new(alloc);
     for token in tokens {
@@ -28,7 +29,8 @@ pub fn copy_names(alloc: Global, tokens: &[Token]) -> Result<Names, AllocError>
 
 /// The values that the tokens are; another token is left out.
 pub fn copy_values(alloc: Global, tokens: &[Token]) -> Result<Values, AllocError>
-    ensures { IfOk result (λ values. list_all (is_kind kinds.Value) (map token_of tokens.now) ≡ true → map value_token values ≡ map token_of tokens.now) }
+    ensures { IfOk result (λ values. list_all (is_kind kinds.Value) (map token_of tokens.now) ≡ true
+        → map value_token values ≡ map token_of tokens.now) }
 {
     let mut values = Vec::new(alloc);
     for token in tokens {

@@ -18,8 +18,12 @@ pub enum Fixed<'g> {
 impl Fixed<'_> {
     /// What follows it, if the tokens begin with it.
     fn read<'t, 'l>(&self, tokens: &'t [Placed<'l>]) -> Option<&'t [Placed<'l>]>
-        ensures some { IfSome result (λ rest. (behind : List Item) → Spells (item_of self.now ∷ behind) (tokens_at tokens.now) ↔ Spells behind (tokens_at rest.now)) }
-        ensures none { IfNone result ((behind : List Item) → Spells (item_of self.now ∷ behind) (tokens_at tokens.now) → ⊥) }
+        ensures some { IfSome result
+            (λ rest. (behind : List Item)
+            → Spells (item_of self.now ∷ behind) (tokens_at tokens.now)
+            ↔ Spells behind (tokens_at rest.now)) }
+        ensures none { IfNone result
+            ((behind : List Item) → Spells (item_of self.now ∷ behind) (tokens_at tokens.now) → ⊥) }
     {
         match self {
             Fixed::Keyword(word) => read_keyword(word, tokens),
@@ -30,8 +34,11 @@ impl Fixed<'_> {
 
 /// What follows the keyword, if the tokens begin with it.
 fn read_keyword<'t, 'l>(word: &[u8], tokens: &'t [Placed<'l>]) -> Option<&'t [Placed<'l>]>
-    ensures some { IfSome result (λ rest. (behind : List Item) → Spells (keyword word.now ∷ behind) (tokens_at tokens.now) ↔ Spells behind (tokens_at rest.now)) }
-    ensures none { IfNone result ((behind : List Item) → Spells (keyword word.now ∷ behind) (tokens_at tokens.now) → ⊥) }
+    ensures some { IfSome result (λ rest. (behind : List Item)
+        → Spells (keyword word.now ∷ behind) (tokens_at tokens.now)
+        ↔ Spells behind (tokens_at rest.now)) }
+    ensures none { IfNone result ((behind : List Item)
+        → Spells (keyword word.now ∷ behind) (tokens_at tokens.now) → ⊥) }
 {
     let (first, rest) = tokens.split_first()?;
     if !is_keyword(word, &first.token) {
@@ -43,7 +50,8 @@ fn read_keyword<'t, 'l>(word: &[u8], tokens: &'t [Placed<'l>]) -> Option<&'t [Pl
 /// What follows the byte, if the tokens begin with it.
 pub fn read_mark<'t, 'l>(byte: u8, tokens: &'t [Placed<'l>]) -> Option<&'t [Placed<'l>]>
     ensures some { IfSome result (λ rest. tokens_at tokens.now ≡ mark byte ∷ tokens_at rest.now) }
-    ensures none { IfNone result ((rest : List Token) → tokens_at tokens.now ≡ mark byte ∷ rest → ⊥) }
+    ensures none { IfNone result ((rest : List Token) → tokens_at tokens.now ≡ mark byte ∷ rest
+        → ⊥) }
 {
     let (_, rest) = Kind::Mark(byte).take(tokens)?;
     Some(rest)
@@ -51,8 +59,11 @@ pub fn read_mark<'t, 'l>(byte: u8, tokens: &'t [Placed<'l>]) -> Option<&'t [Plac
 
 /// What follows all of these, if the tokens begin with them.
 pub fn read_fixed<'t, 'l>(fixed: &[Fixed], tokens: &'t [Placed<'l>]) -> Option<&'t [Placed<'l>]>
-    ensures some { IfSome result (λ rest. (behind : List Item) → Spells (map item_of fixed.now ++ behind) (tokens_at tokens.now) ↔ Spells behind (tokens_at rest.now)) }
-    ensures none { IfNone result ((behind : List Item) → Spells (map item_of fixed.now ++ behind) (tokens_at tokens.now) → ⊥) }
+    ensures some { IfSome result (λ rest. (behind : List Item)
+        → Spells (map item_of fixed.now ++ behind) (tokens_at tokens.now)
+        ↔ Spells behind (tokens_at rest.now)) }
+    ensures none { IfNone result ((behind : List Item)
+        → Spells (map item_of fixed.now ++ behind) (tokens_at tokens.now) → ⊥) }
 {
     match fixed {
         [] => Some(tokens),

@@ -37,8 +37,11 @@ impl Kind {
     /// The first token, if it is of the kind, and what follows it.
     pub fn take<'t, 'l>(self, tokens: &'t [Placed<'l>]) -> Option<(Token<'l>, &'t [Placed<'l>])>
         ensures kind { IfSome result (λ found. is_kind self (token_of found.0) ≡ true) }
-        ensures some { IfSome result (λ found. tokens_at tokens.now ≡ token_of found.0 ∷ tokens_at found.1.now) }
-        ensures none { IfNone result ((first : definition.Token) (rest : List definition.Token) → tokens_at tokens.now ≡ first ∷ rest → is_kind self first ≡ true → ⊥) }
+        ensures some { IfSome result
+            (λ found. tokens_at tokens.now ≡ token_of found.0 ∷ tokens_at found.1.now) }
+        ensures none { IfNone result
+            ((first : definition.Token) (rest : List definition.Token)
+            → tokens_at tokens.now ≡ first ∷ rest → is_kind self first ≡ true → ⊥) }
     {
         let (first, rest) = tokens.split_first()?;
         if !self.has(&first.token) {
@@ -58,7 +61,8 @@ pub fn is_keyword(word: &[u8], token: &Token) -> bool
     }
 }
 
-/// Whether the spelling is the word but for the case of its letters; the word itself has to be in lower case.
+/// Whether the spelling is the word but for the case of its letters; the word itself has to be in
+/// lower case.
 fn is_lowered(word: &[u8], spelling: &[u8]) -> bool
     ensures { IsTrue result ↔ (str_to_ascii_lowercase spelling.now ≡ word.now) }
 {

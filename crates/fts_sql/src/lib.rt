@@ -1,4 +1,5 @@
-//! The statements of a script: what a line says, by a grammar of tokens, and where a line that says nothing is at fault.
+//! The statements of a script: what a line says, by a grammar of tokens, and where a line that says
+//! nothing is at fault.
 #![tactic(auto)]
 
 mod copy;

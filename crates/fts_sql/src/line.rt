@@ -31,7 +31,8 @@ pub struct Line<'a> {
 
 /// The tokens of a line up to its end, or to the first thing that is no token.
 pub fn read_line(alloc: Global, line: &[u8]) -> Result<Line, AllocError>
-    ensures { IfOk result (λ read. Reads 1 line.now (map placed_of read.tokens.items) (ending_of read.ending)) }
+    ensures { IfOk result (λ read. Reads 1 line.now (map placed_of read.tokens.items)
+        (ending_of read.ending)) }
 {
     let mut tokens = Vec::new(alloc);
     let mut rest = line;

@@ -15,13 +15,17 @@ use std::alloc::{AllocError, Global};
 
 /// The statement that a line says, or `None` where the line is blank or a comment.
 ///
-/// A line that is neither is answered `Syntax` at its fault; `docs/LANGUAGE.md` says where that lies.
+/// A line that is neither is answered `Syntax` at its fault; `docs/LANGUAGE.md` says where that
+/// lies.
 pub fn parse_statement(alloc: Global, line: &[u8]) -> Result<Option<Statement>, ParseError>
     ensures blank { (result ≡ Ok None) ↔ IsBlank line.now }
-    ensures statement { (statement : Statement) → result ≡ Ok (Some statement) → IsStatement line.now statement }
-    ensures exact { (statement : Statement) → IsStatement line.now statement → (result ≡ Ok (Some statement)) ⊎ (result ≡ Err ParseError.NoMemory) }
+    ensures statement { (statement : Statement) → result ≡ Ok (Some statement)
+        → IsStatement line.now statement }
+    ensures exact { (statement : Statement) → IsStatement line.now statement
+        → (result ≡ Ok (Some statement)) ⊎ (result ≡ Err ParseError.NoMemory) }
     ensures fault { (at : ℕ) → result ≡ Err (ParseError.Syntax at) → IsFaultAt line.now at }
-    ensures exact_fault { (at : ℕ) → IsFaultAt line.now at → (result ≡ Err (ParseError.Syntax at)) ⊎ (result ≡ Err ParseError.NoMemory) }
+    ensures exact_fault { (at : ℕ) → IsFaultAt line.now at
+        → (result ≡ Err (ParseError.Syntax at)) ⊎ (result ≡ Err ParseError.NoMemory) }
 {
     if is_blank(line) {
         return Ok(None);

@@ -8,7 +8,8 @@ use crate::kind::Kind;
 use crate::line::{Ending, Placed};
 use crate::reach::{Expected, reach};
 
-/// The place of the first token that no statement can have behind those before it, or of the tokens' end.
+/// The place of the first token that no statement can have behind those before it, or of the
+/// tokens' end.
 pub fn fault_place(tokens: &[Placed], ending: Ending) -> u64
     ensures { IsPlaceIn (map placed_of tokens.now) (ending_of ending) result }
 {
@@ -31,7 +32,8 @@ fn place_of_end(ending: Ending) -> u64
 fn reach_statement(tokens: &[Placed]) -> usize
     ensures within { result ≤ length tokens.now }
     ensures front { Viable (take result (tokens_at tokens.now)) }
-    ensures stops { result < length tokens.now → Viable (take (result + 1) (tokens_at tokens.now)) → ⊥ }
+    ensures stops { result < length tokens.now → Viable (take (result + 1) (tokens_at tokens.now))
+        → ⊥ }
 {
     let insert = reach_insert(tokens);
     let search = reach_match(tokens);
@@ -44,7 +46,8 @@ fn reach_statement(tokens: &[Placed]) -> usize
 fn reach_insert(tokens: &[Placed]) -> usize
     ensures within { result ≤ length tokens.now }
     ensures front { can_begin insert_shapes (take result (tokens_at tokens.now)) ≡ true }
-    ensures stops { result < length tokens.now → can_begin insert_shapes (take (result + 1) (tokens_at tokens.now)) ≡ false }
+    ensures stops { result < length tokens.now
+        → can_begin insert_shapes (take (result + 1) (tokens_at tokens.now)) ≡ false }
 {
     use Expected::{Keyword, More, One};
     let expected = [
@@ -66,7 +69,8 @@ fn reach_insert(tokens: &[Placed]) -> usize
 fn reach_match(tokens: &[Placed]) -> usize
     ensures within { result ≤ length tokens.now }
     ensures front { can_begin match_shapes (take result (tokens_at tokens.now)) ≡ true }
-    ensures stops { result < length tokens.now → can_begin match_shapes (take (result + 1) (tokens_at tokens.now)) ≡ false }
+    ensures stops { result < length tokens.now
+        → can_begin match_shapes (take (result + 1) (tokens_at tokens.now)) ≡ false }
 {
     use Expected::{Keyword, More, One};
     let expected = [

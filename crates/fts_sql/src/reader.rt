@@ -90,7 +90,8 @@ fn read_match(alloc: Global, tokens: &[Placed]) -> Result<Option<Statement>, All
     }))
 }
 
-/// The query, as written between its apostrophes, where the tokens are the end of a MATCH from AGAINST on.
+/// The query, as written between its apostrophes, where the tokens are the end of a MATCH from
+/// AGAINST on.
 fn read_against<'l>(tokens: &[Placed<'l>]) -> Option<&'l [u8]>
     ensures some { IfSome result (λ query. IsAgainst (unquoted query.now) (tokens_at tokens.now)) }
     ensures none { IfNone result ((other : List ℕ) → IsAgainst other (tokens_at tokens.now) → ⊥) }
@@ -111,8 +112,10 @@ fn read_against<'l>(tokens: &[Placed<'l>]) -> Option<&'l [u8]>
 
 /// The name that the tokens begin with, if they do, and what follows it.
 fn read_name<'t, 'l>(tokens: &'t [Placed<'l>]) -> Option<(&'l [u8], &'t [Placed<'l>])>
-    ensures some { IfSome result (λ found. tokens_at tokens.now ≡ name found.0.now ∷ tokens_at found.1.now) }
-    ensures none { IfNone result ((written : List ℕ) (rest : List definition) → tokens_at tokens.now ≡ name written ∷ rest → ⊥) }
+    ensures some { IfSome result (λ found. tokens_at tokens.now
+        ≡ name found.0.now ∷ tokens_at found.1.now) }
+    ensures none { IfNone result ((written : List ℕ) (rest : List definition)
+        → tokens_at tokens.now ≡ name written ∷ rest → ⊥) }
 {
     let (first, rest) = tokens.split_first()?;
     match first.token {
@@ -121,10 +124,13 @@ fn read_name<'t, 'l>(tokens: &'t [Placed<'l>]) -> Option<(&'l [u8], &'t [Placed<
     }
 }
 
-/// The string that the tokens begin with, if they do, as written between its apostrophes, and what follows it.
+/// The string that the tokens begin with, if they do, as written between its apostrophes, and what
+/// follows it.
 fn read_string<'t, 'l>(tokens: &'t [Placed<'l>]) -> Option<(&'l [u8], &'t [Placed<'l>])>
-    ensures some { IfSome result (λ found. tokens_at tokens.now ≡ string (unquoted found.0.now) ∷ tokens_at found.1.now) }
-    ensures none { IfNone result ((text : List ℕ) (rest : List definition) → tokens_at tokens.now ≡ string text ∷ rest → ⊥) }
+    ensures some { IfSome result (λ found. tokens_at tokens.now
+        ≡ string (unquoted found.0.now) ∷ tokens_at found.1.now) }
+    ensures none { IfNone result ((text : List ℕ) (rest : List definition)
+        → tokens_at tokens.now ≡ string text ∷ rest → ⊥) }
 {
     let (first, rest) = tokens.split_first()?;
     match first.token {

@@ -1,3 +1,4 @@
 pub mod State
+pub mod Fault
 pub mod Step
 pub mod Answers

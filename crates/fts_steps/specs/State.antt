@@ -1,8 +1,8 @@
-use Rattle.std.specs.Prelude.{◌≡◌, ℕ, ◌<◌, List, [], ◌∷◌, ◌++◌, length, map, codes, slice_index, All}
+use Rattle.std.specs.Prelude.{◌≡◌, ℕ, List, [], ◌∷◌, ◌++◌, length, map, codes, All}
 use Rattle.fts_types.specs.declared.settings.Settings.{Settings}
 use Rattle.fts_types.specs.Settings.{AreSettings}
 use Rattle.fts_commits.specs.Commit.{Commit, no_rows, AreAccepted}
-use Rattle.fts_log.specs.Record.{IsLog, log_end}
+use Rattle.fts_log.specs.Record.{IsLog, IsBegun, log_end}
 use Rattle.fts_rowcodec.specs.Payload.{settings_payload, commit_payload, IsWritten}
 
 -- a database: its settings, and its commits in their order
@@ -39,7 +39,7 @@ pub record IsDatabase (state : State) (file : List ℕ) : Type 0 where
 
 -- a database was created in the file: the gate behind the magic is open
 abbrev pub IsCreated : List ℕ → Type 0
-IsCreated file = (8 < length file) × (slice_index file 8 ≡ 1)
+IsCreated file = IsBegun file
 
 -- a database that was just created
 abbrev pub created_with : Settings → State

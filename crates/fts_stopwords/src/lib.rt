@@ -30,8 +30,8 @@ pub enum StopSet {
     Default,
 }
 
-/// Whether a word of a text is a default stopword once its letters are lowered. It branches on where the word starts, and
-/// not on what it is.
+/// Whether a word of a text is a default stopword once its letters are lowered. It branches on
+/// where the word starts, and not on what it is.
 #[inline(always)]
 fn is_default_at(text: &[u8], word: &Span) -> bool
     requires order { word.now.from ≤ word.now.to }
@@ -80,7 +80,8 @@ impl StopSet {
         self.contains_lowered_at(word, &whole)
     }
 
-    /// Whether a word that stands in a text is in the set once its letters are lowered. It takes no memory.
+    /// Whether a word that stands in a text is in the set once its letters are lowered. It takes no
+    /// memory.
     #[inline(always)]
     pub fn contains_lowered_at(&self, text: &[u8], word: &Span) -> bool
         requires order { word.now.from ≤ word.now.to }

@@ -1,11 +1,13 @@
 //! Words as numbers, so that a word is compared with a stopword at once.
 ghost use Rattle.std.specs.Prelude.{◌≡◌, ℕ, ◌+◌, ◌≤◌, ◌<◌, length, slice_index};
 ghost use Rattle.std.specs.Int.{w64, to_le_bytes};
-ghost use Rattle.fts_stopwords.specs.Number.{is_stopword_number, place_of, number_at, numbers, fronts, letter_at};
+ghost use Rattle.fts_stopwords.specs.Number.{is_stopword_number, place_of, number_at, numbers};
+ghost use Rattle.fts_stopwords.specs.Number.{fronts, letter_at};
 
 use std::simd::prelude::*;
 
-/// A factor whose products with the numbers of the default stopwords differ in their highest six bits.
+/// A factor whose products with the numbers of the default stopwords differ in their highest six
+/// bits.
 const FACTOR: u64 = 0x2d4f_643f_0694_ca77;
 
 /// The number of `about`.
@@ -82,16 +84,19 @@ fn fronts() -> &'static [u64]
 #[inline(always)]
 fn bytes_at(text: &[u8], from: usize) -> u64
     requires { from + 8 ≤ length text.now }
-    ensures { (i : ℕ) → i < 8 → slice_index (to_le_bytes w64 result) i ≡ slice_index text.now (from + i) }
+    ensures { (i : ℕ) → i < 8 → slice_index (to_le_bytes w64 result) i
+        ≡ slice_index text.now (from + i) }
 {
     u64::from_le_bytes(u8x8::from_slice(&text[from..]).to_array())
 }
 
-/// The first eight bytes of a word that stands in a text, each with the bit of lower-case letters set, as a number.
+/// The first eight bytes of a word that stands in a text, each with the bit of lower-case letters
+/// set, as a number.
 #[inline(always)]
 pub(crate) fn number_of(text: &[u8], from: usize, len: usize) -> u64
     requires { from + 8 ≤ length text.now }
-    ensures { (i : ℕ) → i < 8 → slice_index (to_le_bytes w64 result) i ≡ letter_at text.now from len i }
+    ensures { (i : ℕ) → i < 8 → slice_index (to_le_bytes w64 result) i
+        ≡ letter_at text.now from len i }
 {
     (bytes_at(text, from) | CASE_BITS) & fronts()[len.min(8)]
 }
@@ -102,7 +107,8 @@ pub(crate) fn number_of(text: &[u8], from: usize, len: usize) -> u64
 pub(crate) fn last_number_of(text: &[u8], from: usize, len: usize) -> u64
     requires start { from ≤ length text.now }
     requires end { length text.now < from + 8 }
-    ensures { (i : ℕ) → i < 8 → slice_index (to_le_bytes w64 result) i ≡ letter_at text.now from len i }
+    ensures { (i : ℕ) → i < 8 → slice_index (to_le_bytes w64 result) i
+        ≡ letter_at text.now from len i }
 {
     let mut last = [0; 8];
     let rest = &text[from..];

@@ -21,12 +21,14 @@ columns_of words = words.columns.now
 unfoldable pub placed_words_behind : PlacedWords → List PlacedWord
 placed_words_behind words =
     let columns = words.columns.now in
-    placed_words_from (words.column + 1) (words.offset + length (column_text columns words.column) + 1) (drop (words.column + 1) columns)
+    placed_words_from (words.column + 1) (words.offset + length (column_text columns words.column) + 1)
+    (drop (words.column + 1) columns)
 
 -- the raw words of its row that an iterator has yet to give
 unfoldable pub placed_words_left : PlacedWords → List PlacedWord
 placed_words_left words =
-    placed_spans words.column words.offset words.number (raw_words_from (column_text words.columns.now words.column) words.at)
+    placed_spans words.column words.offset words.number
+    (raw_words_from (column_text words.columns.now words.column) words.at)
     ++ placed_words_behind words
 
 -- those of the raw words that an iterator has yet to give that are indexed
@@ -36,4 +38,5 @@ indexed_among settings words =
 
 -- the indexed words of its row that an iterator has yet to give: those that it holds, and those behind them
 unfoldable pub indexed_words_left : IndexedWords → List PlacedWord
-indexed_words_left words = drop words.given (take words.held words.found) ++ indexed_among words.settings.now words.words
+indexed_words_left words = drop words.given (take words.held words.found) ++ indexed_among words.settings.now
+    words.words

@@ -1,5 +1,7 @@
-//! The words of a text, from the bounds of words in a block of its places: the first place of each, and the one behind it.
-ghost use Rattle.std.specs.Prelude.{◌≡◌, ℕ, ◌+◌, ◌<◌, ◌≤◌, List, [], length, IsFalse, IfNone, IfSome};
+//! The words of a text, from the bounds of words in a block of its places: the first place of each,
+//! and the one behind it.
+ghost use Rattle.std.specs.Prelude.{◌≡◌, ℕ, ◌+◌, ◌<◌, ◌≤◌, List, [], length, IsFalse, IfNone};
+ghost use Rattle.std.specs.Prelude.{IfSome};
 ghost use Rattle.fts_words.specs.RawWords.{raw_words_from};
 ghost use Rattle.fts_token.specs.Bounds.{is_inside, is_bound, IsAhead, IsNextBound, IsFound};
 
@@ -9,7 +11,8 @@ use fts_words::Span;
 /// How many places a block has.
 const PLACES: usize = 64;
 
-/// What is known of the 64 places of a text from `start` on: a bit for each that is a bound of a word and is yet to be passed.
+/// What is known of the 64 places of a text from `start` on: a bit for each that is a bound of a
+/// word and is yet to be passed.
 #[derive(Clone, Copy, Debug)]
 pub(crate) struct Block {
     pub(crate) start: usize,
@@ -54,8 +57,8 @@ pub(crate) struct Found {
     pub(crate) block: Block,
 }
 
-/// The block that has the next bound, or one without bounds at the text's end. It is told whether the place before belongs to
-/// a word.
+/// The block that has the next bound, or one without bounds at the text's end. It is told whether
+/// the place before belongs to a word.
 #[inline(always)]
 fn with_bound(text: &[u8], at: usize, inside: bool, block: Block) -> Block
     requires inside { inside ≡ is_inside text.now at }
@@ -95,8 +98,10 @@ fn lowest_bound(text: &[u8], at: usize, block: Block) -> Bound
 fn next_bound(text: &[u8], at: usize, inside: bool, block: Block) -> Option<Bound>
     requires inside { inside ≡ is_inside text.now at }
     requires ahead { IsAhead text.now at block.start block.bounds }
-    ensures none { IfNone result ((k : ℕ) → at ≤ k → k ≤ length text.now → IsFalse (is_bound text.now k)) }
-    ensures some { IfSome result (λ bound. IsNextBound text.now at bound.place bound.block.start bound.block.bounds) }
+    ensures none { IfNone result ((k : ℕ) → at ≤ k → k ≤ length text.now
+        → IsFalse (is_bound text.now k)) }
+    ensures some { IfSome result (λ bound. IsNextBound text.now at bound.place bound.block.start
+        bound.block.bounds) }
 {
     let block = with_bound(text, at, inside, block);
     if block.bounds == 0 {
@@ -110,7 +115,8 @@ fn next_bound(text: &[u8], at: usize, inside: bool, block: Block) -> Option<Boun
 fn between(text: &[u8], at: usize, start: Bound, behind: Bound) -> Found
     requires outside { IsFalse (is_inside text.now at) }
     requires start { IsNextBound text.now at start.place start.block.start start.block.bounds }
-    requires behind { IsNextBound text.now (start.place + 1) behind.place behind.block.start behind.block.bounds }
+    requires behind { IsNextBound text.now (start.place + 1) behind.place behind.block.start
+        behind.block.bounds }
     ensures { IsFound text.now at result.word result.block.start result.block.bounds }
 {
     Found {
@@ -128,20 +134,23 @@ fn later_word(text: &[u8], at: usize, block: Block) -> Option<Found>
     requires outside { IsFalse (is_inside text.now at) }
     requires ahead { IsAhead text.now at block.start block.bounds }
     ensures none { IfNone result (raw_words_from text.now at ≡ []) }
-    ensures some { IfSome result (λ found. IsFound text.now at found.word found.block.start found.block.bounds) }
+    ensures some { IfSome result (λ found. IsFound text.now at found.word found.block.start
+        found.block.bounds) }
 {
     let start = next_bound(text, at, false, block)?;
     let behind = next_bound(text, start.place + 1, true, start.block)?;
     Some(between(text, at, start, behind))
 }
 
-/// The first raw word that starts at a place or behind it, where the place before belongs to no word.
+/// The first raw word that starts at a place or behind it, where the place before belongs to no
+/// word.
 #[inline(always)]
 pub(crate) fn first_word(text: &[u8], at: usize, block: Block) -> Option<Found>
     requires outside { IsFalse (is_inside text.now at) }
     requires ahead { IsAhead text.now at block.start block.bounds }
     ensures none { IfNone result (raw_words_from text.now at ≡ []) }
-    ensures some { IfSome result (λ found. IsFound text.now at found.word found.block.start found.block.bounds) }
+    ensures some { IfSome result (λ found. IsFound text.now at found.word found.block.start
+        found.block.bounds) }
 {
     if block.bounds == 0 {
         return later_word(text, at, block);

@@ -1,5 +1,6 @@
 ghost use Rattle.std.specs.Prelude.{◌≡◌, ◌<◌, ◌≤◌, ◌++◌, [], length, take};
-ghost use Rattle.fts_token.specs.Left.{columns_of, placed_words_left, placed_words_behind, indexed_among};
+ghost use Rattle.fts_token.specs.Left.{columns_of, placed_words_left, placed_words_behind};
+ghost use Rattle.fts_token.specs.Left.{indexed_among};
 
 use crate::indexable::Choice;
 use crate::placed::PlacedWords;
@@ -9,9 +10,9 @@ use fts_words::PlacedWord;
 /// How many words are looked for at most before they are given.
 pub(crate) const ROOM: usize = 32;
 
-/// Puts the next indexed words of the column that it is in behind those that were found, as long as there is room, and
-/// returns how many were found in all. Each word is written, and only the indexed ones are counted: the processor can't
-/// foresee a branch on which these are.
+/// Puts the next indexed words of the column that it is in behind those that were found, as long as
+/// there is room, and returns how many were found in all. Each word is written, and only the
+/// indexed ones are counted: the processor can't foresee a branch on which these are.
 #[inline(never)]
 fn find_in_column(
     settings: &Settings,
@@ -51,7 +52,8 @@ pub(crate) fn find_words(
     found: &mut [PlacedWord; ROOM],
 ) -> usize
     ensures within { result ≤ 32 }
-    ensures left { take result found.new ++ indexed_among settings.now words.new ≡ indexed_among settings.now words.old }
+    ensures left { take result found.new ++ indexed_among settings.now words.new
+        ≡ indexed_among settings.now words.old }
     ensures none { result ≡ 0 → indexed_among settings.now words.new ≡ [] }
 {
     let mut count = 0;

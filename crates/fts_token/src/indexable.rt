@@ -43,8 +43,8 @@ impl Choice {
         (self.min <= len) & (len <= self.max)
     }
 
-    /// Whether a word of a text can be an indexed word once its letters are lowered. Nothing branches on what the word is:
-    /// the processor can't foresee such branches.
+    /// Whether a word of a text can be an indexed word once its letters are lowered. Nothing
+    /// branches on what the word is: the processor can't foresee such branches.
     #[inline(always)]
     pub(crate) fn has_at(&self, text: &[u8], word: &Span) -> bool
         requires order { word.now.from ≤ word.now.to }
@@ -57,10 +57,11 @@ impl Choice {
     }
 }
 
-/// Whether a lowered word can be an indexed word: its length is from `min` to `max`, and it is no stopword where
-/// stopwords are on.
+/// Whether a lowered word can be an indexed word: its length is from `min` to `max`, and it is no
+/// stopword where stopwords are on.
 ///
-/// Source: MySQL 8.0 Reference Manual, "Fine-Tuning MySQL Full-Text Search" and "Full-Text Stopwords".
+/// Source: MySQL 8.0 Reference Manual, "Fine-Tuning MySQL Full-Text Search" and "Full-Text
+/// Stopwords".
 pub fn is_indexable(settings: &Settings, word: &[u8]) -> bool
     ensures { result ≡ is_indexable (rules_of settings.now) word.now }
 {

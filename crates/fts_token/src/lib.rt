@@ -1,7 +1,8 @@
 //! Cutting the texts of a row into words.
 //!
-//! `raw_words` gives the raw words of a text, `placed_words` those of a row, and `indexed_words` those of a row
-//! that are indexed. They are iterators that borrow what they read and take no memory.
+//! `raw_words` gives the raw words of a text, `placed_words` those of a row, and `indexed_words`
+//! those of a row that are indexed. They are iterators that borrow what they read and take no
+//! memory.
 #![tactic(auto)]
 
 mod block;

@@ -1,4 +1,5 @@
-//! What a block of a text's places says of its words, many places at once: a bit each, from the lowest on.
+//! What a block of a text's places says of its words, many places at once: a bit each, from the
+//! lowest on.
 ghost use Rattle.std.specs.Prelude.{◌≡◌, ℕ, ◌+◌, ◌<◌, ◌≤◌, ◌||◌, ◌&&◌, length, slice_index};
 ghost use Rattle.fts_words.specs.Byte.{word_at, apostrophe_at};
 ghost use Rattle.fts_token.specs.Bits.{has_bit, differ, one_before, one_behind};
@@ -33,12 +34,13 @@ fn apostrophe_marks(text: &[u8], at: usize) -> u64
     bytes.simd_eq(u8x64::splat(b'\'')).to_bitmask()
 }
 
-/// Adds to the word bytes the apostrophes between two of them. It is told of the places before the first and behind the last
-/// whether they have word bytes.
+/// Adds to the word bytes the apostrophes between two of them. It is told of the places before the
+/// first and behind the last whether they have word bytes.
 #[inline(always)]
 fn joined(words: u64, apostrophes: u64, before: bool, behind: bool) -> u64
     ensures { (j : ℕ) → j < 64 → has_bit result j ≡ (has_bit words j ||
-        (has_bit apostrophes j && (one_before before (has_bit words) j && one_behind behind (has_bit words) j))) }
+        (has_bit apostrophes j && (one_before before (has_bit words) j && one_behind behind
+        (has_bit words) j))) }
 {
     let left = (words << 1) | u64::from(before);
     let right = (words >> 1) | (u64::from(behind) << 63);
@@ -48,7 +50,8 @@ fn joined(words: u64, apostrophes: u64, before: bool, behind: bool) -> u64
 /// Which of the places differ from the one before them. It is told of the place before the first.
 #[inline(always)]
 fn changes(marks: u64, before: bool) -> u64
-    ensures { (j : ℕ) → j < 64 → has_bit result j ≡ differ (has_bit marks j) (one_before before (has_bit marks) j) }
+    ensures { (j : ℕ) → j < 64 → has_bit result j
+        ≡ differ (has_bit marks j) (one_before before (has_bit marks) j) }
 {
     marks ^ ((marks << 1) | u64::from(before))
 }
@@ -71,7 +74,8 @@ fn padded(text: &[u8], at: usize) -> [u8; 64]
     last
 }
 
-/// Which of the 64 places from one on are bounds of words. It is told whether the place before belongs to a word.
+/// Which of the 64 places from one on are bounds of words. It is told whether the place before
+/// belongs to a word.
 #[inline(never)]
 pub(crate) fn bounds_at(text: &[u8], at: usize, inside: bool) -> u64
     requires within { at ≤ length text.now }

@@ -1,4 +1,5 @@
-ghost use Rattle.std.specs.Prelude.{◌≡◌, ◌+◌, ◌<◌, ◌≤◌, ◌∷◌, length, nat_lt, sum_by, IsFalse, IfNone, IfSome};
+ghost use Rattle.std.specs.Prelude.{◌≡◌, ◌+◌, ◌<◌, ◌≤◌, ◌∷◌, length, nat_lt, sum_by, IsFalse};
+ghost use Rattle.std.specs.Prelude.{IfNone, IfSome};
 ghost use Rattle.fts_words.specs.Indexed.{column_text, column_offset};
 ghost use Rattle.fts_token.specs.Bounds.{is_inside, IsAhead};
 
@@ -90,13 +91,14 @@ impl<'a> PlacedWords<'a> {
         self.block = Block::last(text);
     }
 
-    /// The next word of the column that it is in, or nothing at the column's end. It is passed the column's text, which can
-    /// stay in registers then.
+    /// The next word of the column that it is in, or nothing at the column's end. It is passed the
+    /// column's text, which can stay in registers then.
     #[inline(always)]
     pub(crate) fn next_in_column(&mut self, text: &[u8]) -> Option<PlacedWord>
         requires inside { self.old.column < length (columns_of self.old) }
         requires text { text.now ≡ column_text (columns_of self.old) self.old.column }
-        ensures some { IfSome result (λ word. placed_words_left self.old ≡ word ∷ placed_words_left self.new) }
+        ensures some { IfSome result
+            (λ word. placed_words_left self.old ≡ word ∷ placed_words_left self.new) }
         ensures here { IfSome result (λ word. word.column ≡ self.old.column) }
         ensures order { IfSome result (λ word. word.span.from ≤ word.span.to) }
         ensures within { IfSome result (λ word. word.span.to ≤ length text.now) }

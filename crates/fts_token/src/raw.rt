@@ -11,7 +11,8 @@ const T: bool = true;
 
 const F: bool = false;
 
-/// For each byte, whether it is a word byte: the processor can't foresee the branches of comparisons.
+/// For each byte, whether it is a word byte: the processor can't foresee the branches of
+/// comparisons.
 #[tactic(auto, unfolding(crate::specs::Bytes::word_bytes))]
 #[inline(always)]
 fn word_bytes() -> &'static [bool]

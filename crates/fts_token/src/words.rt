@@ -10,7 +10,8 @@ use crate::placed::PlacedWords;
 use crate::raw::RawWords;
 use fts_types::{RowTexts, Settings};
 
-/// The raw words of a text: word bytes that may hold single apostrophes between them, as wide as possible.
+/// The raw words of a text: word bytes that may hold single apostrophes between them, as wide as
+/// possible.
 ///
 /// Source: MySQL 8.0 Reference Manual, "Natural Language Full-Text Searches".
 pub fn raw_words(text: &[u8]) -> RawWords<'_>
@@ -19,8 +20,8 @@ pub fn raw_words(text: &[u8]) -> RawWords<'_>
     RawWords::new(text)
 }
 
-/// The raw words of a row, each with its word number and its position. The row has 1 to 8 columns, of at most
-/// 65,535 bytes together.
+/// The raw words of a row, each with its word number and its position. The row has 1 to 8 columns,
+/// of at most 65,535 bytes together.
 pub fn placed_words(columns: &RowTexts) -> PlacedWords<'_>
     requires { IsRow columns.now }
     ensures { placed_words_left result ≡ placed_words columns.now }
@@ -28,10 +29,11 @@ pub fn placed_words(columns: &RowTexts) -> PlacedWords<'_>
     PlacedWords::new(columns)
 }
 
-/// The indexed words of a row: those of its raw words that are indexable once their letters are lowered. The row has
-/// 1 to 8 columns, of at most 65,535 bytes together.
+/// The indexed words of a row: those of its raw words that are indexable once their letters are
+/// lowered. The row has 1 to 8 columns, of at most 65,535 bytes together.
 ///
-/// Source: MySQL 8.0 Reference Manual, "Fine-Tuning MySQL Full-Text Search" and "Full-Text Stopwords".
+/// Source: MySQL 8.0 Reference Manual, "Fine-Tuning MySQL Full-Text Search" and "Full-Text
+/// Stopwords".
 pub fn indexed_words<'a>(settings: &'a Settings, columns: &'a RowTexts) -> IndexedWords<'a>
     requires { IsRow columns.now }
     ensures { indexed_words_left result ≡ indexed_words (rules_of settings.now) columns.now }

@@ -1,4 +1,4 @@
-use Rattle.std.proofs.Common.{◌≡◌, ◌⊎◌, ℕ, List, [], ◌∷◌, refl, sym, subst, ◌∙◌, inl, inr}
+use Rattle.std.proofs.Common.{◌≡◌, ◌⊎◌, ◌≤◌, ◌^◌, ℕ, List, [], ◌∷◌, length, refl, sym, subst, ◌∙◌, inl, inr}
 use Rattle.std.proofs.lemmas.List.{append-nil}
 use Rattle.std.specs.Prelude.{Result, Ok, Err}
 use Rattle.fts_types.specs.declared.limits.Limits.{Limits}
@@ -50,9 +50,9 @@ module _ {S : Type 0} (steps : Ghosts S) (limits : Limits) (file_of : S → List
     leaves = leaves_on_file outcome (after_all state executes.calls) executes.calls new executes.leaves;
   }
 
-  late_on_file : (start : State) (script : List Line) (n : ℕ) (before now : List ℕ) (old new : S) → steps.limits old ≡ limits
-      → Late steps start script n before now old new → Late (files limits) start script n before now (file_of old) (file_of new)
-  late_on_file start script n before now old new same late = record {
+  late_on_file : (start : State) (script : List Line) (n : ℕ) (left before now : List ℕ) (old new : S) → steps.limits old ≡ limits
+      → Late steps start script n left before now old new → Late (files limits) start script n left before now (file_of old) (file_of new)
+  late_on_file start script n left before now old new same late = record {
     line = late.line;
     ahead = late.ahead;
     middle = file_of late.middle;
@@ -64,11 +64,12 @@ module _ {S : Type 0} (steps : Ghosts S) (limits : Limits) (file_of : S → List
           (late.front.limits ∙ same) late.answers.executes;
       written = late.answers.written;
     };
+    rest = late.rest;
   }
 
-  broken_on_file : (start : State) (script : List Line) (ended : Ended) (before now : List ℕ) (old new : S) → steps.limits old ≡ limits
-      → Broken steps start script ended before now old new → Broken (files limits) start script ended before now (file_of old) (file_of new)
-  broken_on_file start script ended before now old new same broken = record {
+  broken_on_file : (start : State) (script : List Line) (ended : Ended) (left before now : List ℕ) (old new : S) → steps.limits old ≡ limits
+      → Broken steps start script ended left before now old new → Broken (files limits) start script ended left before now (file_of old) (file_of new)
+  broken_on_file start script ended left before now old new same broken = record {
     line = broken.line;
     ahead = broken.ahead;
     middle = file_of broken.middle;
@@ -79,6 +80,7 @@ module _ {S : Type 0} (steps : Ghosts S) (limits : Limits) (file_of : S → List
           (broken.front.limits ∙ same) broken.breaks.executes;
       written = broken.breaks.written;
     };
+    rest = broken.rest;
   }
 
   abbrev stops_on_file : (start : State) (script : List Line) (n : ℕ) (left before now : List ℕ) (old new : S) → steps.limits old ≡ limits
@@ -99,24 +101,25 @@ module _ {S : Type 0} (steps : Ghosts S) (limits : Limits) (file_of : S → List
   outcome_on_file (status.ScriptTooLong lines bytes) start script left before now old new same outcome =
       (stops_on_file start script 1 left before now old new same outcome.0, outcome.1)
   outcome_on_file status.WriteFault start script left before now old new same outcome =
-      (outcome.0, late_on_file start script outcome.0 before now old new same outcome.1)
+      (outcome.0, late_on_file start script outcome.0 left before now old new same outcome.1)
   outcome_on_file status.DiskFault start script left before now old new same outcome =
-      broken_on_file start script DiskFault before now old new same outcome
-  outcome_on_file status.NoMemory start script left before now old new same (inl (ahead, front)) =
-      inl (ahead, front_on_file start script ahead before now old new same front)
+      broken_on_file start script DiskFault left before now old new same outcome
+  outcome_on_file status.NoMemory start script left before now old new same (inl (ahead, front, rest)) =
+      inl (ahead, front_on_file start script ahead before now old new same front, rest)
   outcome_on_file status.NoMemory start script left before now old new same (inr (inl late)) =
-      inr (inl (late_on_file start script 0 before now old new same late))
+      inr (inl (late_on_file start script 0 left before now old new same late))
   outcome_on_file status.NoMemory start script left before now old new same (inr (inr broken)) =
-      inr (inr (broken_on_file start script NoMemory before now old new same broken))
+      inr (inr (broken_on_file start script NoMemory left before now old new same broken))
   outcome_on_file status.Usage start script left before now old new same outcome = absurd outcome
   outcome_on_file status.NotCreated start script left before now old new same outcome = absurd outcome
   outcome_on_file status.AlreadyCreated start script left before now old new same outcome = absurd outcome
   outcome_on_file (status.Damaged device file at) start script left before now old new same outcome = absurd outcome
 
 -- a front of all lines completes the script
-pub completes : (limits : Limits) (start : State) (script before now old new : List ℕ) → Front (files limits) start (lines_of script) [] before now old new
-    → Completes limits start script before now new
-completes limits start script before now old new front = record {
+pub completes : (limits : Limits) (start : State) (script before now old new : List ℕ) → length script ≤ 2 ^ 40
+    → Front (files limits) start (lines_of script) [] before now old new → Completes limits start script before now new
+completes limits start script before now old new short front = record {
+  short = short;
   calls = front.calls;
   text = front.text;
   talks = subst (λ (lines : List Line). Talks start.settings lines front.calls front.text) (sym (front.front ∙ append-nil front.lines)) front.talks;
@@ -125,14 +128,14 @@ completes limits start script before now old new front = record {
   database = front.stands;
 }
 
-completes_or : (result : Status) (limits : Limits) (start : State) (script left before now old new : List ℕ) → result ≡ status.Done
+completes_or : (result : Status) (limits : Limits) (start : State) (script left before now old new : List ℕ) → result ≡ status.Done → length script ≤ 2 ^ 40
     → Outcome (files limits) status.Done start (lines_of script) left before now old new ⊎ ((status.Done ≡ status.DiskFault) × Untouched script left before now old new)
     → Completes limits start script before now new
-completes_or result limits start script left before now old new e (inl outcome) = completes limits start script before now old new outcome.0
-completes_or result limits start script left before now old new e (inr fault) = absurd (let f = fault.0 in cc)
+completes_or result limits start script left before now old new e short (inl outcome) = completes limits start script before now old new short outcome.0
+completes_or result limits start script left before now old new e short (inr fault) = absurd (let f = fault.0 in cc)
 
 -- a run that is done completes the script
-pub done_completes : (result : Status) (limits : Limits) (start : State) (script left before now old new : List ℕ) → result ≡ status.Done
+pub done_completes : (result : Status) (limits : Limits) (start : State) (script left before now old new : List ℕ) → result ≡ status.Done → length script ≤ 2 ^ 40
     → Runs limits result start script left before now old new → Completes limits start script before now new
-done_completes result limits start script left before now old new e runs =
-    completes_or result limits start script left before now old new e (subst (λ (s : Status). Runs limits s start script left before now old new) e runs)
+done_completes result limits start script left before now old new e short runs =
+    completes_or result limits start script left before now old new e short (subst (λ (s : Status). Runs limits s start script left before now old new) e runs)

@@ -116,6 +116,7 @@ module _ {S : Type 0} (steps : Ghosts S) (start : State) (script : List Line) wh
       so_far = so_far;
       front = again ahead (turn.0 ∷ after) before so_far so_far old middle middle front turn.1 refl refl;
       answers = turn.2.1;
+      rest = turn.3;
     },
   )
   ends status.DiskFault ahead after left before so_far now old middle new front turn number =
@@ -126,10 +127,11 @@ module _ {S : Type 0} (steps : Ghosts S) (start : State) (script : List Line) wh
         so_far = so_far;
         front = again ahead (turn.0 ∷ after) before so_far so_far old middle middle front turn.1 refl refl;
         breaks = turn.2;
+        rest = turn.3;
       }
-  ends status.NoMemory ahead after left before so_far now old middle new front (inl turn) number =
-      inl (ahead, again ahead ahead before so_far now old middle new front refl turn.0 turn.1)
-  ends status.NoMemory ahead after left before so_far now old middle new front (inr (line, one, inl answers)) number =
+  ends status.NoMemory ahead after left before so_far now old middle new front (rest, inl turn) number =
+      inl (after, again ahead after before so_far now old middle new front turn.0 turn.1 turn.2, rest)
+  ends status.NoMemory ahead after left before so_far now old middle new front (rest, inr (line, one, inl answers)) number =
       inr (inl (record {
         line = line;
         ahead = after;
@@ -137,8 +139,9 @@ module _ {S : Type 0} (steps : Ghosts S) (start : State) (script : List Line) wh
         so_far = so_far;
         front = again ahead (line ∷ after) before so_far so_far old middle middle front one refl refl;
         answers = answers;
+        rest = rest;
       }))
-  ends status.NoMemory ahead after left before so_far now old middle new front (inr (line, one, inr breaks)) number =
+  ends status.NoMemory ahead after left before so_far now old middle new front (rest, inr (line, one, inr breaks)) number =
       inr (inr (record {
         line = line;
         ahead = after;
@@ -146,6 +149,7 @@ module _ {S : Type 0} (steps : Ghosts S) (start : State) (script : List Line) wh
         so_far = so_far;
         front = again ahead (line ∷ after) before so_far so_far old middle middle front one refl refl;
         breaks = breaks;
+        rest = rest;
       }))
   ends status.Usage ahead after left before so_far now old middle new front turn number = absurd turn
   ends status.NotCreated ahead after left before so_far now old middle new front turn number = absurd turn

@@ -13,7 +13,7 @@ use Rattle.fts_sessions.specs.Execute.{Executes}
 use Rattle.fts_top.specs.declared.status.Status.TheVariants as status
 use Rattle.fts_top.specs.declared.script.Turn.{Turn}
 use Rattle.fts_top.specs.declared.script.Turn.TheVariants.{More, Over}
-use Rattle.fts_top.specs.Run.{Turns, Sends, Tells}
+use Rattle.fts_top.specs.Run.{Turns, Sends, Tells, IsLeft}
 
 module _ {S : Type 0} (steps : Ghosts S) (state : State) where
   -- a line too long makes no step, and has its reply
@@ -22,34 +22,34 @@ module _ {S : Type 0} (steps : Ghosts S) (state : State) where
 
   -- a line whose reply was sent
   pub sent : (turn : Turn) (line : Line) (reply : Reply) (ahead after : List Line) (left before now : List ℕ) (old new : S)
-      → ahead ≡ line ∷ after → Executes steps state line old (Ok reply) new → Sends turn reply before now
+      → ahead ≡ line ∷ after → Executes steps state line old (Ok reply) new → Sends turn reply before now → IsLeft after left
       → Turns steps turn state ahead after left before now old new
-  sent More line reply ahead after left before now old new one executes sends = (line, one, (reply, executes, sends))
-  sent (Over status.WriteFault) line reply ahead after left before now old new one executes sends =
-      (line, one, (sends.0, record { reply = reply; executes = executes; written = sends.1 }))
-  sent (Over status.NoMemory) line reply ahead after left before now old new one executes sends =
-      inr (line, one, inl (record { reply = reply; executes = executes; written = sends ∙ sym (append-nil before) }))
-  sent (Over status.Done) line reply ahead after left before now old new one executes sends = absurd sends
-  sent (Over status.ReadFault) line reply ahead after left before now old new one executes sends = absurd sends
-  sent (Over (status.ScriptTooLong lines bytes)) line reply ahead after left before now old new one executes sends = absurd sends
-  sent (Over status.DiskFault) line reply ahead after left before now old new one executes sends = absurd sends
-  sent (Over status.Usage) line reply ahead after left before now old new one executes sends = absurd sends
-  sent (Over status.NotCreated) line reply ahead after left before now old new one executes sends = absurd sends
-  sent (Over status.AlreadyCreated) line reply ahead after left before now old new one executes sends = absurd sends
-  sent (Over (status.Damaged device file at)) line reply ahead after left before now old new one executes sends = absurd sends
+  sent More line reply ahead after left before now old new one executes sends rest = (line, one, (reply, executes, sends))
+  sent (Over status.WriteFault) line reply ahead after left before now old new one executes sends rest =
+      (line, one, (sends.0, record { reply = reply; executes = executes; written = sends.1 }), rest)
+  sent (Over status.NoMemory) line reply ahead after left before now old new one executes sends rest =
+      (rest, inr (line, one, inl (record { reply = reply; executes = executes; written = sends ∙ sym (append-nil before) })))
+  sent (Over status.Done) line reply ahead after left before now old new one executes sends rest = absurd sends
+  sent (Over status.ReadFault) line reply ahead after left before now old new one executes sends rest = absurd sends
+  sent (Over (status.ScriptTooLong lines bytes)) line reply ahead after left before now old new one executes sends rest = absurd sends
+  sent (Over status.DiskFault) line reply ahead after left before now old new one executes sends rest = absurd sends
+  sent (Over status.Usage) line reply ahead after left before now old new one executes sends rest = absurd sends
+  sent (Over status.NotCreated) line reply ahead after left before now old new one executes sends rest = absurd sends
+  sent (Over status.AlreadyCreated) line reply ahead after left before now old new one executes sends rest = absurd sends
+  sent (Over (status.Damaged device file at)) line reply ahead after left before now old new one executes sends rest = absurd sends
 
   -- a line that was executed and told
   pub told : (turn : Turn) (line : Line) (outcome : Result Reply Ended) (ahead after : List Line) (left before now : List ℕ) (old new : S)
-      → ahead ≡ line ∷ after → Executes steps state line old outcome new → Tells turn outcome before now
+      → ahead ≡ line ∷ after → Executes steps state line old outcome new → Tells turn outcome before now → IsLeft after left
       → Turns steps turn state ahead after left before now old new
-  told turn line (Ok reply) ahead after left before now old new one executes tells =
-      sent turn line reply ahead after left before now old new one executes tells
-  told turn line (Err NoMemory) ahead after left before now old new one executes tells =
+  told turn line (Ok reply) ahead after left before now old new one executes tells rest =
+      sent turn line reply ahead after left before now old new one executes tells rest
+  told turn line (Err NoMemory) ahead after left before now old new one executes tells rest =
       subst (λ (t : Turn). Turns steps t state ahead after left before now old new) (sym tells.0)
-      (inr (line, one, inr (record { executes = executes; written = tells.1 })))
-  told turn line (Err DiskFault) ahead after left before now old new one executes tells =
+      (rest, inr (line, one, inr (record { executes = executes; written = tells.1 })))
+  told turn line (Err DiskFault) ahead after left before now old new one executes tells rest =
       subst (λ (t : Turn). Turns steps t state ahead after left before now old new) (sym tells.0)
-      (line, one, record { executes = executes; written = tells.1 })
+      (line, one, record { executes = executes; written = tells.1 }, rest)
 
   -- where a line has its reply the engine stands for a state again
   pub stands_on : (line : Line) (outcome : Result Reply Ended) (old new : S) → IsOk outcome → Executes steps state line old outcome new

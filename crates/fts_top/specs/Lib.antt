@@ -2,3 +2,4 @@ pub mod Talk
 pub mod Run
 pub mod Once
 pub mod Number
+pub mod StatusText

@@ -8,7 +8,8 @@ use Rattle.fts_sessions.specs.Request.{Request, IsRequest}
 use Rattle.fts_sessions.specs.Conversation.{Converses}
 
 -- a line makes the first of these steps and gives the first part of the text, and then the rest follows
-pub record First (settings : Settings) (line : Line) (Rest : List Call → List ℕ → Type 0) (calls : List Call) (text : List ℕ) : Type 0 where
+pub record First (settings : Settings) (line : Line) (Rest : List Call → List ℕ → Type 0) (calls : List Call)
+    (text : List ℕ) : Type 0 where
   pub request : Request
   pub here : List Call
   pub more : List Call

@@ -1,4 +1,5 @@
-//! The whole program but for its outside: words and a script come in, replies and a status come out.
+//! The whole program but for its outside: words and a script come in, replies and a status come
+//! out.
 #![tactic(auto)]
 
 mod once;

@@ -1,9 +1,11 @@
-ghost use Rattle.std.specs.Prelude.{◌≡◌, ◌⊎◌, ◌^◌, ◌<◌, ◌≤◌, ◌+◌, ℕ, [], IsTrue, IsOk, Err, length};
-ghost use Rattle.fts_faults.specs.Count.{Rose};
+ghost use Rattle.std.specs.Prelude.{◌≡◌, ◌⊎◌, ◌^◌, ◌<◌, ◌≤◌, ◌+◌, ◌↔◌, ℕ, [], IsTrue, IsOk, Err};
+ghost use Rattle.std.specs.Prelude.{length};
+ghost use Rattle.fts_faults.specs.Count.{CountsFault};
 ghost use Rattle.fts_io.specs.Text.{lines_of};
 ghost use Rattle.fts_io.specs.Reading.{ahead, given_by, taken_by, work_left};
 ghost use Rattle.fts_steps.specs.State.{State};
-ghost use Rattle.fts_top.specs.Run.{Outcome, Turns, PassesLimit, Tells, Sends, EndsRun, GoesOnOrEnds};
+ghost use Rattle.fts_top.specs.Run.{Outcome, Turns, PassesLimit, Tells, Sends, EndsRun};
+ghost use Rattle.fts_top.specs.Run.{GoesOnOrEnds};
 
 use crate::Status;
 use fts_io::{Gate, Lines, Next, Sink, Source, write_whole};
@@ -17,7 +19,8 @@ pub enum Turn {
     Over(Status),
 }
 
-/// Executes the lines of the source in order. Each reply is written before the next line is executed.
+/// Executes the lines of the source in order. Each reply is written before the next line is
+/// executed.
 pub fn run<I: Source, O: Sink, S: EngineSteps, G: Gate>(
     alloc: Global,
     input: &mut I,
@@ -25,14 +28,19 @@ pub fn run<I: Source, O: Sink, S: EngineSteps, G: Gate>(
     steps: &mut S,
     gate: &G,
 ) -> Status
-    requires ready { IsTrue S.tells → (state : State) × S.stands state steps.old }
-    ensures runs { IsTrue I.tells → IsTrue O.tells → IsTrue S.tells → (start : State) → S.stands start steps.old
-        → Outcome S.EngineSteps result start (lines_of (I.left input.old)) (I.left input.new) (O.holds out.old) (O.holds out.new) steps.old steps.new }
+    ensures runs { IsTrue I.tells → IsTrue O.tells → IsTrue S.tells → (start : State)
+        → S.stands start steps.old
+        → Outcome S.EngineSteps result start (lines_of (I.left input.old)) (I.left input.new)
+        (O.holds out.old) (O.holds out.new) steps.old steps.new }
     ensures ends { EndsRun result }
-    ensures read { result ≡ Status.ReadFault → Rose (I.faults input.old) (I.faults input.new) }
-    ensures write { result ≡ Status.WriteFault → Rose (O.faults out.old) (O.faults out.new) }
-    ensures disk { result ≡ Status.DiskFault → Rose (S.faults steps.old) (S.faults steps.new) }
-    ensures too_long { (lines bytes : ℕ) → result ≡ Status.ScriptTooLong lines bytes → IsTrue I.tells → PassesLimit bytes (I.left input.old) (I.left input.new) }
+    ensures read { CountsFault (result ≡ Status.ReadFault) (I.faults input.old)
+        (I.faults input.new) }
+    ensures write { CountsFault (result ≡ Status.WriteFault) (O.faults out.old) (O.faults out.new) }
+    ensures disk { CountsFault (result ≡ Status.DiskFault) (S.faults steps.old)
+        (S.faults steps.new) }
+    ensures too_long { (lines bytes : ℕ) → result ≡ Status.ScriptTooLong lines bytes
+        → IsTrue I.tells
+        → PassesLimit bytes (I.left input.old) (I.left input.new) }
     ensures whole { IsTrue I.tells → result ≡ Status.Done → length (I.left input.old) ≤ 2 ^ 40 }
 {
     let mut lines = match Lines::new(alloc) {
@@ -58,25 +66,28 @@ fn one_line<I: Source, O: Sink, S: EngineSteps, G: Gate>(
     steps: &mut S,
     gate: &G,
 ) -> Turn
-    requires ready { IsTrue S.tells → (state : State) × S.stands state steps.old }
-    ensures turns { IsTrue I.tells → IsTrue O.tells → IsTrue S.tells → (state : State) → S.stands state steps.old
-        → Turns S.EngineSteps result state (ahead lines.old (I.left input.old)) (ahead lines.new (I.left input.new)) (I.left input.new)
+    ensures turns { IsTrue I.tells → IsTrue O.tells → IsTrue S.tells → (state : State)
+        → S.stands state steps.old
+        → Turns S.EngineSteps result state
+        (ahead lines.old (I.left input.old)) (ahead lines.new (I.left input.new)) (I.left input.new)
         (O.holds out.old) (O.holds out.new) steps.old steps.new }
     ensures ends { GoesOnOrEnds result }
-    ensures ready { IsTrue S.tells → (state : State) → S.stands state steps.old → result ≡ Turn.More → (after : State) × S.stands after steps.new }
     ensures limits { S.limits steps.new ≡ S.limits steps.old }
     ensures progress { result ≡ Turn.More → work_left lines.new < work_left lines.old }
-    ensures counts { IsTrue I.tells → taken_by lines.new + length (I.left input.new) ≡ taken_by lines.old + length (I.left input.old) }
-    ensures read { result ≡ Turn.Over Status.ReadFault → Rose (I.faults input.old) (I.faults input.new) }
-    ensures write { result ≡ Turn.Over Status.WriteFault → Rose (O.faults out.old) (O.faults out.new) }
-    ensures disk { result ≡ Turn.Over Status.DiskFault → Rose (S.faults steps.old) (S.faults steps.new) }
+    ensures counts { IsTrue I.tells
+        → taken_by lines.new + length (I.left input.new)
+        ≡ taken_by lines.old + length (I.left input.old) }
+    ensures read { CountsFault (result ≡ Turn.Over Status.ReadFault)
+        (I.faults input.old) (I.faults input.new) }
+    ensures write { CountsFault (result ≡ Turn.Over Status.WriteFault)
+        (O.faults out.old) (O.faults out.new) }
+    ensures disk { CountsFault (result ≡ Turn.Over Status.DiskFault)
+        (S.faults steps.old) (S.faults steps.new) }
     ensures given { result ≡ Turn.More → given_by lines.new ≡ given_by lines.old + 1 }
     ensures too_long { (number bytes : ℕ) → result ≡ Turn.Over (Status.ScriptTooLong number bytes)
         → (number ≡ given_by lines.old) × (bytes ≡ taken_by lines.new) × (2 ^ 40 < bytes) }
-    ensures whole { IsTrue I.tells → result ≡ Turn.Over Status.Done → (I.left input.new ≡ []) × (taken_by lines.new ≤ 2 ^ 40) }
-    ensures input_never_falls { I.faults input.old ≤ I.faults input.new }
-    ensures out_never_falls { O.faults out.old ≤ O.faults out.new }
-    ensures steps_never_fall { S.faults steps.old ≤ S.faults steps.new }
+    ensures whole { IsTrue I.tells → result ≡ Turn.Over Status.Done
+        → (I.left input.new ≡ []) × (taken_by lines.new ≤ 2 ^ 40) }
 {
     match lines.next_line(input) {
         Next::Line(line) => answer(alloc, out, session.execute(steps, gate, &line)),
@@ -96,12 +107,13 @@ fn answer<O: Sink>(alloc: Global, out: &mut O, outcome: Result<Reply, Ended>) ->
     ensures ends { GoesOnOrEnds result }
     ensures replied { result ≡ Turn.More → IsOk outcome }
     ensures tells { IsTrue O.tells → Tells result outcome (O.holds out.old) (O.holds out.new) }
-    ensures write { result ≡ Turn.Over Status.WriteFault → Rose (O.faults out.old) (O.faults out.new) }
-    ensures never_falls { O.faults out.old ≤ O.faults out.new }
+    ensures write { CountsFault (result ≡ Turn.Over Status.WriteFault)
+        (O.faults out.old) (O.faults out.new) }
     ensures done { result ≡ Turn.Over Status.Done → ⊥ }
     ensures read { result ≡ Turn.Over Status.ReadFault → ⊥ }
-    ensures too_long { (number bytes : ℕ) → result ≡ Turn.Over (Status.ScriptTooLong number bytes) → ⊥ }
-    ensures disk { result ≡ Turn.Over Status.DiskFault → outcome ≡ Err Ended.DiskFault }
+    ensures too_long { (number bytes : ℕ) → result ≡ Turn.Over (Status.ScriptTooLong number bytes)
+        → ⊥ }
+    ensures disk { (result ≡ Turn.Over Status.DiskFault) ↔ (outcome ≡ Err Ended.DiskFault) }
 {
     match outcome {
         Ok(reply) => send(alloc, out, &reply),
@@ -114,11 +126,12 @@ fn answer<O: Sink>(alloc: Global, out: &mut O, outcome: Result<Reply, Ended>) ->
 fn send<O: Sink>(alloc: Global, out: &mut O, reply: &Reply) -> Turn
     ensures ends { GoesOnOrEnds result }
     ensures sends { IsTrue O.tells → Sends result reply.now (O.holds out.old) (O.holds out.new) }
-    ensures write { result ≡ Turn.Over Status.WriteFault → Rose (O.faults out.old) (O.faults out.new) }
-    ensures never_falls { O.faults out.old ≤ O.faults out.new }
+    ensures write { CountsFault (result ≡ Turn.Over Status.WriteFault)
+        (O.faults out.old) (O.faults out.new) }
     ensures done { result ≡ Turn.Over Status.Done → ⊥ }
     ensures read { result ≡ Turn.Over Status.ReadFault → ⊥ }
-    ensures too_long { (number bytes : ℕ) → result ≡ Turn.Over (Status.ScriptTooLong number bytes) → ⊥ }
+    ensures too_long { (number bytes : ℕ) → result ≡ Turn.Over (Status.ScriptTooLong number bytes)
+        → ⊥ }
     ensures disk { result ≡ Turn.Over Status.DiskFault → ⊥ }
 {
     let text = match reply_text(alloc, reply) {

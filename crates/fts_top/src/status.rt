@@ -1,5 +1,6 @@
-ghost use Rattle.std.specs.Prelude.{◌≡◌};
+ghost use Rattle.std.specs.Prelude.{◌≡◌, Some};
 ghost use Rattle.fts_top.specs.Number.{number_of};
+ghost use Rattle.fts_top.specs.StatusText.{device_text, status_text};
 
 use std::fmt;
 
@@ -36,6 +37,8 @@ pub enum Device {
 }
 
 impl fmt::Display for Device {
+    ghost output = { λ device. Some (device_text device) };
+
     fn fmt<W: fmt::Write>(&self, f: &mut fmt::Formatter<W>) -> fmt::Result {
         f.write_str(match self {
             Device::Rows => "rows",
@@ -65,6 +68,8 @@ impl Status {
 }
 
 impl fmt::Display for Status {
+    ghost output = { λ status. Some (status_text status) };
+
     fn fmt<W: fmt::Write>(&self, f: &mut fmt::Formatter<W>) -> fmt::Result {
         match self {
             Status::Done => write!(f, "done"),

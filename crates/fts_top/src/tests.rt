@@ -1,6 +1,7 @@
 mod calling;
 mod columns;
 mod commands;
+mod damage;
 mod faults;
 mod limits;
 mod runs;

@@ -99,12 +99,13 @@ module _ {T E : Type 0} where
     pub holds_nothing : seat.inside.me.1 ≡ []
 
   -- a seat that waited with this ticket has the turn, and the value is still in the slot
-  pub record IsServedAt (stands_for : T → T → List E → Type 0) (by : E → ℕ) (ticket : ℕ) (old new : Seat T E) : Type 0 where
-    pub table : new.inside.table_id ≡ old.inside.table_id
-    pub early : ticket < 2 ^ 63
-    pub account : Account T E
-    pub one : old.inside.me.0.accounts ≡ account ∷ []
-    pub takes : TakesTurn stands_for by ticket account old.inside.me new.inside.me
+  pub record IsServedAt (stands_for : T → T → List E → Type 0) (by : E → ℕ) (ticket : ℕ) (old new : Seat T E) : Type 0
+    where
+      pub table : new.inside.table_id ≡ old.inside.table_id
+      pub early : ticket < 2 ^ 63
+      pub account : Account T E
+      pub one : old.inside.me.0.accounts ≡ account ∷ []
+      pub takes : TakesTurn stands_for by ticket account old.inside.me new.inside.me
 
   -- what a seat knew at the end of this history: a beginning of it, and all entries of its number
   pub record IsToldBy (by : E → ℕ) (history : List E) (number : ℕ) (seat : Seat T E) : Type 0 where
@@ -121,7 +122,8 @@ abbrev pub AreAccountsOf : {T E : Type 0} → ℕ → List (Account T E) → Lis
 AreAccountsOf k [] [] = Unit {0}
 AreAccountsOf k [] (seat ∷ seats) = ⊥
 AreAccountsOf k (a ∷ accounts) [] = ⊥
-AreAccountsOf k (a ∷ accounts) (seat ∷ seats) = (a.number ≡ k) × (a.seen ≡ seat_seen seat) × (a.gave ≡ seat_gave seat) × AreAccountsOf (suc k) accounts seats
+AreAccountsOf k (a ∷ accounts) (seat ∷ seats) = (a.number ≡ k) × (a.seen ≡ seat_seen seat) × (a.gave ≡ seat_gave seat)
+    × AreAccountsOf (suc k) accounts seats
 
 -- one seat, at rest, with the accounts of all
 pub record IsGathered {T E : Type 0} (turn : Turn T E) (seats : List (Seat T E)) (all : Seat T E) : Type 0 where
@@ -132,7 +134,8 @@ pub record IsGathered {T E : Type 0} (turn : Turn T E) (seats : List (Seat T E))
   pub made : all.inside.me.0.next_number ≡ seats_of turn
 
 -- the value at the end stands for one history, which has the entries of these seats and no others
-pub record HasWholeHistory {T E : Type 0} (stands_for : T → T → List E → Type 0) (by : E → ℕ) (turn : Turn T E) (seats : List (Seat T E)) (value : T) : Type 0 where
+pub record HasWholeHistory {T E : Type 0} (stands_for : T → T → List E → Type 0) (by : E → ℕ) (turn : Turn T E)
+    (seats : List (Seat T E)) (value : T) : Type 0 where
   pub history : List E
   pub stands : stands_for (opening_of turn) value history
   pub seats_are : Numbered (IsToldBy by history) 0 seats

@@ -17,7 +17,8 @@ module _ {T E : Type 0} where
   Draws m found m' = m' ≡ (waiting m.0 found, m.1)
 
   -- the ticket is served, and its seat holds a value that stands for a history which begins with all that it had seen
-  pub record TakesTurn (stands_for : T → T → List E → Type 0) (by : E → ℕ) (ticket : ℕ) (a : Account T E) (m m' : Seated T E) : Type 0 where
+  pub record TakesTurn (stands_for : T → T → List E → Type 0) (by : E → ℕ) (ticket : ℕ) (a : Account T E)
+      (m m' : Seated T E) : Type 0 where
     pub value : T
     pub history : List E
     pub stands : stands_for a.origin value history
@@ -28,7 +29,8 @@ module _ {T E : Type 0} where
   -- where its own ticket is served, it has the turn; and else nothing changes
   abbrev pub Looks : (T → T → List E → Type 0) → (E → ℕ) → Seated T E → ℕ → Seated T E → Type 0
   Looks stands_for by m found m' = (ticket : ℕ) (a : Account T E) → m.0.stage ≡ Waits ticket → m.0.accounts ≡ a ∷ []
-      → (found ≡ ticket → ticket < 2 ^ 63 → TakesTurn stands_for by ticket a m m') × (¬ ((found ≡ ticket) × (ticket < 2 ^ 63)) → m' ≡ m)
+      → (found ≡ ticket → ticket < 2 ^ 63 → TakesTurn stands_for by ticket a m m')
+      × (¬ ((found ≡ ticket) × (ticket < 2 ^ 63)) → m' ≡ m)
 
   -- it gave these entries
   abbrev pub Raises : List E → Seated T E → Seated T E → Type 0

@@ -32,7 +32,14 @@ module _ {T E : Type 0} where
 
   -- the first seat, which makes the others
   abbrev pub first_view : T → View T E
-  first_view origin = record { accounts = new_account origin 0 [] ∷ []; stage = Rests; next_number = 1; seats_left = MOST_SEATS - 1; turns = 0 }
+  first_view origin = record {
+    accounts = new_account origin 0 [] ∷ [];
+    stage = Rests;
+    next_number = 1;
+    seats_left =
+        MOST_SEATS - 1;
+    turns = 0;
+  }
 
   -- it drew this ticket
   abbrev pub waiting : View T E → ℕ → View T E
@@ -61,11 +68,25 @@ module _ {T E : Type 0} where
 
   -- the next seat, which makes those after it
   abbrev pub new_part : View T E → View T E
-  new_part v = record { accounts = account_beside v.next_number v.accounts; stage = Rests; next_number = v.next_number + 1; seats_left = v.seats_left - 1; turns = 0 }
+  new_part v = record {
+    accounts = account_beside v.next_number v.accounts;
+    stage = Rests;
+    next_number =
+        v.next_number + 1;
+    seats_left = v.seats_left - 1;
+    turns = 0;
+  }
 
   -- one seat with the accounts of two
   abbrev pub both_parts : View T E → View T E → View T E
-  both_parts v w = record { accounts = v.accounts ++ w.accounts; stage = v.stage; next_number = v.next_number + w.next_number; seats_left = v.seats_left + w.seats_left; turns = v.turns + w.turns }
+  both_parts v w = record {
+    accounts = v.accounts ++ w.accounts;
+    stage = v.stage;
+    next_number =
+        v.next_number + w.next_number;
+    seats_left = v.seats_left + w.seats_left;
+    turns = v.turns + w.turns;
+  }
 
   -- a seat that was taken in by another: it has no account and no ticket
   abbrev pub spent_part : View T E

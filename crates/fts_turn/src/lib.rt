@@ -1,11 +1,13 @@
-//! The turn: one value that many threads use, one at a time, in the order in which they asked for it.
+//! The turn: one value that many threads use, one at a time, in the order in which they asked for
+//! it.
 //!
-//! Each thread has a [`Seat`] at the [`Turn`]. `take` draws a ticket, waits until that ticket is served, and hands out
-//! the value; `give` puts the value back and serves the next ticket. All changes of the value form one history, of
-//! which each seat knows a beginning: what it had seen when it last had the turn. A seat takes no bytes, and may be
-//! sent to another thread.
+//! Each thread has a [`Seat`] at the [`Turn`]. `take` draws a ticket, waits until that ticket is
+//! served, and hands out the value; `give` puts the value back and serves the next ticket. All
+//! changes of the value form one history, of which each seat knows a beginning: what it had seen
+//! when it last had the turn. A seat takes no bytes, and may be sent to another thread.
 //!
-//! No proof claims waiting, fairness or wake-ups: `take` may wait for ever, and what it promises holds if it returns.
+//! No proof claims waiting, fairness or wake-ups: `take` may wait for ever, and what it promises
+//! holds if it returns.
 #![tactic(auto)]
 
 mod historied;

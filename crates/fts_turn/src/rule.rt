@@ -12,7 +12,8 @@ impl<T: Historied> TableRule<Option<T>, View<T, T::Entry>, Snapshot<T>> for InTu
     ghost use Rattle.fts_turn.specs.Rule.{IsKept};
     ghost use Rattle.fts_turn.specs.Views.{first_view};
 
-    ghost holds = { λ key s. IsKept T.stands_for T.at_first T.by key.value s.words s.homes s.views };
+    ghost holds = { λ key s.
+        IsKept T.stands_for T.at_first T.by key.value s.words s.homes s.views };
 
     ghost first = { λ key. first_view key.value };
 }

@@ -1,7 +1,9 @@
 //! A counter that threads raise under the turn.
-ghost use Rattle.std.specs.Prelude.{◌≡◌, ◌+◌, ◌^◌, ◌<◌, ◌≤◌, ◌++◌, ℕ, List, length, sum_by, vec_capacity, IfSome};
+ghost use Rattle.std.specs.Prelude.{◌≡◌, ◌+◌, ◌^◌, ◌<◌, ◌≤◌, ◌++◌, ℕ, List, length, sum_by};
+ghost use Rattle.std.specs.Prelude.{vec_capacity, IfSome};
 ghost use Rattle.fts_turn.specs.Histories.{Begins};
-ghost use Rattle.fts_turn.specs.Promises.{seat_number, seat_gave, seat_seen, seats_of, opening_of, IsAtRest, IsSameSeat, IsSeat, Numbered};
+ghost use Rattle.fts_turn.specs.Promises.{seat_number, seat_gave, seat_seen, seats_of, opening_of};
+ghost use Rattle.fts_turn.specs.Promises.{IsAtRest, IsSameSeat, IsSeat, Numbered};
 ghost use denote.Param.Send.{IsSync};
 
 use super::*;
@@ -31,7 +33,8 @@ impl Historied for Counter {
 
     type Entry = Raise;
 
-    ghost stands_for = { λ first now raises. (now.count ≡ first.count + length raises) × (now.count < 2 ^ 63) };
+    ghost stands_for = { λ first now raises. (now.count ≡ first.count + length raises)
+        × (now.count < 2 ^ 63) };
 
     ghost at_first = { λ c. c.count };
 
@@ -97,7 +100,9 @@ fn raise_together<R: Threads + Wait + Sync>(
         rt,
         move || -> Vec<Seat<Counter>>
             requires { IsSync R.row × Numbered (IsSeat turn.now) 0 seats.items }
-            ensures { Numbered (IsSeat turn.entry.now) 0 result.items × (length result.items ≡ length seats.items) × (vec_capacity seats ≤ vec_capacity result) }
+            ensures { Numbered (IsSeat turn.entry.now) 0 result.items
+                × (length result.items ≡ length seats.items)
+                × (vec_capacity seats ≤ vec_capacity result) }
         { raise_together(rt, turn, seats, times) },
         move || -> Seat<Counter>
             requires { IsAtRest turn.now last }
@@ -108,7 +113,8 @@ fn raise_together<R: Threads + Wait + Sync>(
     others
 }
 
-// A seat raises it here, then in another thread, and then here again. What it had seen begins what it sees.
+// A seat raises it here, then in another thread, and then here again. What it had seen begins what
+// it sees.
 fn raise_elsewhere<R: Threads + Wait + Sync>(
     rt: &R,
     turn: &Turn<Counter>,
@@ -125,7 +131,8 @@ fn raise_elsewhere<R: Threads + Wait + Sync>(
         || {},
         move || -> Seat<Counter>
             requires { IsAtRest turn.now seat }
-            ensures { IsAtRest turn.entry.now result × IsSameSeat seat result × Begins (seat_seen seat) (seat_seen result) }
+            ensures { IsAtRest turn.entry.now result × IsSameSeat seat result
+                × Begins (seat_seen seat) (seat_seen result) }
         { raise_often(rt, turn, seat, 1) },
     );
     raise_once(rt, turn, &mut seat);
@@ -136,7 +143,8 @@ fn raise_elsewhere<R: Threads + Wait + Sync>(
 fn total(turn: Turn<Counter>, seats: Vec<Seat<Counter>>) -> u64
     requires count { length seats.items ≡ seats_of turn }
     requires seats { Numbered (IsSeat turn) 0 seats.items }
-    ensures { result ≡ (opening_of turn).count + sum_by (λ seat. length (seat_gave seat)) seats.items }
+    ensures { result ≡ (opening_of turn).count + sum_by (λ seat. length (seat_gave seat))
+        seats.items }
 {
     turn.close(seats).count
 }

@@ -1,5 +1,6 @@
 //! The turn.
-ghost use Rattle.std.specs.Prelude.{◌≡◌, ◌+◌, ◌<◌, ◌≤◌, ◌++◌, [], ◌∷◌, length, vec_len, vec_capacity, IfOk, IfErr};
+ghost use Rattle.std.specs.Prelude.{◌≡◌, ◌+◌, ◌<◌, ◌≤◌, ◌++◌, [], ◌∷◌, length, vec_len};
+ghost use Rattle.std.specs.Prelude.{vec_capacity, IfOk, IfErr};
 
 use crate::MOST_SEATS;
 use crate::historied::{Adds, Historied};
@@ -11,7 +12,8 @@ use std::alloc::{AllocFailed, Global};
 use std::snapshot::Snapshot;
 use std::sync::Wait;
 
-// The words of the table: the next ticket to be drawn, the ticket that is served, and the count of all entries.
+// The words of the table: the next ticket to be drawn, the ticket that is served, and the count of
+// all entries.
 const TICKET: usize = 0;
 
 const SERVING: usize = 1;
@@ -38,9 +40,13 @@ pub struct Turn<T: Historied> {
 
 impl<T: Historied> Turn<T> {
     ghost use Rattle.fts_turn.specs.Histories.{Begins, entries_by, AllBy};
-    ghost use Rattle.fts_turn.specs.Promises.{seat_number, seat_gave, seat_seen, seat_turns, seats_of, opening_of, IsAtRest, HasItsTurn, IsSameSeat, IsUnused, IsSeat, IsMaker, IsWaiting, IsServedAt, IsGathered, Numbered, HasWholeHistory};
+    ghost use Rattle.fts_turn.specs.Promises.{seat_number, seat_gave, seat_seen, seat_turns};
+    ghost use Rattle.fts_turn.specs.Promises.{seats_of, opening_of, IsAtRest, HasItsTurn};
+    ghost use Rattle.fts_turn.specs.Promises.{IsSameSeat, IsUnused, IsSeat, IsMaker, IsWaiting};
+    ghost use Rattle.fts_turn.specs.Promises.{IsServedAt, IsGathered, Numbered, HasWholeHistory};
 
-    /// A turn with this value, and its seats, with numbers from 0 on in their order. There are 1 to 18 seats.
+    /// A turn with this value, and its seats, with numbers from 0 on in their order. There are 1 to
+    /// 18 seats.
     ///
     /// At `Err` there was no memory, and the value comes back.
     pub fn make(alloc: Global, value: T, seats: usize) -> Result<(Turn<T>, Vec<Seat<T>>), T>
@@ -104,15 +110,16 @@ impl<T: Historied> Turn<T> {
     ///
     /// It may wait for ever: while another seat keeps the turn, or after 2^63 turns.
     ///
-    /// The value stands for a history that begins with all that the seat had seen. Of the seat's own entries the
-    /// history has those that it gave, each once.
+    /// The value stands for a history that begins with all that the seat had seen. Of the seat's
+    /// own entries the history has those that it gave, each once.
     pub fn take<R: Wait>(&self, rt: &R, seat: &mut Seat<T>) -> T
         requires { IsAtRest self.now seat.old }
 
         ensures turn { HasItsTurn self.now seat.new }
         ensures stands { T.stands_for (opening_of self.now) result (seat_seen seat.new) }
         ensures seen { Begins (seat_seen seat.old) (seat_seen seat.new) }
-        ensures own { entries_by T.by (seat_number seat.new) (seat_seen seat.new) ≡ seat_gave seat.new }
+        ensures own { entries_by T.by (seat_number seat.new) (seat_seen seat.new)
+            ≡ seat_gave seat.new }
 
         ensures same { IsSameSeat seat.old seat.new }
         ensures gave { seat_gave seat.new ≡ seat_gave seat.old }
@@ -143,7 +150,8 @@ impl<T: Historied> Turn<T> {
         unreachable!()
     }
 
-    /// Puts the value back, with `added` entries more, and lets the next seat have the turn. The seat has the turn.
+    /// Puts the value back, with `added` entries more, and lets the next seat have the turn. The
+    /// seat has the turn.
     ///
     /// `B` names the entries, all of this seat's number. It takes no memory and waits for nobody.
     pub fn give<B: Adds<T::Entry>>(&self, seat: &mut Seat<T>, value: T, added: u64)
@@ -169,10 +177,11 @@ impl<T: Historied> Turn<T> {
         words.wake_all(SERVING);
     }
 
-    /// Hands out the value at the end. The seats are all that `make` gave, in their order, and each is at rest.
+    /// Hands out the value at the end. The seats are all that `make` gave, in their order, and each
+    /// is at rest.
     ///
-    /// The value stands for one history. What each seat has seen begins it, and it has the entries that the seats gave
-    /// and no others. It takes no memory and waits for nobody.
+    /// The value stands for one history. What each seat has seen begins it, and it has the entries
+    /// that the seats gave and no others. It takes no memory and waits for nobody.
     pub fn close(self, seats: Vec<Seat<T>>) -> T
         requires count { length seats.items ≡ seats_of self }
         requires seats { Numbered (IsSeat self) 0 seats.items }

@@ -19,7 +19,8 @@ pub struct Account<T, E> {
     pub seen: LinkedList<E>,
 }
 
-/// What a seat knows. It has its own account; one that took in others has theirs too, and a spent one has none.
+/// What a seat knows. It has its own account; one that took in others has theirs too, and a spent
+/// one has none.
 pub struct View<T, E> {
     pub accounts: LinkedList<Account<T, E>>,
     pub stage: Stage,

@@ -1,4 +1,5 @@
-use Rattle.std.specs.Prelude.{◌≡◌, ℕ, Bool, ◌&&◌, ◌||◌, ◌==◌, not, nat_lt, true, false, if◌then◌else◌, List, [], ◌∷◌, length, codes, Option, Some, None}
+use Rattle.std.specs.Prelude.{◌≡◌, ℕ, Bool, ◌&&◌, ◌||◌, ◌==◌, not, nat_lt, true, false, if◌then◌else◌, List, [], ◌∷◌}
+use Rattle.std.specs.Prelude.{length, codes, Option, Some, None}
 use Rattle.std.specs.List.{list_all, list_any}
 use Rattle.std.specs.Int.{is_in_range}
 use Rattle.std.specs.Char.{is_ascii_digit, is_ascii_lowercase}
@@ -44,7 +45,8 @@ is_right BatchDocs settings = is_in_range 1 100000 settings.batch_docs
 -- the first of these fields that has a value that it may not have
 abbrev pub first_wrong_of : List Field → Settings → Option Field
 first_wrong_of [] settings = None
-first_wrong_of (field ∷ fields) settings = if is_right field settings then first_wrong_of fields settings else Some field
+first_wrong_of (field ∷ fields) settings = if is_right field settings then first_wrong_of fields settings else Some
+    field
 
 -- the first field that has a value that it may not have
 abbrev pub first_wrong : Settings → Option Field

@@ -1,7 +1,8 @@
 use Rattle.std.specs.Prelude.{ℕ, List, if◌then◌else◌, slice_index}
 use Rattle.std.specs.Int.{is_in_range}
 
--- the table of words that begin with this byte: `a` to `e`, `f` to `j`, `k` to `o`, `p` to `t`, `u` to `z`, and the rest
+-- the table of words that begin with this byte: `a` to `e`, `f` to `j`, `k` to `o`, `p` to `t`, `u` to `z`, and the
+-- rest
 abbrev pub table_of_byte : ℕ → ℕ
 table_of_byte byte =
     if is_in_range 97 101 byte then 2

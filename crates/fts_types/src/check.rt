@@ -31,7 +31,8 @@ impl Field {
     }
 }
 
-/// Settings that no database can have: the first field, in their order, with a value that it may not have.
+/// Settings that no database can have: the first field, in their order, with a value that it may
+/// not have.
 #[derive(Clone, Copy, Debug, PartialEq, Eq)]
 pub struct BadSettings {
     pub field: Field,
@@ -86,8 +87,9 @@ const FIELDS: [Field; 6] = [
 ];
 
 impl Settings {
-    /// Whether a database can have these settings: 1 to 8 columns of distinct names, `min` from 1 to 16, `max` from 10
-    /// to 84, `optimize_words` from 1 to 10,000, `cache_bytes` from 1,000 to 80,000,000, `batch_docs` from 1 to 100,000.
+    /// Whether a database can have these settings: 1 to 8 columns of distinct names, `min` from 1
+    /// to 16, `max` from 10 to 84, `optimize_words` from 1 to 10,000, `cache_bytes` from 1,000 to
+    /// 80,000,000, `batch_docs` from 1 to 100,000.
     ///
     /// Fails with the first field, in this order, that has another value.
     pub fn check(&self) -> Result<(), BadSettings>

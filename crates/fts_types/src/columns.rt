@@ -2,7 +2,8 @@ ghost use Rattle.std.specs.Prelude.{◌≡◌, ◌&&◌, ◌||◌, ◌==◌, not
 ghost use Rattle.std.specs.List.{list_all};
 ghost use Rattle.std.specs.Str.{bytes_eq};
 ghost use Rattle.std.specs.Char.{is_ascii_digit, is_ascii_lowercase};
-ghost use Rattle.fts_types.specs.Settings.{begins_with_letter, is_column_name, is_listed, are_distinct, are_columns};
+ghost use Rattle.fts_types.specs.Settings.{begins_with_letter, is_column_name, is_listed};
+ghost use Rattle.fts_types.specs.Settings.{are_distinct, are_columns};
 
 use crate::texts::Names;
 
@@ -18,14 +19,17 @@ fn begins_with_letter(name: &[u8]) -> bool
 
 /// Whether each byte is one that names of columns have: a lower-case letter, a digit or `_`.
 fn has_name_bytes(name: &[u8]) -> bool
-    ensures { result ≡ list_all (λ b. is_ascii_lowercase b || is_ascii_digit b || (b == 95)) name.now }
+    ensures { result ≡ list_all (λ b. is_ascii_lowercase b || is_ascii_digit b || (b == 95))
+        name.now }
 {
     name.iter().all(|&byte| byte.is_ascii_lowercase() || byte.is_ascii_digit() || byte == b'_')
 }
 
-/// Whether the name is none that a table has already: `id` for the key and `fts_doc_id` for the document's id.
+/// Whether the name is none that a table has already: `id` for the key and `fts_doc_id` for the
+/// document's id.
 fn is_free(name: &[u8]) -> bool
-    ensures { result ≡ (not (bytes_eq name.now (codes "id")) && not (bytes_eq name.now (codes "fts_doc_id"))) }
+    ensures { result ≡ (not (bytes_eq name.now (codes "id")) && not
+        (bytes_eq name.now (codes "fts_doc_id"))) }
 {
     if name == b"id".as_slice() {
         return false;
@@ -33,8 +37,8 @@ fn is_free(name: &[u8]) -> bool
     name != b"fts_doc_id".as_slice()
 }
 
-/// Whether a column can have this name: 1 to 32 lower-case letters, digits and `_`, a letter first, and neither `id`
-/// nor `fts_doc_id`, which name the key and the document's id.
+/// Whether a column can have this name: 1 to 32 lower-case letters, digits and `_`, a letter first,
+/// and neither `id` nor `fts_doc_id`, which name the key and the document's id.
 pub fn is_column_name(name: &[u8]) -> bool
     ensures { result ≡ is_column_name name.now }
 {

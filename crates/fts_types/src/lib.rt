@@ -15,6 +15,6 @@ pub use columns::is_column_name;
 pub use ids::{DocId, Key};
 pub use limits::Limits;
 pub use settings::Settings;
-pub use table::partition_of;
+pub use table::{partition_of, tables_rise};
 pub use texts::{Names, RowTexts, Texts};
 pub use word::Word;

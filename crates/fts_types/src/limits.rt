@@ -14,7 +14,8 @@ pub struct Limits {
 impl Limits {
     ghost use Rattle.fts_types.specs.Limits.{standard_limits};
 
-    /// A million rows, ids to 2^63 − 1, and a log of 2^32 bytes, so that a record's length fits its four bytes.
+    /// A million rows, ids to 2^63 − 1, and a log of 2^32 bytes, so that a record's length fits its
+    /// four bytes.
     pub fn standard() -> Self
         ensures { result ≡ standard_limits }
     {

@@ -1,4 +1,6 @@
-ghost use Rattle.std.specs.Prelude.{◌≡◌, ℕ, ◌<◌, ◌↔◌, List, [], ◌∷◌, ◌++◌, ◌≤◌, length, map, sum_by, IsTrue, OnOk, OnErr, IfOk, IfErr, IfSome, IfNone, ◌^◌, slice_index_or};
+ghost use Rattle.std.specs.Prelude.{◌≡◌, ℕ, ◌<◌, ◌↔◌, List, [], ◌∷◌, ◌++◌, ◌≤◌, length, map};
+ghost use Rattle.std.specs.Prelude.{sum_by, IsTrue, OnOk, OnErr, IfOk, IfErr, IfSome, IfNone, ◌^◌};
+ghost use Rattle.std.specs.Prelude.{slice_index_or};
 
 use std::alloc::{AllocError, AllocFailed, Global};
 use std::marker::Model;
@@ -122,7 +124,8 @@ impl Texts {
         true
     }
 
-    /// Adds a text at the end. Where memory is wanting, it gives the text back, and the list is as before.
+    /// Adds a text at the end. Where memory is wanting, it gives the text back, and the list is as
+    /// before.
     pub fn push(&mut self, text: Vec<u8>) -> Result<(), AllocFailed<Vec<u8>>>
         ensures ok { OnOk result (self.new ≡ self.old ++ text.items ∷ []) }
         ensures err { OnErr result (self.new ≡ self.old) }

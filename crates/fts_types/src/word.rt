@@ -1,13 +1,15 @@
 ghost use Rattle.std.specs.Prelude.{◌≡◌, IfOk, Some, nat_eq, refl};
 ghost use Rattle.std.specs.Ordering.{nat_cmp};
-ghost use Rattle.std.specs.Cmp.Lexicographic.{pointwise, slice_cmp, nat_list_cmp_total, nat_list_eq_equiv, texts_ties, texts_po};
+ghost use Rattle.std.specs.Cmp.Lexicographic.{pointwise, slice_cmp, nat_list_cmp_total};
+ghost use Rattle.std.specs.Cmp.Lexicographic.{nat_list_eq_equiv, texts_ties, texts_po};
 ghost use Rattle.std.specs.Cmp;
 
 use std::alloc::{AllocError, Global};
 use std::cmp::Ordering;
 use std::marker::Model;
 
-/// A word, as its bytes. Words are ordered byte by byte, and a word stands before each longer one that begins with it.
+/// A word, as its bytes. Words are ordered byte by byte, and a word stands before each longer one
+/// that begins with it.
 #[derive(Debug, Drop)]
 pub struct Word {
     bytes: Vec<u8>,

@@ -1,4 +1,5 @@
-use Rattle.std.specs.Prelude.{◌≡◌, ℕ, ◌+◌, ◌<◌, Bool, not, ◌&&◌, List, [], ◌∷◌, ◌++◌, length, map, take, filter, sum_by, count_by, nat_lt, nat_le, slice_index_or, IsTrue}
+use Rattle.std.specs.Prelude.{◌≡◌, ℕ, ◌+◌, ◌<◌, Bool, not, ◌&&◌, List, [], ◌∷◌, ◌++◌, length, map, take, filter, sum_by}
+use Rattle.std.specs.Prelude.{count_by, nat_lt, nat_le, slice_index_or, IsTrue}
 use Rattle.std.specs.List.{enumerate_from, AllPairs}
 use Rattle.fts_words.specs.declared.span.Span.{Span}
 use Rattle.fts_words.specs.declared.placed.PlacedWord.{PlacedWord}
@@ -35,19 +36,23 @@ pub record IsPlaced (columns : List (List ℕ)) (word : PlacedWord) : Type 0 whe
   pub column : word.column < length columns
   pub raw_word : IsRawWord (column_text columns word.column) word.span.from word.span.to
   -- how many raw words of its column start before it
-  pub number : word.number ≡ count_by (λ other. nat_lt other.from word.span.from) (raw_words (column_text columns word.column))
+  pub number : word.number ≡ count_by (λ other. nat_lt other.from word.span.from)
+      (raw_words (column_text columns word.column))
   -- where it starts in its row, from 0
   pub position : word.position ≡ column_offset columns word.column + word.span.from
 
--- the word is an indexed word of the row (MySQL 8.0 manual, "Fine-Tuning MySQL Full-Text Search" and "Full-Text Stopwords")
+-- the word is an indexed word of the row (MySQL 8.0 manual, "Fine-Tuning MySQL Full-Text Search" and "Full-Text
+-- Stopwords")
 pub record IsIndexedWord (rules : Rules) (columns : List (List ℕ)) (word : PlacedWord) : Type 0 where
   pub placed : IsPlaced columns word
   pub indexable : IsTrue (is_indexable rules (word_of columns word))
 
--- these spans of a column's text, the first with this word number, in a row where this many bytes stand before the column
+-- these spans of a column's text, the first with this word number, in a row where this many bytes stand before the
+-- column
 abbrev pub placed_spans : ℕ → ℕ → ℕ → List Span → List PlacedWord
 placed_spans column offset number spans =
-    map (λ p. record { column = column; span = p.1; number = p.0; position = offset + p.1.from }) (enumerate_from number spans)
+    map (λ p. record { column = column; span = p.1; number = p.0; position = offset + p.1.from })
+    (enumerate_from number spans)
 
 -- the raw words of columns of which the first has this number and this many bytes before it
 abbrev pub placed_words_from : ℕ → ℕ → List (List ℕ) → List PlacedWord

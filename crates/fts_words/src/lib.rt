@@ -1,6 +1,7 @@
 //! What the words of a text are: raw words, indexed words, and where they stand in a row.
 //!
-//! The definitions are in `specs/`. This crate has the types that they are about, and the laws that hold of them.
+//! The definitions are in `specs/`. This crate has the types that they are about, and the laws that
+//! hold of them.
 #![tactic(auto)]
 
 mod laws;

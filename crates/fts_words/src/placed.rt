@@ -9,6 +9,7 @@ pub struct PlacedWord {
     pub span: Span,
     /// How many raw words of its column start before it.
     pub number: u32,
-    /// How many bytes of the row stand before it, where the row's columns are joined by one byte each.
+    /// How many bytes of the row stand before it, where the row's columns are joined by one byte
+    /// each.
     pub position: u32,
 }

@@ -1,6 +1,7 @@
 ghost use Rattle.std.specs.Prelude.{◌≡◌, ◌-◌, ◌≤◌, ◌↔◌, length, IsTrue};
 
-/// A part of a text: its bytes from `from` up to `to`, without the one at `to`. Places count from 0.
+/// A part of a text: its bytes from `from` up to `to`, without the one at `to`. Places count from
+/// 0.
 #[derive(Clone, Copy, Debug, PartialEq, Eq)]
 pub struct Span {
     pub from: usize,

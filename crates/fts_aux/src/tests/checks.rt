@@ -4,10 +4,11 @@ ghost use Rattle.std.specs.List.{AllByRecursion};
 ghost use Rattle.std.specs.List.Sorted.{IsStrictlySortedBy};
 ghost use Rattle.std.specs.Map.{keys_of};
 ghost use Rattle.std.specs.declared.cmp.Ordering.TheVariants.{Less};
-ghost use Rattle.fts_aux.specs.Node.{BeginsAfter, NodesAfter, last_of, byte_order};
+ghost use Rattle.fts_ilist.specs.Node.{BeginsAfter, NodesAfter, last_of, byte_order};
 ghost use Rattle.fts_aux.specs.Tables.{ComesAfter};
 
-use crate::{Node, Tables, WordNodes};
+use crate::Tables;
+use fts_ilist::{Node, WordNodes};
 use fts_types::Word;
 use std::cmp::Ordering;
 
@@ -61,7 +62,8 @@ pub fn come_after(tables: &Tables, batch: &[WordNodes]) -> bool
 
 // Whether a word stands before those of a batch.
 fn is_before(word: &Word, batch: &[WordNodes]) -> bool
-    ensures { IsTrue result → AllByRecursion (λ other. byte_order word.now other ≡ Less) (keys_of batch.now) }
+    ensures { IsTrue result → AllByRecursion (λ other. byte_order word.now other ≡ Less)
+        (keys_of batch.now) }
 {
     match batch {
         [] => true,

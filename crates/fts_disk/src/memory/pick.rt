@@ -1,8 +1,10 @@
 //! What a crash may have left, picked by a number.
-ghost use Rattle.std.specs.Prelude.{◌≡◌, ◌⊎◌, ◌+◌, ◌<◌, ◌≤◌, List, ℕ, true, false, length, take, min, All, IsTrue, ◌↔◌, IfOk, OnOk, slice_index_or};
+ghost use Rattle.std.specs.Prelude.{◌≡◌, ◌⊎◌, ◌+◌, ◌<◌, ◌≤◌, List, ℕ, true, false, length, take};
+ghost use Rattle.std.specs.Prelude.{min, All, IsTrue, ◌↔◌, IfOk, OnOk, slice_index_or};
 ghost use Rattle.fts_disk.specs.Device.{OnFile, Torn, Shortened};
 ghost use Rattle.fts_disk.specs.Contents.{contents};
-ghost use Rattle.fts_disk.specs.Replay.{overwritten, settles, seen_after, step_seen, images_at, IsOfFile, IsLeftIn, StepsOnDisk};
+ghost use Rattle.fts_disk.specs.Replay.{overwritten, settles, seen_after, step_seen, images_at};
+ghost use Rattle.fts_disk.specs.Replay.{IsOfFile, IsLeftIn, StepsOnDisk};
 
 use super::Call;
 use super::recorded::{copy_of, cut_in, overwrite_in};
@@ -39,7 +41,8 @@ pub(crate) fn image_in(
     requires sixteen { 16 ≤ length first.now }
     requires files { All IsOfFile calls.now }
     requires stop { stop < length calls.now }
-    ensures image { IfOk result (λ image. IsLeftIn stop calls.now (contents first.now) (contents image.items)) }
+    ensures image { IfOk result (λ image. IsLeftIn stop calls.now (contents first.now)
+        (contents image.items)) }
 {
     let settled = settled_before(calls, stop);
     let mut image = replayed(alloc, first, calls, settled)?;
@@ -55,8 +58,10 @@ pub(crate) fn image_in(
 fn settled_before(calls: &[Call], stop: usize) -> usize
     requires { stop ≤ length calls.now }
     ensures within { result ≤ stop }
-    ensures settled { (result ≡ 0) ⊎ ((k : ℕ) × (result ≡ k + 1) × (settles (slice_index_or calls.now k (Call.Sync false)) ≡ true)) }
-    ensures pending { (k : ℕ) → result ≤ k → k < stop → settles (slice_index_or calls.now k (Call.Sync false)) ≡ false }
+    ensures settled { (result ≡ 0) ⊎ ((k : ℕ) × (result ≡ k + 1)
+        × (settles (slice_index_or calls.now k (Call.Sync false)) ≡ true)) }
+    ensures pending { (k : ℕ) → result ≤ k → k < stop
+        → settles (slice_index_or calls.now k (Call.Sync false)) ≡ false }
 {
     let mut settled = 0;
     for k in 0..stop {
@@ -87,7 +92,8 @@ fn replayed(
     requires sixteen { 16 ≤ length first.now }
     requires files { All IsOfFile calls.now }
     requires within { count ≤ length calls.now }
-    ensures seen { IfOk result (λ files. contents files.items ≡ seen_after (take count calls.now) (contents first.now)) }
+    ensures seen { IfOk result (λ files. contents files.items
+        ≡ seen_after (take count calls.now) (contents first.now)) }
     ensures sixteen { IfOk result (λ files. 16 ≤ length files.items) }
 {
     let mut files = copy_of(alloc, first)?;
@@ -101,7 +107,8 @@ fn replayed(
 fn redo(files: &mut Vec<Vec<u8>>, call: &Call) -> Result<(), AllocError>
     requires sixteen { 16 ≤ length files.old.items }
     requires file { IsOfFile call.now }
-    ensures seen { OnOk result (contents files.new.items ≡ step_seen call.now (contents files.old.items)) }
+    ensures seen { OnOk result (contents files.new.items
+        ≡ step_seen call.now (contents files.old.items)) }
     ensures count { length files.new.items ≡ length files.old.items }
 {
     match call {
@@ -128,7 +135,8 @@ fn redo(files: &mut Vec<Vec<u8>>, call: &Call) -> Result<(), AllocError>
 // Writes over the bytes of a file, or behind its end.
 fn rewrite(files: &mut Vec<Vec<u8>>, file: u32, at: u64, bytes: &[u8]) -> Result<(), AllocError>
     requires { file < length files.old.items }
-    ensures written { OnOk result (OnFile file (λ old new. new ≡ overwritten at bytes.now old) (contents files.old.items) (contents files.new.items)) }
+    ensures written { OnOk result (OnFile file (λ old new. new ≡ overwritten at bytes.now old)
+        (contents files.old.items) (contents files.new.items)) }
     ensures count { length files.new.items ≡ length files.old.items }
 {
     let place = at.min(length_in(files, file) as u64);
@@ -144,7 +152,8 @@ fn tear(
 ) -> Result<(), AllocError>
     requires sixteen { 16 ≤ length files.old.items }
     requires file { IsOfFile call.now }
-    ensures step { OnOk result (StepsOnDisk call.now (contents files.old.items) (contents files.new.items)) }
+    ensures step { OnOk result (StepsOnDisk call.now (contents files.old.items)
+        (contents files.new.items)) }
     ensures count { length files.new.items ≡ length files.old.items }
 {
     match call {
@@ -173,7 +182,8 @@ fn tear_write(
 ) -> Result<(), AllocError>
     requires file { file < length files.old.items }
     requires fill { digit.1 < 4 }
-    ensures torn { OnOk result (OnFile file (Torn at (length bytes.now)) (contents files.old.items) (contents files.new.items)) }
+    ensures torn { OnOk result (OnFile file (Torn at (length bytes.now)) (contents files.old.items)
+        (contents files.new.items)) }
     ensures count { length files.new.items ≡ length files.old.items }
 {
     if at > length_in(files, file) as u64 {
@@ -200,7 +210,8 @@ fn torn_bytes(alloc: Global, bytes: &[u8], digit: (u64, usize)) -> Result<Vec<u8
 // Cuts a file, or cuts off less.
 fn tear_cut(files: &mut Vec<Vec<u8>>, file: u32, len: u64, reach: u64)
     requires { file < length files.old.items }
-    ensures shortened { OnFile file (Shortened len) (contents files.old.items) (contents files.new.items) }
+    ensures shortened { OnFile file (Shortened len) (contents files.old.items)
+        (contents files.new.items) }
     ensures count { length files.new.items ≡ length files.old.items }
 {
     let length = length_in(files, file);

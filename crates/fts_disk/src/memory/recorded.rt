@@ -1,9 +1,11 @@
 //! The files of a device in memory, with a record of the calls on them.
-ghost use Rattle.std.specs.Prelude.{◌≡◌, ◌+◌, ◌<◌, ◌≤◌, ◌++◌, ◌∷◌, [], false, length, take, drop, All, IsTrue, IfOk, OnOk, OnErr};
+ghost use Rattle.std.specs.Prelude.{◌≡◌, ◌+◌, ◌<◌, ◌≤◌, ◌++◌, ◌∷◌, [], false, length, take, drop};
+ghost use Rattle.std.specs.Prelude.{All, IsTrue, IfOk, OnOk, OnErr};
 ghost use Rattle.fts_disk.specs.Device.{OnFile, Holds, Torn, Shortened};
 ghost use Rattle.fts_disk.specs.Crash.{Within, Follows, Only, Elapses};
 ghost use Rattle.fts_disk.specs.Contents.{contents};
-ghost use Rattle.fts_disk.specs.Replay.{seen_after, step_seen, IsLook, IsOfFile, IsWriteOf, IsCutOf, IsSyncOf, Entered};
+ghost use Rattle.fts_disk.specs.Replay.{seen_after, step_seen, IsLook, IsOfFile, IsWriteOf};
+ghost use Rattle.fts_disk.specs.Replay.{IsCutOf, IsSyncOf, Entered};
 
 use super::Call;
 use std::alloc::{AllocError, Global};
@@ -57,7 +59,8 @@ impl Recorded {
         ensures files { self.new.files ≡ self.old.files }
         ensures first { self.new.first ≡ self.old.first }
         ensures crash { Within (images_of self.old) (images_of self.new) }
-        ensures time { Elapses (moment_of self.old) (moment_of self.new) (left_of self.old) (left_of self.new) (images_of self.new) }
+        ensures time { Elapses (moment_of self.old) (moment_of self.new) (left_of self.old)
+            (left_of self.new) (images_of self.new) }
         ensures ticks { OnOk result (moment_of self.old < moment_of self.new) }
     {
         Ok(self.calls.push(call)?)
@@ -65,15 +68,18 @@ impl Recorded {
 
     /// Puts a sync into the record, as one that was done or that failed.
     pub(crate) fn sync(&mut self, done: bool) -> Result<(), AllocError>
-        ensures durable { OnOk result (IsTrue done → Only (files_of self.new) (images_of self.new)) }
+        ensures durable { OnOk result
+            (IsTrue done → Only (files_of self.new) (images_of self.new)) }
         ensures pending { done ≡ false → Within (images_of self.new) (images_of self.old) }
         ensures not_noted { OnErr result (Within (images_of self.new) (images_of self.old)) }
         ensures files { self.new.files ≡ self.old.files }
         ensures first { self.new.first ≡ self.old.first }
-        ensures entered { OnOk result (Entered (IsSyncOf done) self.old.calls.items self.new.calls.items) }
+        ensures entered { OnOk result
+            (Entered (IsSyncOf done) self.old.calls.items self.new.calls.items) }
         ensures not_entered { OnErr result (self.new.calls.items ≡ self.old.calls.items) }
         ensures crash { Within (images_of self.old) (images_of self.new) }
-        ensures time { Elapses (moment_of self.old) (moment_of self.new) (left_of self.old) (left_of self.new) (images_of self.new) }
+        ensures time { Elapses (moment_of self.old) (moment_of self.new) (left_of self.old)
+            (left_of self.new) (images_of self.new) }
         ensures ticks { OnOk result (moment_of self.old < moment_of self.new) }
     {
         self.note(Call::Sync { done })
@@ -89,14 +95,19 @@ impl Recorded {
     ) -> Result<(), AllocError>
         requires file { file < 16 }
         requires within { at ≤ length (files_of self.old file) }
-        ensures written { OnOk result (IsTrue done → OnFile file (Holds at bytes.now) (files_of self.old) (files_of self.new)) }
+        ensures written { OnOk result
+            (IsTrue done → OnFile file (Holds at bytes.now) (files_of self.old)
+            (files_of self.new)) }
         ensures not_done { done ≡ false → files_of self.new ≡ files_of self.old }
         ensures kept { OnErr result (files_of self.new ≡ files_of self.old) }
         ensures first { self.new.first ≡ self.old.first }
-        ensures entered { OnOk result (Entered (IsWriteOf file at bytes.now done) self.old.calls.items self.new.calls.items) }
+        ensures entered { OnOk result
+            (Entered (IsWriteOf file at bytes.now done) self.old.calls.items self.new.calls.items) }
         ensures not_entered { OnErr result (self.new.calls.items ≡ self.old.calls.items) }
-        ensures crash { Follows (OnFile file (Torn at (length bytes.now))) (images_of self.old) (images_of self.new) }
-        ensures time { Elapses (moment_of self.old) (moment_of self.new) (left_of self.old) (left_of self.new) (images_of self.new) }
+        ensures crash { Follows (OnFile file (Torn at (length bytes.now))) (images_of self.old)
+            (images_of self.new) }
+        ensures time { Elapses (moment_of self.old) (moment_of self.new) (left_of self.old)
+            (left_of self.new) (images_of self.new) }
         ensures ticks { OnOk result (moment_of self.old < moment_of self.new) }
     {
         write_noted(
@@ -114,14 +125,19 @@ impl Recorded {
     pub(crate) fn cut(&mut self, file: u32, len: u64, done: bool) -> Result<(), AllocError>
         requires file { file < 16 }
         requires within { len ≤ length (files_of self.old file) }
-        ensures shorter { OnOk result (IsTrue done → OnFile file (λ old new. new ≡ take len old) (files_of self.old) (files_of self.new)) }
+        ensures shorter { OnOk result
+            (IsTrue done → OnFile file (λ old new. new ≡ take len old) (files_of self.old)
+            (files_of self.new)) }
         ensures not_done { done ≡ false → files_of self.new ≡ files_of self.old }
         ensures kept { OnErr result (files_of self.new ≡ files_of self.old) }
         ensures first { self.new.first ≡ self.old.first }
-        ensures entered { OnOk result (Entered (IsCutOf file len done) self.old.calls.items self.new.calls.items) }
+        ensures entered { OnOk result
+            (Entered (IsCutOf file len done) self.old.calls.items self.new.calls.items) }
         ensures not_entered { OnErr result (self.new.calls.items ≡ self.old.calls.items) }
-        ensures crash { Follows (OnFile file (Shortened len)) (images_of self.old) (images_of self.new) }
-        ensures time { Elapses (moment_of self.old) (moment_of self.new) (left_of self.old) (left_of self.new) (images_of self.new) }
+        ensures crash { Follows (OnFile file (Shortened len)) (images_of self.old)
+            (images_of self.new) }
+        ensures time { Elapses (moment_of self.old) (moment_of self.new) (left_of self.old)
+            (left_of self.new) (images_of self.new) }
         ensures ticks { OnOk result (moment_of self.old < moment_of self.new) }
     {
         cut_noted(&mut self.files, &mut self.calls, file, len, done)
@@ -140,11 +156,13 @@ fn write_noted(
 ) -> Result<(), AllocError>
     requires file { file < length files.old.items }
     requires within { at ≤ length (contents files.old.items file) }
-    ensures written { OnOk result (IsTrue done → OnFile file (Holds at bytes.now) (contents files.old.items) (contents files.new.items)) }
+    ensures written { OnOk result (IsTrue done
+        → OnFile file (Holds at bytes.now) (contents files.old.items) (contents files.new.items)) }
     ensures not_done { done ≡ false → contents files.new.items ≡ contents files.old.items }
     ensures kept { OnErr result (contents files.new.items ≡ contents files.old.items) }
     ensures count { length files.new.items ≡ length files.old.items }
-    ensures noted { OnOk result ((call : _) × IsWriteOf file at bytes.now done call × (calls.new.items ≡ calls.old.items ++ call ∷ [])
+    ensures noted { OnOk result ((call : _) × IsWriteOf file at bytes.now done call
+        × (calls.new.items ≡ calls.old.items ++ call ∷ [])
         × (contents files.new.items ≡ step_seen call (contents files.old.items))) }
     ensures not_noted { OnErr result (calls.new.items ≡ calls.old.items) }
 {
@@ -174,11 +192,14 @@ fn cut_noted(
     done: bool,
 ) -> Result<(), AllocError>
     requires file { file < length files.old.items }
-    ensures shorter { OnOk result (IsTrue done → OnFile file (λ old new. new ≡ take len old) (contents files.old.items) (contents files.new.items)) }
+    ensures shorter { OnOk result (IsTrue done
+        → OnFile file (λ old new. new ≡ take len old) (contents files.old.items)
+        (contents files.new.items)) }
     ensures not_done { done ≡ false → contents files.new.items ≡ contents files.old.items }
     ensures kept { OnErr result (contents files.new.items ≡ contents files.old.items) }
     ensures count { length files.new.items ≡ length files.old.items }
-    ensures noted { OnOk result ((call : _) × IsCutOf file len done call × (calls.new.items ≡ calls.old.items ++ call ∷ [])
+    ensures noted { OnOk result ((call : _) × IsCutOf file len done call
+        × (calls.new.items ≡ calls.old.items ++ call ∷ [])
         × (contents files.new.items ≡ step_seen call (contents files.old.items))) }
     ensures not_noted { OnErr result (calls.new.items ≡ calls.old.items) }
 {
@@ -210,7 +231,8 @@ pub(crate) fn overwrite_in(
 ) -> Result<(), AllocError>
     requires file { file < length files.old.items }
     requires within { at ≤ length (contents files.old.items file) }
-    ensures written { OnOk result (OnFile file (Holds at bytes.now) (contents files.old.items) (contents files.new.items)) }
+    ensures written { OnOk result (OnFile file (Holds at bytes.now) (contents files.old.items)
+        (contents files.new.items)) }
     ensures kept { OnErr result (contents files.new.items ≡ contents files.old.items) }
     ensures count { length files.new.items ≡ length files.old.items }
 {
@@ -220,7 +242,8 @@ pub(crate) fn overwrite_in(
 /// Cuts one file.
 pub(crate) fn cut_in(files: &mut Vec<Vec<u8>>, file: u32, len: u64)
     requires { file < length files.old.items }
-    ensures shorter { OnFile file (λ old new. new ≡ take len old) (contents files.old.items) (contents files.new.items) }
+    ensures shorter { OnFile file (λ old new. new ≡ take len old) (contents files.old.items)
+        (contents files.new.items) }
     ensures count { length files.new.items ≡ length files.old.items }
 {
     files[file as usize].truncate(len as usize);

@@ -25,13 +25,6 @@ fn numbers_are_told(rt: HostRuntime) -> Result<(), Fail> {
     let alloc = rt.alloc();
     for (reply, wanted) in [
         (Reply::Committed { number: 1 }, "OK commit 1\n"),
-        (
-            Reply::DuplicateKey {
-                change: 1,
-                key: u64::MAX,
-            },
-            "ERROR duplicate key 18446744073709551615 in change 1\n",
-        ),
         (Reply::LogFull { end: 4096 }, "ERROR log full at 4096\n"),
         (Reply::Syntax { at: 1 }, "ERROR syntax at 1\n"),
         (Reply::QuerySyntax { at: 1 }, "ERROR query syntax at 1\n"),
@@ -44,38 +37,46 @@ fn numbers_are_told(rt: HostRuntime) -> Result<(), Fail> {
     Ok(())
 }
 
+const REFUSALS: [(Refusal, &str); 6] = [
+    (
+        Refusal::DuplicateKey {
+            change: 1,
+            key: u64::MAX,
+        },
+        "ERROR duplicate key 18446744073709551615 in change 1\n",
+    ),
+    (
+        Refusal::DocIdOrder {
+            given: 5,
+            largest: 7,
+        },
+        "ERROR document id 5 not above 7\n",
+    ),
+    (
+        Refusal::DocIdGap {
+            given: 131071,
+            largest: 65535,
+        },
+        "ERROR document id 131071 more than 65535 above 65535\n",
+    ),
+    (
+        Refusal::IdsFull { largest: 2 },
+        "ERROR document ids full at 2\n",
+    ),
+    (
+        Refusal::TextTooLong {
+            change: 1,
+            length: 65536,
+        },
+        "ERROR text too long 65536 in change 1\n",
+    ),
+    (Refusal::RowsFull { rows: 3 }, "ERROR rows full at 3\n"),
+];
+
 #[test]
-fn limits_of_rows_are_told(rt: HostRuntime) -> Result<(), Fail> {
-    let alloc = rt.alloc();
-    for (reply, wanted) in [
-        (
-            Reply::DocIdOrder {
-                given: 5,
-                largest: 7,
-            },
-            "ERROR document id 5 not above 7\n",
-        ),
-        (
-            Reply::DocIdGap {
-                given: 131071,
-                largest: 65535,
-            },
-            "ERROR document id 131071 more than 65535 above 65535\n",
-        ),
-        (
-            Reply::IdsFull { largest: 2 },
-            "ERROR document ids full at 2\n",
-        ),
-        (
-            Reply::TextTooLong {
-                change: 1,
-                length: 65536,
-            },
-            "ERROR text too long 65536 in change 1\n",
-        ),
-        (Reply::RowsFull { rows: 3 }, "ERROR rows full at 3\n"),
-    ] {
-        tells(&rt, alloc, reply, wanted)?;
+fn refusals_of_a_commit_are_told(rt: HostRuntime) -> Result<(), Fail> {
+    for (refusal, wanted) in REFUSALS {
+        tells(&rt, rt.alloc(), Reply::Refused { refusal }, wanted)?;
     }
     Ok(())
 }

@@ -9,7 +9,8 @@ use std::alloc::{AllocError, Global};
 use std::process::Abort;
 use std::test::Fail;
 
-/// Calls of the device by which `create` fails, how many bytes of file 0 it leaves, and how a run then ends.
+/// Calls of the device by which `create` fails, how many bytes of file 0 it leaves, and how a run
+/// then ends.
 const CREATE_FAULTS: [(Kind, u64, usize, Status); 8] = [
     (Kind::Len, 1, 0, Status::NotCreated),
     (Kind::Cut, 1, 0, Status::NotCreated),
@@ -21,7 +22,8 @@ const CREATE_FAULTS: [(Kind, u64, usize, Status); 8] = [
     (Kind::Sync, 3, 34, Status::Done),
 ];
 
-/// `create` ends with a disk fault at one call of the device, and leaves so many bytes, on which a run ends so.
+/// `create` ends with a disk fault at one call of the device, and leaves so many bytes, on which a
+/// run ends so.
 fn create_fails(
     rt: &impl Abort,
     alloc: Global,
@@ -45,7 +47,8 @@ fn each_failing_call_of_create_ends_it_with_a_disk_fault(rt: HostRuntime) -> Res
     Ok(())
 }
 
-/// Calls of the device by which an INSERT fails, how many bytes of file 0 it leaves, and what a search then finds.
+/// Calls of the device by which an INSERT fails, how many bytes of file 0 it leaves, and what a
+/// search then finds.
 const INSERT_FAULTS: [(Kind, u64, usize, &str); 8] = [
     (Kind::Sync, 1, 34, "OK as of 0: none\n"),
     (Kind::Len, 1, 34, "OK as of 0: none\n"),
@@ -57,7 +60,8 @@ const INSERT_FAULTS: [(Kind, u64, usize, &str); 8] = [
     (Kind::Sync, 3, 63, "OK as of 1: 1\n"),
 ];
 
-/// A run ends with a disk fault at one call of the device, and leaves so many bytes, in which a search finds this.
+/// A run ends with a disk fault at one call of the device, and leaves so many bytes, in which a
+/// search finds this.
 fn insert_fails(
     rt: &impl Abort,
     alloc: Global,

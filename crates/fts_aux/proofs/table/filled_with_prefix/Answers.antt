@@ -1,6 +1,6 @@
 use Rattle.std.proofs.Common.{◌≡◌, true, List, ℕ, [], ◌∷◌, ◌++◌, rules, map, ap, ◌∙◌}
 use Rattle.fts_aux.specs.Table.{filled, filled_as, begins, front}
-use Rattle.fts_aux.specs.Node.{Docs}
+use Rattle.fts_ilist.specs.Node.{Docs}
 use Rattle.fts_aux.proofs.Filled.{taken}
 use Rattle.fts_aux.proofs.table.filled_with_prefix.Goals as goal
 

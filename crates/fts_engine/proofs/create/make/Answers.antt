@@ -13,7 +13,7 @@ returns-in-Ok-append-clause-made g c told settings right same =
     let stands = c.in-Ok-append.ensures.acknowledged told [] (c.in-Ok.ensures.created told) in
     let file : g.D.Disk.seen (device_of log) 0 ≡ g.D.Disk.seen c.close.result 0 = ap (λ device. g.D.Disk.seen device 0) (sym c.close.ensures) in
     let magic : IsLog rows_magic (payload ∷ []) (g.D.Disk.seen (device_of log) 0) =
-    subst (λ (magic : List ℕ). IsLog magic (payload ∷ []) (g.D.Disk.seen (device_of log) 0)) (c.in-Ok-append.ensures.kept.magic ∙ c.in-Ok.ensures.kept.0) stands.is_log in
+    subst (λ (magic : List ℕ). IsLog magic (payload ∷ []) (g.D.Disk.seen (device_of log) 0)) (c.in-Ok-append.ensures.numbers.making.magic ∙ c.in-Ok.ensures.kept.0) stands.is_log in
     record {
       sound = search rules;
       log = subst (λ (payload : List ℕ). IsLog rows_magic (payload ∷ []) (g.D.Disk.seen c.close.result 0)) same

@@ -1,27 +1,24 @@
-use Rattle.std.proofs.Common.{◌≡◌, ◌<◌, Result, Err, IsErrOf, IsErrAnd, ap, arith, length, subst, sym, ◌∙◌}
-use Rattle.fts_engine.specs.declared.error.OpenError.TheVariants.{Damaged}
+use Rattle.std.proofs.Common.{◌∙◌, subst}
+use Rattle.fts_log.proofs.Reading.{read_more}
+use Rattle.fts_engine.specs.Loading.{IsWrongEntry}
 use Rattle.fts_engine.proofs.Loading.{first_loaded}
 use Rattle.fts_engine.proofs.load.load.Goals as goal
 
--- an error that was handed on
-handed_on : {T E : Type 0} (result : Result T E) (x y : E) → IsErrAnd result (λ e. e ≡ x) → IsErrOf result y → x ≡ y
-handed_on result x y gives is = sym (subst (λ result. IsErrAnd result (λ e. e ≡ x)) is gives)
-
-pub returns-in_err-settings-clause-damaged : goal.returns-in_err-settings-clause-damaged
-returns-in_err-settings-clause-damaged g c place e told all stands =
-    let same : c.in_err-settings.field-0.0 ≡ Damaged place = handed_on c.from_residual.result c.in_err-settings.field-0.0 (Damaged place) c.from_residual.ensures.1 e in
-    c.in_err-settings.ensures.damaged place (ap Err same) told all stands
-
-pub returns-in-Ok-clause-loaded : goal.returns-in-Ok-clause-loaded
-returns-in-Ok-clause-loaded g c told all stands =
-    let some : 0 < length all = omega (arith, stands.count, c.requires.some) in
-    let first = first_loaded all c.in_ok-settings.settings c.new-kept.result (c.in_ok-settings.ensures.loaded told all stands some)
+pub returns-in-Ok-load_commits-clause-loaded : goal.returns-in-Ok-load_commits-clause-loaded
+returns-in-Ok-load_commits-clause-loaded g c told all holds =
+    let first = first_loaded all c.in-Ok.settings c.new-kept.result (c.in-Ok.ensures.loaded told all holds)
     c.new-kept.ensures.settings c.new-kept.ensures.rows (c.new-kept.ensures.limits ∙ c.standard.ensures) in
-    c.in-Ok.ensures.loaded told all (c.in_ok-settings.ensures.stays told all stands) first
+    c.in-Ok-load_commits.ensures.loaded told all ((c.in-Ok.ensures.read told).stays all holds) first
 
-pub returns-in-Err-clause-damaged : goal.returns-in-Err-clause-damaged
-returns-in-Err-clause-damaged g c place e told all stands =
-    let some : 0 < length all = omega (arith, stands.count, c.requires.some) in
-    let first = first_loaded all c.in_ok-settings.settings c.new-kept.result (c.in_ok-settings.ensures.loaded told all stands some)
+pub returns-in-Ok-load_commits-clause-read : goal.returns-in-Ok-load_commits-clause-read
+returns-in-Ok-load_commits-clause-read g c told = read_more c.args.records.now c.load_settings.new.records c.load_commits.new.records (c.in-Ok.ensures.read told) (c.in-Ok-load_commits.ensures.read told)
+
+pub returns-in-Err-load_commits-clause-damaged : goal.returns-in-Err-load_commits-clause-damaged
+returns-in-Err-load_commits-clause-damaged g c at e told all holds =
+    let first = first_loaded all c.in-Ok.settings c.new-kept.result (c.in-Ok.ensures.loaded told all holds)
     c.new-kept.ensures.settings c.new-kept.ensures.rows (c.new-kept.ensures.limits ∙ c.standard.ensures) in
-    c.in-Err.ensures.damaged place (let failed = e in cc) told all (c.in_ok-settings.ensures.stays told all stands) first
+    subst (λ magic. IsWrongEntry magic all at) c.in-Ok.ensures.same.magic
+    (c.in-Err-load_commits.ensures.damaged at (let failed = e in cc) told all ((c.in-Ok.ensures.read told).stays all holds) first)
+
+pub returns-in-Err-load_commits-clause-read : goal.returns-in-Err-load_commits-clause-read
+returns-in-Err-load_commits-clause-read g c told = read_more c.args.records.now c.load_settings.new.records c.load_commits.new.records (c.in-Ok.ensures.read told) (c.in-Err-load_commits.ensures.read told)

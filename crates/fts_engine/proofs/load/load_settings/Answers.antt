@@ -1,8 +1,22 @@
-use Rattle.std.proofs.Common.{◌∙◌}
-use Rattle.fts_engine.proofs.Loading.{settings_begin}
+use Rattle.std.proofs.Common.{◌≡◌, ℕ, List, ◌<◌, sym, ap, ◌∙◌, arith}
+use Rattle.std.specs.Prelude.{Err, length}
+use Rattle.fts_log.specs.Record.{gate_at}
+use Rattle.fts_log.specs.Records.{records_magic}
+use Rattle.fts_log.proofs.Reading.{as_many}
+use Rattle.fts_engine.proofs.Loading.{wrong_settings, settings_begin}
 use Rattle.fts_engine.proofs.load.load_settings.Goals as goal
 
 pub returns-in-Ok-clause-loaded : goal.returns-in-Ok-clause-loaded
-returns-in-Ok-clause-loaded g c told all stands some =
-    settings_begin all c.deref.result.now c.in-Ok.settings some (c.deref.ensures.value ∙ c.in_ok-payload.ensures.entry told all stands)
-    c.in-Ok.ensures.settings.0 c.in-Ok.ensures.settings.1
+returns-in-Ok-clause-loaded g c told all holds =
+    settings_begin all c.deref.result.now c.in-Ok.settings (omega (arith, as_many all c.args.records.now holds, c.requires))
+    (c.deref.ensures.value ∙ c.in_ok-payload.ensures.entry told all holds) c.in-Ok.ensures.settings.0 c.in-Ok.ensures.settings.1
+
+pub returns-clause-damaged : goal.returns-clause-damaged
+returns-clause-damaged g c at e told all holds =
+    let records = c.args.records.now in
+    let told_place : c.place_of.result ≡ at = (let same = e in cc) in
+    let place : at ≡ gate_at (records_magic records) all 0 =
+    sym told_place ∙ c.place_of.ensures told all ((c.in_ok-payload.ensures.read told).stays all holds)
+    ∙ ap (λ (magic : List ℕ). gate_at magic all 0) c.in_ok-payload.ensures.same.magic in
+    wrong_settings (records_magic records) all at c.deref.result.now c.decode_settings.result (omega (arith, as_many all records holds, c.requires)) place
+    (c.deref.ensures.value ∙ c.in_ok-payload.ensures.entry told all holds) c.decode_settings.ensures.exact (c.in-Err-Bad.is ∙ ap Err c.in-Err-Bad.field-0-is)

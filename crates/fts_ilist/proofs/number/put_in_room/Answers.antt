@@ -1,4 +1,4 @@
-use Rattle.std.proofs.Common.{arith, ◌++◌, List, ℕ, length, sym, ap, ◌∙◌}
+use Rattle.std.proofs.Common.{arith, ℕ, length, ap}
 use Rattle.fts_ilist.proofs.Codec.{small_number}
 use Rattle.fts_ilist.proofs.number.put_in_room.Goals as goal
 

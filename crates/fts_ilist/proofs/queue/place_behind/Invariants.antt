@@ -1,4 +1,4 @@
-use Rattle.std.proofs.Common.{◌≡◌, ◌-◌, ◌≤◌, length, drop}
+use Rattle.std.proofs.Common.{◌≡◌, ◌-◌, length, drop}
 use Rattle.fts_ilist.specs.Spelling.{id_at_end}
 use Rattle.fts_ilist.specs.Reading.{postings_in}
 use Rattle.fts_ilist.specs.Queue.{postings_behind, StandsAt}

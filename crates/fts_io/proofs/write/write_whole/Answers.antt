@@ -13,5 +13,5 @@ loop-written-preserved g c =
           c.in-Ok.ensures.appends tells
           ∙ ap (λ l. l ++ take count (take (length bytes - written) (drop written bytes))) (c.loop-written.invariant.holds tells)
           ∙ written-more written count (g.K.Sink.holds c.args.sink.now) bytes;
-      never_falls = search rules;
+      calm = search rules;
     }

@@ -5,7 +5,7 @@ abbrev pub invariant-loop-written : goal.invariant-loop-written
 invariant-loop-written g l = record {
   within : l.written ≤ length l.bytes;
   holds : IsTrue g.K.Sink.tells → g.K.Sink.holds l.sink ≡ g.K.Sink.holds l.initial.sink ++ take l.written l.bytes;
-  never_falls : g.K.Sink.faults l.initial.sink ≤ g.K.Sink.faults l.sink;
+  calm : g.K.Sink.faults l.sink ≡ g.K.Sink.faults l.initial.sink;
 }
 
 abbrev pub decreases-loop-written : goal.decreases-loop-written

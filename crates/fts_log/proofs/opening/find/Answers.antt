@@ -4,7 +4,7 @@ use Rattle.fts_log.proofs.Finding.{no_magic}
 use Rattle.fts_log.proofs.opening.find.Goals as goal
 
 pub returns-then-not-begins_with-clause-damaged : goal.returns-then-not-begins_with-clause-damaged
-returns-then-not-begins_with-clause-damaged g c at is_err told = inl (
+returns-then-not-begins_with-clause-damaged g c at is_err told = (
   cc,
   λ rest is.
       let same = ap (λ (files : Files). files 0) (c.len.ensures.seen told) in

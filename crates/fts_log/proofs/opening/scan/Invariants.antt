@@ -1,6 +1,5 @@
 use Rattle.std.proofs.Common.{◌≡◌, ℕ, List, ◌-◌, ◌≤◌, length, IsTrue}
-use Rattle.fts_disk.specs.Moments.{LeavesAsBefore}
-use Rattle.fts_log.specs.Device.{LooksOnly}
+use Rattle.fts_disk.specs.Moments.{Looks}
 use Rattle.fts_log.specs.Place.{start_of, IsSpaced}
 use Rattle.fts_log.specs.Scan.{Shows}
 use Rattle.fts_log.proofs.Scanning.{IsScanned}
@@ -14,9 +13,8 @@ invariant-records g l = record {
   few : length l.ends.items ≤ l.at;
   shown : IsTrue g.D.Disk.tells → Shows l.window (g.D.Disk.seen l.fn.device 0);
   scanned : IsTrue g.D.Disk.tells → (entries : List (List ℕ)) × IsScanned (g.D.Disk.seen l.fn.device 0) l.at l.ends.items entries;
-  looks : IsTrue g.D.Disk.tells → LooksOnly g.D.Disk l.fn.device l.device;
-  crash : IsTrue g.D.Disk.tells → LeavesAsBefore g.D.Disk l.fn.device l.device;
-  never_falls : g.D.Disk.faults l.fn.device ≤ g.D.Disk.faults l.device;
+  looks : IsTrue g.D.Disk.tells → Looks g.D.Disk l.fn.device l.device;
+  calm : g.D.Disk.faults l.device ≡ g.D.Disk.faults l.fn.device;
 }
 
 abbrev pub decreases-records : goal.decreases-records

@@ -7,23 +7,12 @@ use Rattle.fts_sessions.proofs.Executing.{insert_next}
 use Rattle.fts_sessions.proofs.Values.{change_can}
 use Rattle.fts_sessions.proofs.session.insert.Goals as goal
 
-pub commit-requires-clause-commit : goal.commit-requires-clause-commit
-commit-requires-clause-commit g c = (
+pub commit-requires : goal.commit-requires
+commit-requires g c = (
   length c.settings.result.now.columns,
-  change_can c.settings.result.now.columns c.args.names.now c.args.values.now c.in-Ok-Some-change_of.change c.settings.ensures.some c.settings.ensures.few c.requires.fit
+  change_can c.settings.result.now.columns c.args.names.now c.args.values.now c.in-Ok-Some-change_of.change c.settings.ensures.some c.settings.ensures.few c.requires
       (sym c.in-Ok-Some-change_of.field-0-is ∙ c.in-Ok-Some-change_of.ensures),
 )
-
-pub commit-requires-clause-ready : goal.commit-requires-clause-ready
-commit-requires-clause-ready g c told =
-    let state = (c.requires.ready told).0 in
-    let stands = (c.requires.ready told).1 in (
-      state,
-      stands,
-      subst (λ (settings : Settings). CanCommit (length settings.columns) (c.in-Ok-Some-change_of.change ∷ [])) (sym (c.settings.ensures.settings told state stands))
-          (change_can c.settings.result.now.columns c.args.names.now c.args.values.now c.in-Ok-Some-change_of.change c.settings.ensures.some c.settings.ensures.few c.requires.fit
-          (sym c.in-Ok-Some-change_of.field-0-is ∙ c.in-Ok-Some-change_of.ensures)),
-    )
 
 pub returns-in-Ok-Some-change_of-clause-does : goal.returns-in-Ok-Some-change_of-clause-does
 returns-in-Ok-Some-change_of-clause-does g c told state stands =
@@ -32,5 +21,5 @@ returns-in-Ok-Some-change_of-clause-does g c told state stands =
     (sym c.in-Ok-None.field-0-is ∙ c.in-Ok-None.ensures) (sym c.in-Ok-Some-change_of.field-0-is ∙ c.in-Ok-Some-change_of.ensures))
     (inl (c.commit.ensures.makes told state stands
     (subst (λ (settings : Settings). CanCommit (length settings.columns) (c.in-Ok-Some-change_of.change ∷ [])) (sym (c.settings.ensures.settings told state stands))
-    (change_can c.settings.result.now.columns c.args.names.now c.args.values.now c.in-Ok-Some-change_of.change c.settings.ensures.some c.settings.ensures.few c.requires.fit
+    (change_can c.settings.result.now.columns c.args.names.now c.args.values.now c.in-Ok-Some-change_of.change c.settings.ensures.some c.settings.ensures.few c.requires
     (sym c.in-Ok-Some-change_of.field-0-is ∙ c.in-Ok-Some-change_of.ensures)))))

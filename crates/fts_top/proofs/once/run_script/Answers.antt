@@ -1,14 +1,16 @@
-use Rattle.std.proofs.Common.{List, ℕ, refl, ap, subst, sym, arith, inl}
+use Rattle.std.proofs.Common.{◌≡◌, List, [], ℕ, refl, ap, subst, sym, arith, inl}
 use Rattle.fts_top.specs.declared.status.Status.{Status}
 use Rattle.fts_io.specs.Text.{lines_of}
 use Rattle.fts_steps.specs.State.{State, IsDatabase}
 use Rattle.fts_engine.specs.Stands.{Stands-reads, engine_device}
+use Rattle.fts_engine.specs.Opening.{IsDamaged}
 use Rattle.fts_engine.proofs.Single.{one_database}
 use Rattle.fts_top.specs.Run.{EndsRun, Outcome}
 use Rattle.fts_top.specs.Once.{files}
 use Rattle.fts_top.proofs.Filing.{outcome_on_file, done_completes}
 use Rattle.fts_top.proofs.Fronts.{nothing_yet, again}
-use Rattle.fts_top.proofs.Finishing.{finished, rose_wider}
+use Rattle.fts_faults.specs.Count.{Rose}
+use Rattle.fts_top.proofs.Finishing.{finished}
 use Rattle.fts_top.proofs.once.run_script.Goals as goal
 
 pub returns-in-Ok-clause-usage : goal.returns-in-Ok-clause-usage
@@ -26,9 +28,10 @@ returns-in-Ok-clause-damaged g c device file at e = absurd (subst (λ (s : Statu
 pub returns-in-Ok-clause-complete : goal.returns-in-Ok-clause-complete
 returns-in-Ok-clause-complete g c tells told state database short read write disk =
     finished c.run-status.result c.run-status.ensures.ends
-    (λ e. read (c.run-status.ensures.read e))
-    (λ e. write (c.run-status.ensures.write e))
-    (λ e. disk (rose_wider _ _ _ _ c.in-Ok.ensures.never_falls (omega (arith, c.close.ensures.faults)) (c.run-status.ensures.disk e)))
+    (λ e. read (c.run-status.ensures.read.rose e))
+    (λ e. write (c.run-status.ensures.write.rose e))
+    (λ e. disk (subst (λ device. Rose (g.D.Disk.faults c.args.rows) (g.D.Disk.faults device)) (sym c.close.ensures)
+    (subst (λ count. Rose count (g.D.Disk.faults (engine_device c.run-status.new.steps.engine))) (c.in-Ok.ensures.faults.calm (λ told. told)) (c.run-status.ensures.disk.rose e))))
     (λ lines bytes e. let long = c.run-status.ensures.too_long lines bytes e tells in absurd (omega (arith, long.0, long.1, short)))
 
 pub returns-in-Ok-clause-runs : goal.returns-in-Ok-clause-runs
@@ -48,7 +51,7 @@ returns-in-Ok-clause-runs g c tells_input tells_out tells start database =
     let from_rows = subst (λ (f : ℕ → List ℕ). Outcome (files c.args.limits) c.run-status.result state script left held held' (f 0) (seen (engine_device c.run-status.new.steps.engine) 0))
     (c.in-Ok.ensures.looks tells).seen outcome in
     let to_close = subst (λ (d : _). Outcome (files c.args.limits) c.run-status.result state script left held held' (seen c.args.rows 0) (seen d 0))
-    (sym c.close.ensures.device) from_rows in
+    (sym c.close.ensures) from_rows in
     inl (subst (λ (s : State). Outcome (files c.args.limits) c.run-status.result s script left held held' (seen c.args.rows 0) (seen c.close.result 0)) (sym same) to_close)
 
 pub returns-in-Err-NoMemory-default-clause-runs : goal.returns-in-Err-NoMemory-default-clause-runs
@@ -60,7 +63,8 @@ returns-in-Err-NoMemory-default-clause-runs g c tells_input tells_out tells star
       script,
       again (files c.args.limits) start script script script held held held file file _
           (nothing_yet (files c.args.limits) start script held file database) refl refl
-          (ap (λ (f : ℕ → List ℕ). f 0) (c.in-Err-NoMemory-default.ensures.looks_err tells).seen),
+          (ap (λ (f : ℕ → List ℕ). f 0) (c.in-Err-NoMemory-default.ensures.looks tells).seen),
+      ([], [], refl),
     ))
 
 pub returns-in-Ok-clause-done : goal.returns-in-Ok-clause-done
@@ -71,6 +75,33 @@ returns-in-Ok-clause-done g c e tells_input tells_out tells =
       state,
       database,
       done_completes c.run-status.result c.args.limits state (g.I.Source.left c.args.input.now) (g.I.Source.left c.run-status.new.input) (g.O.Sink.holds c.args.out.now)
-          (g.O.Sink.holds c.run-status.new.out) (seen c.args.rows 0) (seen c.close.result 0) e
+          (g.O.Sink.holds c.run-status.new.out) (seen c.args.rows 0) (seen c.close.result 0) e (c.run-status.ensures.whole tells_input e)
           (returns-in-Ok-clause-runs g c tells_input tells_out tells state database),
+    )
+
+pub returns-in-Err-Damaged-default-clause-runs : goal.returns-in-Err-Damaged-default-clause-runs
+returns-in-Err-Damaged-default-clause-runs g c tells_input tells_out tells start database =
+    absurd ((c.in-Err-Damaged-default.ensures.damaged c.in-Err-Damaged-default.at c.in-Err-Damaged-default.field-0-0-is tells).none start database)
+
+pub returns-in-Err-Damaged-default-clause-no_database : goal.returns-in-Err-Damaged-default-clause-no_database
+returns-in-Err-Damaged-default-clause-no_database g c tells none =
+    let damaged = c.in-Err-Damaged-default.ensures.damaged c.in-Err-Damaged-default.at c.in-Err-Damaged-default.field-0-0-is tells in
+    ((refl, refl, damaged.created), refl, refl, (c.in-Err-Damaged-default.ensures.looks tells).seen)
+
+pub returns-in-Err-Damaged-default-clause-complete : goal.returns-in-Err-Damaged-default-clause-complete
+returns-in-Err-Damaged-default-clause-complete g c tells told state database short read write disk =
+    absurd ((c.in-Err-Damaged-default.ensures.damaged c.in-Err-Damaged-default.at c.in-Err-Damaged-default.field-0-0-is told).none state database)
+
+pub returns-in-Err-Damaged-default-clause-damaged : goal.returns-in-Err-Damaged-default-clause-damaged
+returns-in-Err-Damaged-default-clause-damaged g c device file at e =
+    let place : c.in-Err-Damaged-default.at ≡ at = (let same = e in let is = c.in-Err-Damaged-default.at-is in cc) in (
+      (let same = e in cc),
+      (let same = e in cc),
+      refl,
+      refl,
+      λ told. (
+        subst (λ (at : ℕ). IsDamaged at (g.D.Disk.seen c.args.rows 0)) place
+            (c.in-Err-Damaged-default.ensures.damaged c.in-Err-Damaged-default.at c.in-Err-Damaged-default.field-0-0-is told),
+        (c.in-Err-Damaged-default.ensures.looks told).seen,
+      ),
     )

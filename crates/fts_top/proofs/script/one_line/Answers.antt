@@ -1,5 +1,6 @@
+use Rattle.std.proofs.Common.{refl, inl, sym}
 use Rattle.fts_io.specs.Text.{whole}
-use Rattle.fts_top.proofs.Turning.{skips, sent, told, stands_on}
+use Rattle.fts_top.proofs.Turning.{skips, sent, told}
 use Rattle.fts_io.specs.Text.{too_long}
 use Rattle.fts_schema.specs.declared.reply.Reply.TheVariants.{LineTooLong}
 use Rattle.fts_io.specs.Reading.{ahead}
@@ -13,6 +14,7 @@ returns-in-Line-clause-turns g c tells_input tells_out tells_steps state stands 
     (c.in-Line.ensures.lines tells_input)
     (rw c.deref.ensures.value at (c.execute.ensures.executes tells_steps state stands))
     (c.answer.ensures.tells tells_out)
+    (c.next_line.new.self.line.items, c.next_line.new.self.buffer, refl)
 
 pub returns-in-TooLong-clause-turns : goal.returns-in-TooLong-clause-turns
 returns-in-TooLong-clause-turns g c tells_input tells_out tells_steps state stands =
@@ -22,8 +24,10 @@ returns-in-TooLong-clause-turns g c tells_input tells_out tells_steps state stan
     (c.in-TooLong.ensures.lines tells_input)
     (skips g.S.EngineSteps state c.args.steps.now stands)
     (c.send.ensures.sends tells_out)
+    (c.next_line.new.self.line.items, c.next_line.new.self.buffer, refl)
 
-pub returns-in-Line-clause-ready : goal.returns-in-Line-clause-ready
-returns-in-Line-clause-ready g c tells state stands more =
-    stands_on g.S.EngineSteps state (whole c.deref.result.now) c.execute.result c.args.steps.now c.execute.new.steps
-    (c.answer.ensures.replied more) (c.execute.ensures.executes tells state stands)
+pub returns-in-NoMemory-clause-turns : goal.returns-in-NoMemory-clause-turns
+returns-in-NoMemory-clause-turns g c tells_input tells_out tells_steps state stands = (
+    (c.next_line.new.self.line.items, c.next_line.new.self.buffer, refl),
+    inl (sym (c.in-NoMemory.ensures.lines tells_input), refl, refl),
+)

@@ -1,4 +1,4 @@
-use Rattle.std.proofs.Common.{arith, inl, refl, ap, sym, ◌∙◌}
+use Rattle.std.proofs.Common.{arith, inl, refl, ap, sym, ◌∙◌, []}
 use Rattle.fts_io.specs.Text.{lines_of}
 use Rattle.fts_io.specs.Reading.{ahead, given_by}
 use Rattle.fts_steps.specs.Step.{after_all}
@@ -8,11 +8,10 @@ use Rattle.fts_top.proofs.script.run.Goals as goal
 
 pub returns-in-Err-clause-runs : goal.returns-in-Err-clause-runs
 returns-in-Err-clause-runs g c tells_input tells_out tells_steps start stands =
-    inl (lines_of (g.I.Source.left c.args.input.now), nothing_yet g.S.EngineSteps start (lines_of (g.I.Source.left c.args.input.now)) (g.O.Sink.holds c.args.out.now) c.args.steps.now stands)
+    inl (lines_of (g.I.Source.left c.args.input.now), nothing_yet g.S.EngineSteps start (lines_of (g.I.Source.left c.args.input.now)) (g.O.Sink.holds c.args.out.now) c.args.steps.now stands, ([], [], refl))
 
 pub lines-preserved : goal.lines-preserved
 lines-preserved g c = record {
-  ready = λ tells_steps. let old = c.lines.invariant.ready tells_steps in c.one_line.ensures.ready tells_steps old.0 old.1 c.in-More.is;
   front = λ tells_input tells_out tells_steps start stands.
       let front = c.lines.invariant.front tells_input tells_out tells_steps start stands in
       numbered g.S.EngineSteps start (lines_of (g.I.Source.left c.args.input.now))
@@ -23,9 +22,9 @@ lines-preserved g c = record {
       c.one_line.ensures.limits
       (given_by c.lines.lines) (given_by c.one_line.new.lines) front.1 (c.one_line.ensures.given c.in-More.is);
   counts = λ tells. let one = c.one_line.ensures.counts tells in let old = c.lines.invariant.counts tells in omega arith;
-  input_never_falls = omega arith;
-  out_never_falls = omega arith;
-  steps_never_fall = omega arith;
+  input_calm = c.one_line.ensures.read.calm (λ e. let is = c.in-More.is in cc) ∙ c.lines.invariant.input_calm;
+  out_calm = c.one_line.ensures.write.calm (λ e. let is = c.in-More.is in cc) ∙ c.lines.invariant.out_calm;
+  steps_calm = c.one_line.ensures.disk.calm (λ e. let is = c.in-More.is in cc) ∙ c.lines.invariant.steps_calm;
 }
 
 pub returns-in-Over-clause-runs : goal.returns-in-Over-clause-runs
@@ -40,7 +39,6 @@ returns-in-Over-clause-runs g c tells_input tells_out tells_steps start stands =
 
 pub lines-init : goal.lines-init
 lines-init g c = record {
-  ready = c.requires.ready;
   front = λ tells_input tells_out tells_steps start stands.
       let left = g.I.Source.left c.args.input.now in
       let held = g.O.Sink.holds c.args.out.now in (
@@ -50,7 +48,7 @@ lines-init g c = record {
         sym c.in-Ok.ensures.given,
       );
   counts = λ tells. omega (arith, c.in-Ok.ensures.taken);
-  input_never_falls = omega arith;
-  out_never_falls = omega arith;
-  steps_never_fall = omega arith;
+  input_calm = refl;
+  out_calm = refl;
+  steps_calm = refl;
 }

@@ -7,14 +7,13 @@ use Rattle.fts_top.proofs.script.run.Given as goal
 
 abbrev pub invariant-lines : goal.invariant-lines
 invariant-lines g l = record {
-  ready : IsTrue g.S.EngineSteps.tells → (state : State) × g.S.EngineSteps.stands state l.steps;
   front : IsTrue g.I.Source.tells → IsTrue g.O.Sink.tells → IsTrue g.S.EngineSteps.tells → (start : State) → g.S.EngineSteps.stands start l.initial.steps
       → (front : Front g.S.EngineSteps start (lines_of (g.I.Source.left l.initial.input)) (ahead l.lines (g.I.Source.left l.input))
       (g.O.Sink.holds l.initial.out) (g.O.Sink.holds l.out) l.initial.steps l.steps) × (length front.lines ≡ given_by l.lines);
   counts : IsTrue g.I.Source.tells → taken_by l.lines + length (g.I.Source.left l.input) ≡ length (g.I.Source.left l.initial.input);
-  input_never_falls : g.I.Source.faults l.initial.input ≤ g.I.Source.faults l.input;
-  out_never_falls : g.O.Sink.faults l.initial.out ≤ g.O.Sink.faults l.out;
-  steps_never_fall : g.S.EngineSteps.faults l.initial.steps ≤ g.S.EngineSteps.faults l.steps;
+  input_calm : g.I.Source.faults l.input ≡ g.I.Source.faults l.initial.input;
+  out_calm : g.O.Sink.faults l.out ≡ g.O.Sink.faults l.initial.out;
+  steps_calm : g.S.EngineSteps.faults l.steps ≡ g.S.EngineSteps.faults l.initial.steps;
 }
 
 abbrev pub decreases-lines : goal.decreases-lines

@@ -1,6 +1,6 @@
 use Rattle.std.proofs.Common.{◌≡◌, Some, None, ap, ◌∙◌, subst, rules, arith}
 use Rattle.std.specs.BTreeMap.{get, UpdatesBy}
-use Rattle.fts_aux.specs.Node.{byte_order}
+use Rattle.fts_ilist.specs.Node.{byte_order}
 use Rattle.fts_aux.proofs.Changes.{kept_items, kept_room, new_items, new_room}
 use Rattle.fts_aux.proofs.table.Table.reserve.Goals as goal
 

@@ -1,5 +1,5 @@
 use Rattle.std.proofs.Common.{◌++◌, sym, ap, subst, ◌∙◌, arith, get_or}
-use Rattle.fts_aux.specs.Node.{NodesAfter, last_of}
+use Rattle.fts_ilist.specs.Node.{NodesAfter, last_of}
 use Rattle.fts_aux.specs.Table.{nodes_in}
 use Rattle.fts_aux.proofs.Places.{own_nodes, own_room, own_after, here_nodes, other_nodes, other_room, changed, NodesAfter-append}
 use Rattle.fts_aux.proofs.tables.Tables.append_word.Goals as goal

@@ -1,6 +1,6 @@
 use Rattle.std.proofs.Common.{◌≡◌, ◌≤◌, ◌++◌, ℕ, List, length}
 use Rattle.std.specs.List.{AllByRecursion}
-use Rattle.fts_aux.specs.Node.{NodesAfter, last_of, nodes_for}
+use Rattle.fts_ilist.specs.Node.{NodesAfter, last_of, nodes_for}
 use Rattle.fts_aux.specs.Tables.{nodes, room}
 use Rattle.fts_aux.proofs.Ordered.{Ascends}
 use Rattle.fts_aux.proofs.tables.Tables.install_batch.Given as goal

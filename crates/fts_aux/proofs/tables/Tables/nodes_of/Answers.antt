@@ -1,5 +1,5 @@
 use Rattle.std.proofs.Common.{sym, ◌∙◌, subst}
-use Rattle.fts_aux.specs.Node.{NodesAfter}
+use Rattle.fts_ilist.specs.Node.{NodesAfter}
 use Rattle.fts_aux.proofs.Places.{own_nodes, nodes_seen}
 use Rattle.fts_aux.proofs.tables.Tables.nodes_of.Goals as goal
 

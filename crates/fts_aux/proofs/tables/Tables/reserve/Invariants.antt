@@ -1,5 +1,5 @@
 use Rattle.std.proofs.Common.{◌≡◌, ◌<◌, ◌≤◌, ℕ, List, length, get_or}
-use Rattle.fts_aux.specs.Node.{Docs}
+use Rattle.fts_ilist.specs.Node.{Docs}
 use Rattle.fts_aux.specs.Tables.{nodes, room}
 use Rattle.fts_aux.proofs.tables.Tables.reserve.Given as goal
 

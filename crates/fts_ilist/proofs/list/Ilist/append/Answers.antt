@@ -1,38 +1,52 @@
-use Rattle.std.proofs.Common.{arith, ◌≡◌, ◌++◌, ◌-◌, [], ap, sym, subst, ◌∙◌, List, ℕ, drop}
-use Rattle.std.proofs.lemmas.List.{append-nil, take_rest}
+use Rattle.std.proofs.Common.{arith, ◌≡◌, ◌<◌, ◌++◌, ◌-◌, length, take, drop, ap, sym, subst, ◌∙◌, List, ℕ}
+use Rattle.std.proofs.lemmas.Bool.{eqb-false}
+use Rattle.std.proofs.lemmas.List.{take_rest}
 use Rattle.fts_ilist.specs.Number.{number_bytes}
 use Rattle.fts_ilist.specs.Spelling.{Posting, PostingsAfter, last_id}
 use Rattle.fts_ilist.specs.Reading.{postings_in}
-use Rattle.fts_ilist.specs.Progress.{ReadsIncrease, HasNoIncrease}
-use Rattle.fts_ilist.proofs.Lists.{appended, no_first_id, list_tail}
+use Rattle.fts_ilist.proofs.Lists.{appended, list_tail, first_id_of}
+use Rattle.fts_ilist.proofs.Cursors.{first_increase}
+use Rattle.fts_ilist.proofs.Kept.{few_kept, kept_more}
 use Rattle.fts_ilist.proofs.list.Ilist.append.Goals as goal
 
 pub overflow_sub-first : goal.overflow_sub-first
 overflow_sub-first c =
-    let found : ReadsIncrease c.other.inside.bytes.items 0 0 9223372036854775807 c.in-Ok.first c.in-Ok.start = subst (λ b. ReadsIncrease b 0 0 9223372036854775807 c.in-Ok.first c.in-Ok.start) c.deref.ensures.value c.in-Ok.ensures.found in
+    let some : 0 < length c.other.inside.bytes.items = omega (arith, eqb-false _ _ (sym c.is_empty.ensures ∙ c.if-is_empty.false)) in
+    let number = subst (λ b. b ≡ number_bytes c.front_number-first.result.0 ++ drop c.front_number-first.result.1 b) c.deref.ensures.value c.front_number-first.ensures.found in
+    let found = first_increase c.other.inside.bytes.items c.front_number-first.result.0 c.front_number-first.result.1 (list_tail c.other.inside.last c.other.inside.bytes.items c.other.invariant.list) some number c.front_number-first.ensures.length in
     let after : PostingsAfter (last_id (postings_in 0 c.self.inside.bytes.items)) (postings_in 0 c.other.inside.bytes.items) = rw (c.self.view_is, c.other.view_is) c.requires in
-    let a = appended c.self.inside.last c.self.inside.bytes.items c.other.inside.last c.other.inside.bytes.items c.in-Ok.first c.in-Ok.start c.self.invariant c.other.invariant after found in
+    let a = appended c.self.inside.last c.self.inside.bytes.items c.other.inside.last c.other.inside.bytes.items c.front_number-first.result.0 c.front_number-first.result.1 c.self.invariant.list c.other.invariant.list after found in
     omega (arith, a.above)
 
-pub invariant_of-self : goal.invariant_of-self
-invariant_of-self c =
-    let found : ReadsIncrease c.other.inside.bytes.items 0 0 9223372036854775807 c.in-Ok.first c.in-Ok.start = subst (λ b. ReadsIncrease b 0 0 9223372036854775807 c.in-Ok.first c.in-Ok.start) c.deref.ensures.value c.in-Ok.ensures.found in
-    let after : PostingsAfter (last_id (postings_in 0 c.self.inside.bytes.items)) (postings_in 0 c.other.inside.bytes.items) = rw (c.self.view_is, c.other.view_is) c.requires in
-    let a = appended c.self.inside.last c.self.inside.bytes.items c.other.inside.last c.other.inside.bytes.items c.in-Ok.first c.in-Ok.start c.self.invariant c.other.invariant after found in
-    let tail = take_rest c.deref-in-Ok.result.now c.in-Ok.start ∙ ap (drop c.in-Ok.start) c.deref-in-Ok.ensures.value in
-    (a.made c.append_tail.new.out.items (c.in-Ok-append_tail.ensures.ok ∙ ap (λ (w : List ℕ). c.self.inside.bytes.items ++ (number_bytes (c.in-Ok.first - c.self.inside.last) ++ w)) tail)).is_list
+pub overflow_add-self : goal.overflow_add-self
+overflow_add-self c = omega (arith, few_kept _ _ _ _ c.self.invariant, few_kept _ _ _ _ c.other.invariant)
 
-pub returns-in-Err-clause-ok : goal.returns-in-Err-clause-ok
-returns-in-Err-clause-ok c =
-    let none : c.args.other.now ≡ [] = sym c.other.view_is ∙ no_first_id 0 c.other.inside.bytes.items (list_tail c.other.inside.last c.other.inside.bytes.items c.other.invariant) (subst (λ b. HasNoIncrease b 0 0 9223372036854775807) c.deref.ensures.value c.in-Err.ensures.none) in
-    sym (append-nil c.args.self.now) ∙ ap (λ (w : List Posting). c.args.self.now ++ w) (sym none)
-
-pub returns-in-Ok-append_tail-clause-ok : goal.returns-in-Ok-append_tail-clause-ok
-returns-in-Ok-append_tail-clause-ok c =
-    let found : ReadsIncrease c.other.inside.bytes.items 0 0 9223372036854775807 c.in-Ok.first c.in-Ok.start = subst (λ b. ReadsIncrease b 0 0 9223372036854775807 c.in-Ok.first c.in-Ok.start) c.deref.ensures.value c.in-Ok.ensures.found in
+pub invariant_of-self-2 : goal.invariant_of-self-2
+invariant_of-self-2 c =
+    let some : 0 < length c.other.inside.bytes.items = omega (arith, eqb-false _ _ (sym c.is_empty.ensures ∙ c.if-is_empty.false)) in
+    let number = subst (λ b. b ≡ number_bytes c.front_number-first.result.0 ++ drop c.front_number-first.result.1 b) c.deref.ensures.value c.front_number-first.ensures.found in
+    let found = first_increase c.other.inside.bytes.items c.front_number-first.result.0 c.front_number-first.result.1 (list_tail c.other.inside.last c.other.inside.bytes.items c.other.invariant.list) some number c.front_number-first.ensures.length in
     let after : PostingsAfter (last_id (postings_in 0 c.self.inside.bytes.items)) (postings_in 0 c.other.inside.bytes.items) = rw (c.self.view_is, c.other.view_is) c.requires in
-    let a = appended c.self.inside.last c.self.inside.bytes.items c.other.inside.last c.other.inside.bytes.items c.in-Ok.first c.in-Ok.start c.self.invariant c.other.invariant after found in
-    let tail = take_rest c.deref-in-Ok.result.now c.in-Ok.start ∙ ap (drop c.in-Ok.start) c.deref-in-Ok.ensures.value in
-    (a.made c.append_tail.new.out.items (c.in-Ok-append_tail.ensures.ok ∙ ap (λ (w : List ℕ). c.self.inside.bytes.items ++ (number_bytes (c.in-Ok.first - c.self.inside.last) ++ w)) tail)).view
+    let a = appended c.self.inside.last c.self.inside.bytes.items c.other.inside.last c.other.inside.bytes.items c.front_number-first.result.0 c.front_number-first.result.1 c.self.invariant.list c.other.invariant.list after found in
+    let tail = take_rest c.deref-2.result.now c.front_number-first.result.1 ∙ ap (drop c.front_number-first.result.1) c.deref-2.ensures.value in
+    let written = c.put_tail.ensures.items
+    ∙ ap (λ (w : List ℕ). w ++ (number_bytes (c.front_number-first.result.0 - c.self.inside.last) ++ take (length c.deref-2.result.now - c.front_number-first.result.1) (drop c.front_number-first.result.1 c.deref-2.result.now))) c.in_ok-reserve.ensures.items in
+    let m = a.made c.put_tail.new.out.items (written ∙ ap (λ (w : List ℕ). c.self.inside.bytes.items ++ (number_bytes (c.front_number-first.result.0 - c.self.inside.last) ++ w)) tail) in
+    let has = first_id_of 0 c.other.inside.bytes.items _ _ (list_tail c.other.inside.last c.other.inside.bytes.items c.other.invariant.list) found in
+    rw (c.first_with-self-inside.ensures, c.other.invariant.count_is)
+    (kept_more _ _ _ _ c.front_number-first.result.0 c.other.inside.last _ (postings_in 0 c.other.inside.bytes.items) c.self.invariant has m)
+
+pub returns-clause-ok : goal.returns-clause-ok
+returns-clause-ok c =
+    let some : 0 < length c.other.inside.bytes.items = omega (arith, eqb-false _ _ (sym c.is_empty.ensures ∙ c.if-is_empty.false)) in
+    let number = subst (λ b. b ≡ number_bytes c.front_number-first.result.0 ++ drop c.front_number-first.result.1 b) c.deref.ensures.value c.front_number-first.ensures.found in
+    let found = first_increase c.other.inside.bytes.items c.front_number-first.result.0 c.front_number-first.result.1 (list_tail c.other.inside.last c.other.inside.bytes.items c.other.invariant.list) some number c.front_number-first.ensures.length in
+    let after : PostingsAfter (last_id (postings_in 0 c.self.inside.bytes.items)) (postings_in 0 c.other.inside.bytes.items) = rw (c.self.view_is, c.other.view_is) c.requires in
+    let a = appended c.self.inside.last c.self.inside.bytes.items c.other.inside.last c.other.inside.bytes.items c.front_number-first.result.0 c.front_number-first.result.1 c.self.invariant.list c.other.invariant.list after found in
+    let tail = take_rest c.deref-2.result.now c.front_number-first.result.1 ∙ ap (drop c.front_number-first.result.1) c.deref-2.ensures.value in
+    let written = c.put_tail.ensures.items
+    ∙ ap (λ (w : List ℕ). w ++ (number_bytes (c.front_number-first.result.0 - c.self.inside.last) ++ take (length c.deref-2.result.now - c.front_number-first.result.1) (drop c.front_number-first.result.1 c.deref-2.result.now))) c.in_ok-reserve.ensures.items in
+    let m = a.made c.put_tail.new.out.items (written ∙ ap (λ (w : List ℕ). c.self.inside.bytes.items ++ (number_bytes (c.front_number-first.result.0 - c.self.inside.last) ++ w)) tail) in
+    m.view
     ∙ ap (λ (w : List Posting). w ++ postings_in 0 c.other.inside.bytes.items) c.self.view_is
     ∙ ap (λ (w : List Posting). c.args.self.now ++ w) c.other.view_is

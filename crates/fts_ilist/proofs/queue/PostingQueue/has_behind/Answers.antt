@@ -1,4 +1,4 @@
-use Rattle.std.proofs.Common.{◌≡◌, ◌≢◌, ◌<◌, arith, nat_lt, IsTrue, [], ap, sym, subst, ◌∙◌}
+use Rattle.std.proofs.Common.{arith, ap, sym, ◌∙◌}
 use Rattle.std.proofs.lemmas.Bool.{lt-ltb, ltb-true}
 use Rattle.fts_ilist.specs.Queue.{postings_behind}
 use Rattle.fts_ilist.proofs.Queues.{has_some, has_none}

@@ -1,6 +1,6 @@
-use Rattle.std.proofs.Common.{◌≡◌, ◌+◌, ◌-◌, ◌≤◌, ◌<◌, ◌^◌, ◌++◌, ◌∷◌, [], length, vec_capacity, arith, ap, ◌∙◌}
+use Rattle.std.proofs.Common.{◌+◌, ◌-◌, ◌≤◌, ◌<◌, ◌^◌, ◌++◌, ◌∷◌, [], length, vec_capacity, arith, ap, ◌∙◌}
 use Rattle.fts_ilist.specs.Spelling.{Posting}
-use Rattle.fts_ilist.proofs.Queues.{IsQueueOf, queue_pushed, few_positions}
+use Rattle.fts_ilist.proofs.Queues.{queue_pushed, few_positions}
 use Rattle.fts_ilist.proofs.queue.PostingQueue.push.Goals as goal
 
 pub bytes_for_document-requires : goal.bytes_for_document-requires

@@ -40,5 +40,5 @@ loop-self-preserved g c =
       given = search rules;
       counts = search rules;
       work = search rules;
-      never_falls = search rules;
+      calm = search rules;
     }

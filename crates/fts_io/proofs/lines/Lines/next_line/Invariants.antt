@@ -8,7 +8,7 @@ invariant-loop-self g l = record {
   given : given_by l.self ≡ given_by l.initial.self;
   counts : IsTrue g.S.Source.tells → taken_by l.self + length (g.S.Source.left l.source) ≡ taken_by l.initial.self + length (g.S.Source.left l.initial.source);
   work : work_left l.self ≤ work_left l.initial.self;
-  never_falls : g.S.Source.faults l.initial.source ≤ g.S.Source.faults l.source;
+  calm : g.S.Source.faults l.source ≡ g.S.Source.faults l.initial.source;
 }
 
 abbrev pub decreases-loop-self : goal.decreases-loop-self

@@ -1,45 +1,11 @@
-use Rattle.std.proofs.Common.{ℕ, ◌≢◌, ◌∙◌, List, ◌+◌, ◌++◌, [], ◌∷◌, inl, inr, refl, ap, length, arith}
+use Rattle.std.proofs.Common.{ℕ, ◌≢◌, ◌∙◌, List, ◌+◌, ◌++◌, [], ◌∷◌, refl, ap, length, arith}
 use Rattle.fts_disk.specs.Device.{Files}
 use Rattle.fts_log.specs.Frame.{payload_of}
 use Rattle.fts_log.specs.Log.{magic_of}
 use Rattle.fts_log.specs.Record.{IsLog}
-use Rattle.fts_log.proofs.Appending.{IsStaged, kept, fits_within, after_torn, after_write, after_torn_gate, after_gate, still_log, stands_after}
+use Rattle.fts_log.proofs.Appending.{IsStaged, kept, fits_within, after_write, after_gate, stands_after}
 use Rattle.fts_log.proofs.Crashing.{run_write, run_sync, run_gate, run_last}
 use Rattle.fts_log.proofs.log.Log.append.Goals as goal
-
--- a first write that failed
-pub returns-in_err-write_at-clause-doubt : goal.returns-in_err-write_at-clause-doubt
-returns-in_err-write_at-clause-doubt g c is_err told entries stands =
-    inl (after_torn (magic_of c.args.self.now) entries (payload_of c.args.framed.now) _ _ _ _ stands.«end» stands.is_log (c.in_err-write_at.ensures.torn told).this)
-
--- a first sync that failed
-pub returns-in_err-sync-clause-doubt : goal.returns-in_err-sync-clause-doubt
-returns-in_err-sync-clause-doubt g c is_err told entries stands =
-    let magic = magic_of c.args.self.now in
-    let payload = payload_of c.args.framed.now in
-    let written = after_write magic entries payload _ _ _ _ stands.«end» c.bytes-bytes.ensures stands.is_log (c.in_ok-write_at.ensures.written told).this in
-    inl (kept (IsLog magic entries) _ _ (c.sync.ensures.seen told) (still_log magic entries payload _ written))
-
--- a write of the gate that failed
-pub returns-in_err-write_at-2-clause-doubt : goal.returns-in_err-write_at-2-clause-doubt
-returns-in_err-write_at-2-clause-doubt g c is_err told entries stands =
-    let magic = magic_of c.args.self.now in
-    let payload = payload_of c.args.framed.now in
-    let fits = fits_within payload _ _ _ c.bytes-bytes.ensures c.if-end-self.false c.args.self.now.limited in
-    let written = after_write magic entries payload _ _ _ _ stands.«end» c.bytes-bytes.ensures stands.is_log (c.in_ok-write_at.ensures.written told).this in
-    let synced = kept (IsStaged magic entries payload) _ _ (c.sync.ensures.seen told) written in
-    after_torn_gate magic entries payload _ _ _ (omega (arith, stands.«end», c.args.self.now.closed)) fits synced (c.in_err-write_at-2.ensures.torn told).this
-
--- a second sync that failed
-pub returns-in_err-sync-2-clause-doubt : goal.returns-in_err-sync-2-clause-doubt
-returns-in_err-sync-2-clause-doubt g c is_err told entries stands =
-    let magic = magic_of c.args.self.now in
-    let payload = payload_of c.args.framed.now in
-    let fits = fits_within payload _ _ _ c.bytes-bytes.ensures c.if-end-self.false c.args.self.now.limited in
-    let written = after_write magic entries payload _ _ _ _ stands.«end» c.bytes-bytes.ensures stands.is_log (c.in_ok-write_at.ensures.written told).this in
-    let synced = kept (IsStaged magic entries payload) _ _ (c.sync.ensures.seen told) written in
-    let opened = after_gate magic entries payload _ _ _ (omega (arith, stands.«end», c.args.self.now.closed)) fits synced (c.in_ok-write_at-2.ensures.written told).this in
-    inr (kept (IsLog magic (entries ++ payload ∷ [])) _ _ (c.sync-2.ensures.seen told) opened)
 
 -- all four calls
 pub returns-clause-acknowledged : goal.returns-clause-acknowledged

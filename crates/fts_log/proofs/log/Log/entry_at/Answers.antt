@@ -1,16 +1,19 @@
-use Rattle.std.proofs.Common.{ℕ, ◌+◌, ◌∙◌, ap, length, take, drop, arith}
+use Rattle.std.proofs.Common.{◌≡◌, ℕ, List, ◌+◌, ◌<◌, ◌∙◌, ap, subst, length, take, drop, slice_index, arith}
 use Rattle.std.proofs.lemmas.Result.{IfOk-weaker}
-use Rattle.fts_log.specs.Place.{start_of}
-use Rattle.fts_log.specs.Log.{ends_in}
+use Rattle.fts_log.specs.Place.{start_of, AreWithin}
+use Rattle.fts_log.specs.Found.{ends_in}
 use Rattle.fts_log.proofs.Finding.{found_there}
 use Rattle.fts_log.proofs.log.Log.entry_at.Goals as goal
 
 pub read_bytes-requires : goal.read_bytes-requires
 read_bytes-requires g c told =
-    let ready = c.requires.ready told in
-    let size = ap length (ap ends_in c.in-Some.is) in
-    let there = found_there c.args.self.now ready.0 c.in-Some.found c.args.k ready.1 c.args.self.now.whole_magic c.in-Some.is (omega (arith, size, c.requires.found)) in
-    omega (arith, there.room, there.within, c.payload_at.ensures.start, c.payload_at.ensures.size)
+    let ends = c.in-Some.found.ends.items in
+    let kept : ends_in c.args.self.now.found ≡ ends = ap ends_in c.in-Some.is in
+    let small : c.args.k < length ends = omega (arith, ap length kept, c.requires.found) in
+    let room = c.in-Some.found.spaced c.args.k small in
+    let before : slice_index ends c.args.k < c.args.self.now.«end» =
+    subst (λ (ends : List ℕ). AreWithin c.args.self.now.«end» ends) kept c.args.self.now.found_within c.args.k small in
+    omega (arith, room, before, c.args.self.now.reaches told, c.payload_at.ensures.start, c.payload_at.ensures.size)
 
 pub returns-clause-entry : goal.returns-clause-entry
 returns-clause-entry g c = IfOk-weaker c.read_bytes.result _ _ (λ payload read told entries stands.

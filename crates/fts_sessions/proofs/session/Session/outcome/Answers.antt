@@ -5,8 +5,8 @@ use Rattle.fts_sessions.proofs.Executing.{done, unknown_line}
 use Rattle.fts_sessions.proofs.Values.{line_fit}
 use Rattle.fts_sessions.proofs.session.Session.outcome.Goals as goal
 
-pub insert-requires-clause-fit : goal.insert-requires-clause-fit
-insert-requires-clause-fit g c =
+pub insert-requires : goal.insert-requires
+insert-requires g c =
     line_fit c.args.line.now c.in-Ok-Some-Insert.table c.in-Ok-Some-Insert.columns c.in-Ok-Some-Insert.values
     (c.in-Ok-Some-Insert.ensures.statement (Insert c.in-Ok-Some-Insert.table c.in-Ok-Some-Insert.columns c.in-Ok-Some-Insert.values)
     (let a = c.in-Ok-Some-Insert.field-0-is in let b = c.in-Ok-Some-Insert.field-0-0-is in cc))

@@ -1,0 +1,11 @@
+//! What holds of the rows of each database.
+ghost use Rattle.std.specs.Prelude.{◌<◌, Bool, List, map, filter};
+ghost use Rattle.std.specs.List.{AllPairs};
+ghost use Rattle.fts_commits.specs.Commit.{Commit, Row, replay};
+
+/// Whichever of a database's rows a test takes, their document ids ascend: those of a scan do. It
+/// does nothing: its contract is the theorem.
+pub fn ids_ascend()
+    ensures { (commits : List Commit) → (test : Row → Bool) → AllPairs (λ a b. a < b)
+        (map (λ row. row.doc) (filter test (replay commits).list)) }
+{}

@@ -1,0 +1,109 @@
+-- Where a document ends, found by its bytes alone.
+use Rattle.std.proofs.Common.{◌≡◌, ℕ, zero, suc, ◌+◌, ◌-◌, ◌/◌, ◌%◌, ◌<◌, ◌≤◌, List, [], ◌∷◌, ◌++◌, length, true, false, if◌then◌else◌, refl, ap, ◌∙◌, append_assoc, arith, inl, inr}
+use Rattle.std.proofs.lemmas.Bool.{cases_lt, lt-ltb, le-ltb, ne_eqb}
+use Rattle.std.proofs.lemmas.List.{length-append}
+use Rattle.fts_ilist.specs.Number.{groups, number_bytes}
+use Rattle.fts_ilist.specs.Spelling.{items_bytes, position_items, PositionsFrom, ArePositions}
+use Rattle.fts_ilist.specs.Progress.{is_end, BeginsBody, EndsBody}
+use Rattle.fts_ilist.proofs.Groups.{all_groups, number_is, length_number}
+
+-- how many bytes stand before the first that ends a document
+unfoldable pub to_end : ℕ → List ℕ → ℕ
+to_end before [] = 0
+to_end before (b ∷ bs) = if is_end before b then 0 else 1 + to_end b bs
+
+pub end_here : (before b : ℕ) (bs : List ℕ) → is_end before b ≡ true → to_end before (b ∷ bs) ≡ 0
+unfolding to_end
+end_here before b bs e = rw e refl
+
+pub end_later : (before b : ℕ) (bs : List ℕ) → is_end before b ≡ false → to_end before (b ∷ bs) ≡ 1 + to_end b bs
+unfolding to_end
+end_later before b bs e = rw e refl
+
+pub no_end : (before : ℕ) → to_end before [] ≡ 0
+unfolding to_end
+no_end before = refl
+
+behind_small : (before b : ℕ) → before < 128 → is_end before b ≡ false
+behind_small before b h = rw (lt-ltb before 128 h) refl
+
+is_positive : (before b : ℕ) → 0 < b → is_end before b ≡ false
+is_positive before b h =
+    elim (cases_lt before 128) [
+      | inl lt ↦ behind_small before b lt
+      | inr le ↦ rw (le-ltb before 128 le) (ne_eqb b 0 (λ (e : b ≡ 0). omega arith))
+    ]
+
+ends_behind : (before : ℕ) → 128 ≤ before → is_end before 0 ≡ true
+ends_behind before h = rw (le-ltb before 128 h) refl
+
+no_groups : (j : ℕ) → groups j 0 ≡ []
+unfolding groups
+no_groups zero = refl
+no_groups (suc j) = refl
+
+-- groups of a number have none
+past_groups : (k n before : ℕ) (rest : List ℕ) → n ≤ k → 0 < n → to_end before (groups k n ++ rest) ≡ length (groups k n) + to_end (n % 128) rest
+unfolding groups
+past_groups zero n before rest h some = absurd (omega arith)
+past_groups (suc k) zero before rest h some = absurd (omega arith)
+past_groups (suc k) (suc m) before rest h some =
+    let q = suc m / 128 in
+    let r = suc m % 128 in
+    let len : length (groups k q ++ r ∷ []) ≡ length (groups k q) + 1 = length-append (groups k q) (r ∷ []) in
+    ap (to_end before) (append_assoc (groups k q) (r ∷ []) rest)
+    ∙ elim (cases_lt 0 q) [
+      | inl more ↦
+          let before_it : to_end before (groups k q ++ r ∷ rest) ≡ length (groups k q) + to_end (q % 128) (r ∷ rest) = past_groups k q before (r ∷ rest) (omega arith) more in
+          let it : to_end (q % 128) (r ∷ rest) ≡ 1 + to_end r rest = end_later (q % 128) r rest (behind_small (q % 128) r (omega arith)) in
+          omega arith
+      | inr none ↦
+          let z : q ≡ 0 = omega arith in
+          let none_before : groups k q ≡ [] = ap (groups k) z ∙ no_groups k in
+          let it : to_end before (r ∷ rest) ≡ 1 + to_end r rest = end_later before r rest (is_positive before r (omega arith)) in
+          ap (λ (w : List ℕ). to_end before (w ++ r ∷ rest)) none_before ∙ it ∙ omega (arith, len, ap length none_before)
+    ]
+
+-- nor has a number above 0
+past_number : (n before : ℕ) (rest : List ℕ) → 0 < n → to_end before (number_bytes n ++ rest) ≡ length (number_bytes n) + to_end (n % 128 + 128) rest
+past_number n before rest some =
+    let q = n / 128 in
+    let r = n % 128 + 128 in
+    let step : (b : ℕ) → to_end b (r ∷ rest) ≡ 1 + to_end r rest = λ b. end_later b r rest (is_positive b r (omega arith)) in
+    ap (λ (w : List ℕ). to_end before (w ++ rest)) (number_is n)
+    ∙ ap (to_end before) (append_assoc (all_groups q) (r ∷ []) rest)
+    ∙ elim (cases_lt 0 q) [
+      | inl more ↦
+          let before_it = past_groups q q before (r ∷ rest) (omega arith) more in
+          omega (arith, before_it, step (q % 128), length_number n)
+      | inr none ↦
+          let z : q ≡ 0 = omega arith in
+          let none_before : all_groups q ≡ [] = ap all_groups z ∙ no_groups 0 in
+          ap (λ (w : List ℕ). to_end before (w ++ r ∷ rest)) none_before ∙ step before ∙ omega (arith, length_number n, ap length none_before)
+    ]
+
+first_positions : (next before p : ℕ) (ps rest : List ℕ)
+    → to_end ((p + 1 - next) % 128 + 128) (items_bytes (position_items (p + 1) ps) ++ 0 ∷ rest) ≡ length (items_bytes (position_items (p + 1) ps)) → next ≤ p
+    → to_end before (items_bytes (position_items next (p ∷ ps)) ++ 0 ∷ rest) ≡ length (items_bytes (position_items next (p ∷ ps)))
+first_positions next before p ps rest others h =
+    let n = p + 1 - next in
+    let body = items_bytes (position_items (p + 1) ps) in
+    ap (to_end before) (append_assoc (number_bytes n) body (0 ∷ rest))
+    ∙ past_number n before (body ++ 0 ∷ rest) (omega arith)
+    ∙ omega (arith, others, length-append (number_bytes n) body)
+
+past_positions : (next before : ℕ) (ps rest : List ℕ) → 128 ≤ before → PositionsFrom next ps
+    → to_end before (items_bytes (position_items next ps) ++ 0 ∷ rest) ≡ length (items_bytes (position_items next ps))
+past_positions next before [] rest high h = end_here before 0 rest (ends_behind before high)
+past_positions next before (p ∷ ps) rest high h = first_positions next before p ps rest (past_positions (p + 1) ((p + 1 - next) % 128 + 128) ps rest (omega arith) h.2) h.0
+
+ends_positions : (ps rest : List ℕ) → ArePositions ps → to_end 0 (items_bytes (position_items 0 ps) ++ 0 ∷ rest) ≡ length (items_bytes (position_items 0 ps))
+ends_positions [] rest h = absurd (omega (arith, h.0))
+ends_positions (p ∷ ps) rest h = first_positions 0 0 p ps rest (past_positions (p + 1) ((p + 1 - 0) % 128 + 128) ps rest (omega arith) h.1.2) h.1.0
+
+pub body_ends : (bytes : List ℕ) (at : ℕ) → to_end 0 bytes ≡ at → EndsBody bytes (at + 1)
+body_ends bytes at e = λ positions rest are body. omega (arith, e, ap (to_end 0) body, ends_positions positions rest are)
+
+pub end_within : (bytes : List ℕ) → BeginsBody bytes → to_end 0 bytes < length bytes
+end_within bytes b =
+    omega (arith, ap (to_end 0) b.body, ends_positions b.positions b.rest b.are_positions, ap length b.body, length-append (items_bytes (position_items 0 b.positions)) (0 ∷ b.rest))

@@ -1,0 +1,135 @@
+//! The one reader of lists that are known to be right: it stands at a document, and goes on from
+//! there.
+ghost use Rattle.std.specs.Prelude.{◌≡◌, List, [], drop, IfNone, IfSome};
+ghost use Rattle.std.specs.Iterator.{YieldsFirst, item_count};
+ghost use Rattle.fts_ilist.specs.Spelling.{HasFirstId};
+ghost use Rattle.fts_ilist.specs.Reading.{postings_in, IsTail};
+ghost use Rattle.fts_ilist.specs.Cursor.{postings_from, first_positions, IsBelow};
+
+use crate::documents::{Document, Positions};
+use crate::number::front_number;
+use crate::reading::body_len;
+use std::iter::FusedIterator;
+use std::marker::Model;
+
+/// The documents of a list from the one at which it stands on, by ascending ids. It borrows the
+/// list's bytes, copies nothing and takes no memory. As an iterator it gives the document at which
+/// it stands, and goes on.
+#[derive(Drop)]
+pub struct Cursor<'a> {
+    // The bytes from the first position of the document at which it stands on.
+    rest: &'a [u8],
+    // That document's id, or 0 at the end.
+    id: u64,
+}
+
+impl<'a> Model for Cursor<'a> {
+    ghost use Rattle.std.specs.Prelude.{List};
+    ghost use Rattle.fts_ilist.specs.Spelling.{Posting};
+    ghost use Rattle.fts_ilist.specs.Cursor.{postings_at, IsCursor};
+
+    ghost Value = { List Posting };
+
+    ghost view = { λ c. postings_at c.id c.rest.now };
+
+    ghost invariant = { λ c. IsCursor c.id c.rest.now };
+}
+
+impl<'a> Cursor<'a> {
+    /// A cursor over no documents.
+    pub fn none() -> Self
+        ensures { result ≡ [] }
+    {
+        Cursor { rest: &[], id: 0 }
+    }
+
+    /// A cursor at the first of the documents that these bytes spell behind the id `last`.
+    #[inline]
+    pub(crate) fn new(last: u64, bytes: &'a [u8]) -> Self
+        requires { IsTail last bytes.now }
+        ensures { result ≡ postings_in last bytes.now }
+    {
+        if bytes.is_empty() {
+            return Cursor { rest: bytes, id: 0 };
+        }
+        let (increase, len) = front_number(bytes);
+        Cursor {
+            rest: &bytes[len..],
+            id: last + increase,
+        }
+    }
+
+    /// The id of the document at which it stands, and None at the end. Nothing moves.
+    #[inline]
+    pub fn doc(&self) -> Option<u64>
+        ensures none { IfNone result (self.now ≡ []) }
+        ensures doc { IfSome result (HasFirstId self.now) }
+    {
+        if self.id == 0 { None } else { Some(self.id) }
+    }
+
+    /// The positions of the document at which it stands, in ascending order, and none at the end.
+    /// Nothing moves.
+    #[inline]
+    pub fn positions(&self) -> Positions<'a>
+        ensures { result ≡ first_positions self.now }
+    {
+        Positions {
+            rest: self.rest,
+            next: 0,
+        }
+    }
+
+    /// Goes to the next document. At the end it stays there.
+    #[inline]
+    pub fn advance(&mut self)
+        ensures { self.new ≡ drop 1 self.old }
+    {
+        if self.id > 0 {
+            let len = body_len(self.rest);
+            *self = Cursor::new(self.id, &self.rest[len..]);
+        }
+    }
+
+    /// Goes to the first document, from where it stands on, that is not below `id`. No position is
+    /// decoded.
+    pub fn skip_to(&mut self, id: u64)
+        ensures { self.new ≡ postings_from id self.old }
+    {
+        while self.is_below(id) {
+            self.advance();
+        }
+    }
+
+    /// Whether it stands at a document below `id`.
+    #[inline]
+    fn is_below(&self, id: u64) -> bool
+        ensures { IsBelow id self.now result }
+    {
+        self.id > 0 && self.id < id
+    }
+}
+
+impl<'a> Iterator for Cursor<'a> {
+    type Item = Document<'a>;
+
+    ghost next_gives = { YieldsFirst (λ rest. rest) };
+
+    ghost remaining = { item_count (λ rest. rest) };
+
+    #[inline]
+    fn next(&mut self) -> Option<Document<'a>> {
+        if self.id == 0 {
+            return None;
+        }
+        let len = body_len(self.rest);
+        let document = Document {
+            id: self.id,
+            encoded: &self.rest[..len - 1],
+        };
+        *self = Cursor::new(self.id, &self.rest[len..]);
+        Some(document)
+    }
+}
+
+impl<'a> FusedIterator for Cursor<'a> {}

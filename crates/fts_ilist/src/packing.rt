@@ -1,0 +1,122 @@
+//! Documents packed into nodes.
+ghost use Rattle.std.specs.Prelude.{◌≡◌, ◌<◌, [], ◌∷◌, ◌++◌, map, IfOk, OnOk, OnErr};
+ghost use Rattle.fts_ilist.specs.Spelling.{ArePostings, last_id};
+ghost use Rattle.fts_ilist.specs.Packing.{packed, PutsInto};
+
+use crate::cursor::Cursor;
+use crate::documents::Document;
+use crate::list::Ilist;
+use std::alloc::{AllocError, Global};
+use std::marker::Model;
+use std::mem;
+
+/// How many bytes a node may have, unless it has one document alone.
+pub const NODE_LIMIT: usize = 8_192;
+
+/// The nodes of a word while its documents come, one behind the other: each node is the list of its
+/// documents, and is closed where the next document would bring its bytes above 8,192.
+#[derive(Drop)]
+pub struct Packing {
+    closed: Vec<Ilist>,
+    // The node that is begun; without documents only where none came.
+    begun: Ilist,
+}
+
+impl Model for Packing {
+    ghost use Rattle.std.specs.Prelude.{List, ◌++◌};
+    ghost use Rattle.fts_ilist.specs.Spelling.{Posting};
+    ghost use Rattle.fts_ilist.specs.Packing.{joined, IsPacking};
+
+    ghost Value = { List Posting };
+
+    ghost view = { λ p. joined p.closed.items ++ p.begun };
+
+    ghost invariant = { λ p. IsPacking p.closed.items p.begun };
+}
+
+/// Closes a node where one more document has no place in it, and begins one with the document.
+fn begin_next(
+    closed: &mut Vec<Ilist>,
+    begun: &mut Ilist,
+    document: &Document<'_>,
+) -> Result<(), AllocError>
+    requires { 0 < document.now.id }
+    ensures closed { OnOk result (closed.new.items ≡ closed.old.items ++ begun.old ∷ []) }
+    ensures begun { OnOk result (begun.new ≡ document.now ∷ []) }
+    ensures err_closed { OnErr result (closed.new.items ≡ closed.old.items) }
+    ensures err_begun { OnErr result (begun.new ≡ begun.old) }
+{
+    closed.reserve(1)?;
+    let mut next = Ilist::new(*closed.allocator());
+    next.push_document(document)?;
+    closed.push(mem::replace(begun, next)).unwrap();
+    Ok(())
+}
+
+/// Puts a document into the node that is begun, where that has a place for it, and else into one
+/// more.
+fn put(
+    closed: &mut Vec<Ilist>,
+    begun: &mut Ilist,
+    document: &Document<'_>,
+) -> Result<(), AllocError>
+    requires { last_id begun.old < document.now.id }
+    ensures ok { OnOk result (PutsInto closed.old.items begun.old document.now closed.new.items
+        begun.new) }
+    ensures err_closed { OnErr result (closed.new.items ≡ closed.old.items) }
+    ensures err_begun { OnErr result (begun.new ≡ begun.old) }
+{
+    if begun.is_empty() {
+        return begun.push_document(document);
+    }
+    if begun.takes(document, NODE_LIMIT) {
+        return begun.push_document(document);
+    }
+    begin_next(closed, begun, document)
+}
+
+impl Packing {
+    /// No documents. What it holds later lies in this allocator.
+    pub fn new(alloc: Global) -> Self
+        ensures { result ≡ [] }
+    {
+        Packing {
+            closed: Vec::new(alloc),
+            begun: Ilist::new(alloc),
+        }
+    }
+
+    /// Adds a document behind the last. Where there is no memory for it, nothing changes.
+    pub fn push(&mut self, document: &Document<'_>) -> Result<(), AllocError>
+        requires { last_id self.old < document.now.id }
+        ensures ok { OnOk result (self.new ≡ self.old ++ document.now ∷ []) }
+        ensures err { OnErr result (self.new ≡ self.old) }
+    {
+        put(&mut self.closed, &mut self.begun, document)?;
+        Ok(())
+    }
+
+    /// The nodes of the documents, each as the list of its documents.
+    pub fn finish(self) -> Result<Vec<Ilist>, AllocError>
+        ensures { IfOk result (λ nodes. nodes.items ≡ packed self) }
+    {
+        let Packing { mut closed, begun } = self;
+        if begun.is_empty() {
+            return Ok(closed);
+        }
+        closed.push(begun)?;
+        Ok(closed)
+    }
+}
+
+/// The nodes of these documents.
+pub fn pack(alloc: Global, docs: Cursor<'_>) -> Result<Vec<Ilist>, AllocError>
+    requires { ArePostings docs }
+    ensures { IfOk result (λ nodes. nodes.items ≡ packed docs.entry) }
+{
+    let mut packing = Packing::new(alloc);
+    for document in docs {
+        packing.push(&document)?;
+    }
+    packing.finish()
+}

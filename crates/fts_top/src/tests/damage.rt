@@ -1,0 +1,64 @@
+//! Logs of a database whose bytes were changed.
+use super::calling::{RUN, call, disk_of, ended};
+use crate::{Device, Status};
+use fts_disk::MemDisk;
+use std::alloc::Global;
+use std::test::Fail;
+
+/// The log of a database with one column and one row.
+const LOG: &[u8] = b"FTSROWS1\x01\x00\x00\x00\x14\
+\x00\x01\x04body\x03\x54\x01\x07\xd0\x00\x7a\x12\x00\x00\x00\x03\xe8\
+\x01\x00\x00\x00\x14\x01\x00\x01\x01\x00\x00\x00\x00\x00\x00\x00\x01\x00\x00\x05apple\x00";
+
+/// The log with these bytes at these places.
+fn log_with(alloc: Global, changes: &[(usize, u8)]) -> Result<MemDisk, Fail> {
+    let mut bytes = Vec::from_slice(alloc, LOG)?;
+    for (place, byte) in changes {
+        if let Some(there) = bytes.get_mut(*place) {
+            *there = *byte;
+        }
+    }
+    Ok(disk_of(alloc, &bytes)?)
+}
+
+/// Changes, and the first place at fault: a wrong magic, settings, payload and text; a torn record;
+/// and a wrong one before a torn one.
+const DAMAGES: [(&[(usize, u8)], u64); 8] = [
+    (&[(0, b'f')], 0),
+    (&[(9, 0xff)], 8),
+    (&[(22, 2)], 8),
+    (&[(38, 7)], 33),
+    (&[(40, 2)], 33),
+    (&[(53, 0x80)], 33),
+    (&[(58, 1)], 58),
+    (&[(53, 0x80), (58, 1)], 33),
+];
+
+#[test]
+fn the_first_place_at_fault_is_told(rt: HostRuntime) -> Result<(), Fail> {
+    for (changes, at) in DAMAGES {
+        let run = call(rt.alloc(), RUN, b"", log_with(rt.alloc(), changes)?)?;
+        let damaged = Status::Damaged {
+            device: Device::Rows,
+            file: 0,
+            at,
+        };
+        ended(&rt, &run, &damaged, "", "a changed log");
+    }
+    Ok(())
+}
+
+#[test]
+fn a_closed_gate_ends_the_log(rt: HostRuntime) -> Result<(), Fail> {
+    let search =
+        b"SELECT FTS_DOC_ID FROM docs WHERE MATCH (body) AGAINST ('apple' IN BOOLEAN MODE)\n";
+    let run = call(rt.alloc(), RUN, search, log_with(rt.alloc(), &[(33, 0)])?)?;
+    ended(
+        &rt,
+        &run,
+        &Status::Done,
+        "OK as of 0: none\n",
+        "a closed gate",
+    );
+    Ok(())
+}
