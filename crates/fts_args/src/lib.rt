@@ -1,7 +1,12 @@
 //! The program's command line: what its words ask for.
 //!
-//! The words are read by [`clap`], from the description of the command line that stands in
-//! `src/line.rt`. The grammar is in `docs/LANGUAGE.md`, "The command line".
+//! [`command_of`] answers the command that the words behind the program's name ask for: of
+//! `shop create --columns body` it is `Command::Create` with the settings that the options name, of
+//! `shop run` it is `Command::Run`, and of any other words there is none. The words are read by
+//! [`clap`], from the description of the command line that stands in `src/line.rt`. The grammar is
+//! in `docs/LANGUAGE.md`, "The command line".
+//!
+//! It costs a few passes over the words, once.
 #![tactic(auto)]
 
 mod asked;

@@ -1,5 +1,12 @@
 //! Rows and commits, and what a search finds: the definitions that each layer above is proved
 //! against.
+//!
+//! A commit is a list of changes, as `Change::Delete { key: 7 }`, and a [`Refusal`] says why one
+//! cannot be made, as `Refusal::DuplicateKey { key: 7, change: 2 }`. The definitions stand in
+//! `specs/`: `Commit.antt` has what a commit makes of the rows, `Scan.antt` what a search finds, and
+//! no index appears in them.
+//!
+//! To hold a change costs its texts.
 #![tactic(auto)]
 
 mod change;

@@ -1,4 +1,12 @@
 //! The engine: a database on one device, its steps, and its opening again from the rows log.
+//!
+//! [`create_engine`] makes a database, and [`open_engine`] finds one:
+//! `let mut engine = open_engine(alloc, device, Limits::standard())?`. Then
+//! `engine.commit(&[change])?` gives the commit's number once it is durable, and
+//! `engine.view(b"apple")?` the ids of the rows that have the word.
+//!
+//! A commit costs the bytes of its changes, a look-up for each key and word, two writes and two
+//! syncs; a view the word's documents; an opening each record once and the words of all rows.
 #![tactic(auto)]
 
 mod create;

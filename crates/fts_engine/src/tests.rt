@@ -92,6 +92,19 @@ fn two_rows(alloc: Global, first: Key, second: Key) -> Result<Vec<Change>, Alloc
     Ok(vec![in alloc; pie, plum]?)
 }
 
+/// The INSERTs of so many rows, with keys from 1.
+fn many_rows(alloc: Global, count: u64) -> Result<Vec<Change>, AllocError>
+    requires some { 1 ≤ count }
+    requires few { count ≤ 1000 }
+    ensures { IfOk result (λ changes. CanCommit 2 changes.items) }
+{
+    let mut changes = Vec::new(alloc);
+    for key in 0..count {
+        changes.push(insert(alloc, key + 1, b"Apple pie", b"with cream")?)?;
+    }
+    Ok(changes)
+}
+
 /// The INSERT of one row with an apostrophe within a word.
 fn quoted_row(alloc: Global) -> Result<Vec<Change>, AllocError>
     ensures { IfOk result (λ changes. CanCommit 2 changes.items) }
@@ -142,6 +155,17 @@ fn a_commit_is_found_and_again_after_opening(rt: HostRuntime) -> Result<(), Fail
     assert!(rt; finds_all(&engine, &FOUND)?);
     let engine = open(alloc, engine.close(), 1, 0)?;
     assert!(rt; finds_all(&engine, &FOUND)? && engine.commits() == 1);
+    Ok(())
+}
+
+#[test]
+fn a_thousand_changes_are_a_commit(rt: HostRuntime) -> Result<(), Fail> {
+    let alloc = rt.alloc();
+    let rows = create(alloc, empty_disk(alloc)?)?;
+    let mut engine = open(alloc, rows, 1_000, LARGEST_LOG)?;
+    assert_eq!(rt; commit(&mut engine, &many_rows(alloc, 1_000)?), Some(Ok(1)));
+    let engine = open(alloc, engine.close(), 1_000, 0)?;
+    assert!(rt; engine.commits() == 1 && engine.view(b"cream")?.docs.as_slice().len() == 1_000);
     Ok(())
 }
 

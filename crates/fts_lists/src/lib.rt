@@ -3,6 +3,10 @@
 //! InnoDB keeps the ids of deleted documents in the tables `DELETED`, `BEING_DELETED` and
 //! `DELETED_CACHE` of an index, and its numbers in `CONFIG`. Source: MySQL 8.0 Reference Manual,
 //! "InnoDB Full-Text Index Tables".
+//!
+//! `lists.reserve(DeleteList::Deleted, 3)?` makes room for three ids, and
+//! `lists.add_all(DeleteList::Deleted, &ids)` puts them in without memory, in one merge from the
+//! back. To look for an id costs constant time in `DELETED_CACHE`, and a logarithm in the others.
 #![tactic(auto)]
 
 mod ids;

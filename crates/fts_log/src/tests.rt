@@ -73,6 +73,27 @@ fn an_entry_is_read_back(rt: HostRuntime) -> Result<(), Fail> {
 }
 
 #[test]
+fn many_entries_and_a_long_one_are_read_back(rt: HostRuntime) -> Result<(), Fail> {
+    let alloc = rt.alloc();
+    let disk = MemDisk::from_files(alloc, Vec::new(alloc), Vec::new(alloc))?;
+    let mut log = match create_log(disk, MAGIC, 1 << 20) {
+        Ok(log) => log,
+        Err((failed, _)) => return Err(failed.into()),
+    };
+    for number in 0..1_000 {
+        assert_eq!(rt; append(alloc, &mut log, &SETTINGS)?, number);
+    }
+    let long = vec![in alloc; 7; 65_535]?;
+    assert_eq!(rt; append(alloc, &mut log, &long)?, 1_000);
+    let mut log = match open_log(alloc, log.close(), MAGIC, 1 << 20) {
+        Ok(log) => log,
+        Err((error, _)) => return Err(error.into()),
+    };
+    assert!(rt; log.count() == 1_001 && log.entry_at(1_000)? == long);
+    Ok(())
+}
+
+#[test]
 fn a_log_ends_at_its_limit(rt: HostRuntime) -> Result<(), Fail> {
     let alloc = rt.alloc();
     for (limit, want) in [(84, Ok(2)), (83, Err(AppendError::LogFull { end: 84 }))] {

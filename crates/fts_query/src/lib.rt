@@ -1,6 +1,9 @@
 //! Boolean queries: from their text to their tree.
 //!
-//! [`parse`] reads the text; the rules stand in `docs/LANGUAGE.md`, "The Boolean language".
+//! `parse(alloc, b"+apple -pie")?` gives the tree, or its refusal with the place of the leftmost
+//! fault; the rules stand in `docs/LANGUAGE.md`, "The Boolean language".
+//!
+//! A query is read in six passes, each linear in its text, without recursion.
 #![tactic(auto)]
 
 mod build;

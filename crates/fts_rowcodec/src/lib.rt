@@ -1,5 +1,11 @@
 //! The payloads of the rows log: the settings, which are its first entry, and commits, which are
 //! the others.
+//!
+//! `encode_commit(alloc, &changes)?` gives the bytes of a commit, and
+//! `decode_commit(alloc, columns, &bytes)?` the changes that bytes stand for, or that they stand for
+//! none. `docs/FORMATS.md`, "Payloads", has the format.
+//!
+//! Both cost the bytes, once.
 #![tactic(auto)]
 
 mod commit;

@@ -2,3 +2,4 @@ pub mod Naming
 pub mod Executing
 pub mod Values
 pub mod Queries
+pub mod Single

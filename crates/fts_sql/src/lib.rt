@@ -1,5 +1,11 @@
 //! The statements of a script: what a line says, by a grammar of tokens, and where a line that says
 //! nothing is at fault.
+//!
+//! `parse_statement(alloc, b"SELECT ..")?` gives the statement, or none of a blank line; a line at
+//! fault is `ParseError::Syntax { at }`, with the place from 1. `docs/LANGUAGE.md`, "Statements", has
+//! the grammar.
+//!
+//! A line is read once from the left, and one at fault once more.
 #![tactic(auto)]
 
 mod copy;

@@ -1,4 +1,9 @@
 //! Stopwords: the words that are never indexed.
+//!
+//! `StopSet::Default` has the 36 words of the manual, and `set.contains_lowered(b"The")` says that
+//! `the` is one of them. Source: MySQL 8.0 Reference Manual, "Full-Text Stopwords".
+//!
+//! A look-up costs one load of eight bytes and one comparison.
 #![tactic(auto)]
 
 ghost use Rattle.std.specs.Prelude.{◌≡◌, ◌<◌, ◌≤◌, ◌↔◌, length, map, IsTrue, Contains};

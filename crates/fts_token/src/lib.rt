@@ -1,8 +1,10 @@
 //! Cutting the texts of a row into words.
 //!
 //! `raw_words` gives the raw words of a text, `placed_words` those of a row, and `indexed_words`
-//! those of a row that are indexed. They are iterators that borrow what they read and take no
-//! memory.
+//! those of a row that are indexed, each with its column and position, in order. They are iterators
+//! that borrow what they read and take no memory.
+//!
+//! A text is read once, 64 bytes at a time.
 #![tactic(auto)]
 
 mod block;

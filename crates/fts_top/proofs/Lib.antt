@@ -1,6 +1,7 @@
 pub mod Turning
 pub mod Talking
+pub mod OneText
 pub mod Fronts
-pub mod Finishing
+pub mod Opening
 pub mod Filing
 pub mod Asking

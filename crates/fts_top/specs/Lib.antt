@@ -1,4 +1,5 @@
 pub mod Talk
+pub mod Ends
 pub mod Run
 pub mod Once
 pub mod Number

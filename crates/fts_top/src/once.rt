@@ -1,22 +1,19 @@
-ghost use Rattle.std.specs.Prelude.{◌≡◌, ◌≤◌, ◌^◌, length, ℕ, map, ◌⊎◌, IsTrue};
+ghost use Rattle.std.specs.Prelude.{◌≡◌, ◌⊎◌, ℕ, map, IsTrue, IfOk, IfErr, Ok, Err};
 ghost use Rattle.std.specs.String.{string_bytes};
-ghost use Rattle.fts_faults.specs.Count.{CountsFault, Rose};
+ghost use Rattle.fts_faults.specs.Count.{CountsFault};
 ghost use Rattle.fts_types.specs.declared.settings.Settings.{Settings};
 ghost use Rattle.fts_types.specs.Settings.{AreSettings};
 ghost use Rattle.fts_types.specs.Limits.{standard_limits};
 ghost use Rattle.fts_args.specs.Asked.{Asks};
 ghost use Rattle.fts_args.specs.declared.command.Command.{Command};
 ghost use Rattle.fts_engine.specs.Bounds.{AreWithin};
-ghost use Rattle.fts_steps.specs.State.{State, IsCreated, IsDatabase, created_with};
-ghost use Rattle.fts_engine.specs.Opening.{IsDamaged, IsNoDatabase};
-ghost use Rattle.fts_top.specs.Run.{PassesLimit};
-ghost use Rattle.fts_top.specs.Once.{Completes, CreateEnds, Creates, Finishes, IsOfCreate, Refuses};
-ghost use Rattle.fts_top.specs.Once.{Runs};
-ghost use Rattle.fts_top.specs.Once.{outside, CreateEndsOn, RunEnds, IsRefused, RefusedSo};
-ghost use Rattle.fts_top.specs.Once.{CountsFaults, NoneRose, CanFinish};
+ghost use Rattle.fts_top.specs.Once.{outside, sink_seen, device_seen, CreateEnds, Creates};
+ghost use Rattle.fts_top.specs.Once.{Executed, RunEnds, Unopened};
+ghost use Rattle.fts_top.specs.Once.{CountsFaults, NoneRose, CanFinish, Finishes};
 
+use crate::Status;
+use crate::ends::{CreateEnd, RunEnd};
 use crate::script::run;
-use crate::{Device, Status};
 use fts_args::{Command, command_of};
 use fts_disk::Disk;
 use fts_engine::{CreateError, OpenError, create_engine, open_engine};
@@ -34,91 +31,56 @@ pub(crate) fn run_script<I: Source, O: Sink, D: Disk, G: Gate>(
     rows: D,
     limits: Limits,
     gate: &G,
-) -> (Status, D)
+) -> (Result<RunEnd, OpenError>, D)
     requires { AreWithin standard_limits limits }
-    ensures runs { IsTrue I.tells → IsTrue O.tells → IsTrue D.tells → (start : State)
-        → IsDatabase start (D.seen rows 0)
-        → Runs limits result.0 start (I.left input.old) (I.left input.new) (O.holds out.old)
-        (O.holds out.new) (D.seen rows 0) (D.seen result.1 0) }
-    ensures no_database { IsTrue D.tells → IsNoDatabase (D.seen rows 0)
-        → Refuses result.0 (D.seen rows 0) × (input.new ≡ input.old) × (out.new ≡ out.old)
-        × (D.seen result.1 ≡ D.seen rows) }
-    ensures done { result.0 ≡ Status.Done → IsTrue I.tells → IsTrue O.tells → IsTrue D.tells
-        → (start : State) × IsDatabase start (D.seen rows 0)
-        × Completes limits start (I.left input.old) (O.holds out.old) (O.holds out.new)
-        (D.seen result.1 0) }
-    ensures complete { IsTrue I.tells → IsTrue D.tells → (state : State)
-        → IsDatabase state (D.seen rows 0) → length (I.left input.old) ≤ 2 ^ 40
-        → (Rose (I.faults input.old) (I.faults input.new) → ⊥)
-        → (Rose (O.faults out.old) (O.faults out.new) → ⊥)
-        → (Rose (D.faults rows) (D.faults result.1) → ⊥)
-        → Finishes result.0 }
-    ensures usage { result.0 ≡ Status.Usage → ⊥ }
-    ensures already { result.0 ≡ Status.AlreadyCreated → ⊥ }
-    ensures not_created { result.0 ≡ Status.NotCreated
-        → (input.new ≡ input.old) × (out.new ≡ out.old)
-        × (IsTrue D.tells → (IsCreated (D.seen rows 0) → ⊥) × (D.seen result.1 ≡ D.seen rows)) }
-    ensures damaged { (device : Device) (file at : ℕ) → result.0 ≡ Status.Damaged device file at
-        → (device ≡ Device.Rows) × (file ≡ 0) × (input.new ≡ input.old) × (out.new ≡ out.old)
-        × (IsTrue D.tells → IsDamaged at (D.seen rows 0) × (D.seen result.1 ≡ D.seen rows)) }
-    ensures read { CountsFault (result.0 ≡ Status.ReadFault) (I.faults input.old)
-        (I.faults input.new) }
-    ensures write { CountsFault (result.0 ≡ Status.WriteFault) (O.faults out.old)
-        (O.faults out.new) }
-    ensures disk { CountsFault (result.0 ≡ Status.DiskFault) (D.faults rows) (D.faults result.1) }
-    ensures too_long { (lines bytes : ℕ) → result.0 ≡ Status.ScriptTooLong lines bytes
-        → IsTrue I.tells → PassesLimit bytes (I.left input.old) (I.left input.new) }
+    ensures executed { IfOk result.0 (λ end. Executed limits end
+        (outside I.Source O.Sink D.Disk input.old out.old rows)
+        (outside I.Source O.Sink D.Disk input.new out.new result.1)) }
+    ensures unopened { IfErr result.0 (λ error. Unopened error
+        ((input.new ≡ input.old) × (out.new ≡ out.old))
+        (device_seen D.Disk rows) (device_seen D.Disk result.1)) }
+    ensures read { CountsFault (result.0 ≡ Ok RunEnd.ReadFault)
+        (I.faults input.old) (I.faults input.new) }
+    ensures write { CountsFault (result.0 ≡ Ok RunEnd.WriteFault)
+        (O.faults out.old) (O.faults out.new) }
+    ensures disk { CountsFault ((result.0 ≡ Ok RunEnd.DiskFault)
+        ⊎ (result.0 ≡ Err OpenError.DiskFault)) (D.faults rows) (D.faults result.1) }
 {
     match open_engine(alloc, rows, limits) {
         Ok(engine) => {
             let mut steps = Direct { engine };
-            let status = run(alloc, input, out, &mut steps, gate);
+            let end = run(alloc, input, out, &mut steps, gate);
             let Direct { engine } = steps;
-            (status, engine.close())
+            (Ok(end), engine.close())
         }
-        Err((OpenError::NoMemory, device)) => (Status::NoMemory, device),
-        Err((OpenError::NotCreated, device)) => (Status::NotCreated, device),
-        Err((OpenError::Damaged { at }, device)) => (
-            Status::Damaged {
-                device: Device::Rows,
-                file: 0,
-                at,
-            },
-            device,
-        ),
-        Err((OpenError::DiskFault, device)) => (Status::DiskFault, device),
+        Err((error, device)) => (Err(error), device),
     }
 }
 
 // Makes a database, and says so.
-fn create<O: Sink, D: Disk>(alloc: Global, settings: &Settings, out: &mut O, rows: D) -> (Status, D)
+fn create<O: Sink, D: Disk>(
+    alloc: Global,
+    settings: &Settings,
+    out: &mut O,
+    rows: D,
+) -> (CreateEnd, D)
     requires { AreSettings settings.now }
-    ensures ends { IsTrue O.tells → IsTrue D.tells
-        → CreateEnds result.0 settings.now (D.seen rows 0) (D.seen result.1 0) (O.holds out.old)
-        (O.holds out.new) }
-    ensures done { result.0 ≡ Status.Done → IsTrue O.tells → IsTrue D.tells
-        → Creates settings.now (D.seen rows 0) (D.seen result.1 0) (O.holds out.old)
-        (O.holds out.new) }
-    ensures write { CountsFault (result.0 ≡ Status.WriteFault) (O.faults out.old)
-        (O.faults out.new) }
-    ensures already { result.0 ≡ Status.AlreadyCreated
-        → (out.new ≡ out.old) × (IsTrue D.tells
-        → IsCreated (D.seen rows 0) × (D.seen result.1 ≡ D.seen rows)) }
-    ensures disk { CountsFault (result.0 ≡ Status.DiskFault) (D.faults rows) (D.faults result.1) }
-    ensures untouched { result.0 ≡ Status.NoMemory → (out.new ≡ out.old) × (result.1 ≡ rows) }
-    ensures others { IsOfCreate result.0 }
-    ensures complete { IsTrue D.tells → (IsCreated (D.seen rows 0) → ⊥)
-        → (Rose (O.faults out.old) (O.faults out.new) → ⊥)
-        → (Rose (D.faults rows) (D.faults result.1) → ⊥) → Finishes result.0 }
+    ensures creates { Creates result.0 settings.now (out.new ≡ out.old)
+        (sink_seen O.Sink out.old) (sink_seen O.Sink out.new)
+        (device_seen D.Disk rows) (device_seen D.Disk result.1) }
+    ensures write { CountsFault (result.0 ≡ CreateEnd.WriteFault)
+        (O.faults out.old) (O.faults out.new) }
+    ensures disk { CountsFault (result.0 ≡ CreateEnd.DiskFault)
+        (D.faults rows) (D.faults result.1) }
 {
     match create_engine(alloc, settings, rows) {
         Ok(device) => match write_whole(out, created_text().as_bytes()) {
-            Ok(()) => (Status::Done, device),
-            Err(_) => (Status::WriteFault, device),
+            Ok(()) => (CreateEnd::Done, device),
+            Err(_) => (CreateEnd::WriteFault, device),
         },
-        Err((CreateError::NoMemory, device)) => (Status::NoMemory, device),
-        Err((CreateError::AlreadyCreated, device)) => (Status::AlreadyCreated, device),
-        Err((CreateError::DiskFault, device)) => (Status::DiskFault, device),
+        Err((CreateError::NoMemory, device)) => (CreateEnd::NoMemory, device),
+        Err((CreateError::AlreadyCreated, device)) => (CreateEnd::AlreadyCreated, device),
+        Err((CreateError::DiskFault, device)) => (CreateEnd::DiskFault, device),
     }
 }
 
@@ -147,15 +109,11 @@ pub fn fts_once<I: Source, O: Sink, D: Disk, E: Disk, G: Gate>(
     // What each command has done, by its status.
     ensures creates { (settings : Settings)
         → Asks (map string_bytes words.now) (Command.Create settings)
-        → (input.new ≡ input.old) × CreateEndsOn result.0 settings
+        → (input.new ≡ input.old) × CreateEnds result.0 settings (out.new ≡ out.old)
         (outside I.Source O.Sink D.Disk input.old out.old rows)
         (outside I.Source O.Sink D.Disk input.new out.new result.1) }
     ensures runs { Asks (map string_bytes words.now) Command.Run → RunEnds standard_limits result.0
-        (outside I.Source O.Sink D.Disk input.old out.old rows)
-        (outside I.Source O.Sink D.Disk input.new out.new result.1) }
-    ensures refused { IsRefused (map string_bytes words.now) result.0
-        (outside I.Source O.Sink D.Disk input.old out.old rows)
-        → (input.new ≡ input.old) × (out.new ≡ out.old) × RefusedSo result.0
+        ((input.new ≡ input.old) × (out.new ≡ out.old))
         (outside I.Source O.Sink D.Disk input.old out.old rows)
         (outside I.Source O.Sink D.Disk input.new out.new result.1) }
 
@@ -173,12 +131,15 @@ pub fn fts_once<I: Source, O: Sink, D: Disk, E: Disk, G: Gate>(
     match command_of(alloc, words) {
         Ok(None) => (Status::Usage, rows, index),
         Ok(Some(Command::Create { settings })) => {
-            let (status, rows) = create(alloc, &settings, out, rows);
-            (status, rows, index)
+            let (end, rows) = create(alloc, &settings, out, rows);
+            (Status::from(end), rows, index)
         }
         Ok(Some(Command::Run)) => {
-            let (status, rows) = run_script(alloc, input, out, rows, Limits::standard(), gate);
-            (status, rows, index)
+            let (end, rows) = run_script(alloc, input, out, rows, Limits::standard(), gate);
+            match end {
+                Ok(end) => (Status::from(end), rows, index),
+                Err(error) => (Status::from(error), rows, index),
+            }
         }
         Err(AllocError) => (Status::NoMemory, rows, index),
     }

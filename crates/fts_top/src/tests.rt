@@ -3,6 +3,7 @@ mod columns;
 mod commands;
 mod damage;
 mod faults;
+mod large;
 mod limits;
 mod runs;
 mod statements;

@@ -1,4 +1,7 @@
 //! The plain data that the other crates share: ids, texts and settings.
+//!
+//! `settings.check()?` accepts the settings that a database can have, or names the first field that
+//! has another value; `partition_of(b"apple")` is the number of the auxiliary table of a word.
 #![tactic(auto)]
 
 mod check;
