@@ -8,13 +8,12 @@ use Rattle.std.proofs.lemmas.Bool.{ltb-true}
 use Rattle.std.specs.List.{All, AllPairs}
 use Rattle.std.specs.Prelude.{Bool, true, false, nat_lt, if◌then◌else◌, Result, Ok, Err, fold, sum_by}
 use Rattle.std.specs.Result.{result_unwrap_or}
-use Rattle.fts_types.specs.declared.limits.Limits.{Limits}
 use Rattle.fts_types.specs.Limits.{standard_limits}
 use Rattle.fts_commits.specs.declared.refusal.Refusal.{Refusal}
 use Rattle.fts_commits.specs.declared.refusal.Refusal.TheVariants.{DuplicateKey, DocIdOrder, DocIdGap, IdsFull, TextTooLong, RowsFull}
 use Rattle.fts_commits.specs.declared.change.Change.{Change}
 use Rattle.fts_commits.specs.declared.change.Change.TheVariants.{Insert, Update, Delete}
-use Rattle.fts_commits.specs.Commit.{Commit, Row, Rows, no_rows, has_key, with_key, without_key, with_row, doc_within, doc_for, with_texts, with_document, updated, set_bytes, after_update, after_change, on_rows, after_changes, within_rows, after_commit, rows_after, replay}
+use Rattle.fts_commits.specs.Commit.{Commit, Row, Rows, no_rows, has_key, with_key, without_key, with_row, doc_within, doc_for, with_document, updated, set_bytes, after_update, after_change, on_rows, after_changes, within_rows, after_commit, rows_after, replay}
 
 -- the one row is before the other
 abbrev Before : Row → Row → Type 0

@@ -1,2 +1,3 @@
 mod Ascending
 mod WorkedRows
+mod WorkedTurns
