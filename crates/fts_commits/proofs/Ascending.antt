@@ -8,32 +8,27 @@ use Rattle.std.proofs.lemmas.Bool.{ltb-true}
 use Rattle.std.specs.List.{All, AllPairs}
 use Rattle.std.specs.Prelude.{Bool, true, false, nat_lt, if◌then◌else◌, Result, Ok, Err, fold, sum_by}
 use Rattle.std.specs.Result.{result_unwrap_or}
-use Rattle.fts_types.specs.declared.limits.Limits.{Limits}
 use Rattle.fts_types.specs.Limits.{standard_limits}
 use Rattle.fts_commits.specs.declared.refusal.Refusal.{Refusal}
 use Rattle.fts_commits.specs.declared.refusal.Refusal.TheVariants.{DuplicateKey, DocIdOrder, DocIdGap, IdsFull, TextTooLong, RowsFull}
 use Rattle.fts_commits.specs.declared.change.Change.{Change}
 use Rattle.fts_commits.specs.declared.change.Change.TheVariants.{Insert, Update, Delete}
-use Rattle.fts_commits.specs.Commit.{Commit, Row, Rows, no_rows, has_key, with_key, without_key, with_row, doc_within, doc_for, with_texts, with_document, updated, set_bytes, after_update, after_change, on_rows, after_changes, within_rows, after_commit, rows_after, replay}
+use Rattle.fts_commits.specs.Commit.{Commit, Row, Rows, no_rows, has_key, with_key, without_key, with_row, doc_within, doc_for, with_document, updated, set_bytes, after_update, after_change, on_rows, after_changes, within_rows, after_commit, rows_after, replay}
 
 -- the one row is before the other
-abbrev Before : Row → Row → Type 0
+abbrev pub Before : Row → Row → Type 0
 Before a b = a.doc < b.doc
 
 -- the rows ascend, and none is above the largest id that was used
-record IsOrdered (rows : Rows) : Type 0 where
+pub record IsOrdered (rows : Rows) : Type 0 where
   pub ascend : AllPairs Before rows.list
   pub below : All (λ (row : Row). row.doc ≤ rows.largest) rows.list
-
-abbrev OkOrdered : Result Rows Refusal → Type 0
-OkOrdered (Ok rows) = IsOrdered rows
-OkOrdered (Err why) = Unit {0}
 
 abbrev IsAbove : ℕ → Result ℕ Refusal → Type 0
 IsAbove largest (Ok doc) = largest < doc
 IsAbove largest (Err why) = Unit {0}
 
-none_ordered : IsOrdered no_rows
+pub none_ordered : IsOrdered no_rows
 none_ordered = record { ascend = λ i j d order less. absurd (omega (arith, less)); below = λ k d less. absurd (omega (arith, less)) }
 
 one_more : (key doc : ℕ) (texts : List (List ℕ)) (rows : Rows) → IsOrdered rows → rows.largest < doc → IsOrdered (with_row key doc texts rows)
@@ -64,62 +59,71 @@ doc_above : (limit largest : ℕ) (given : Option ℕ) → IsAbove largest (doc_
 doc_above limit largest None = within_above limit largest (largest + 1) (nat_lt limit (largest + 1)) (omega arith)
 doc_above limit largest (Some given) = given_above limit largest given (nat_lt largest given) (nat_lt (largest + 65535) given) refl
 
-or_kept : (refused : Bool) (why : Refusal) (rows : Rows) → IsOrdered rows → OkOrdered (if refused then Err why else Ok rows)
-or_kept true why rows ordered = tt
-or_kept false why rows ordered = ordered
+-- ---- what holds of some rows holds after a commit, where it goes on with one more row and with one less
 
-document_ordered : (number key : ℕ) (doc : Result ℕ Refusal) (texts : List (List ℕ)) (rows : Rows) → IsOrdered rows → IsAbove rows.largest doc
-    → OkOrdered (with_document number key doc texts rows)
-document_ordered number key (Ok doc) texts rows ordered above =
-    or_kept (nat_lt 65535 (sum_by length texts)) (TextTooLong number (sum_by length texts)) (with_row key doc texts rows)
-    (one_more key doc texts rows ordered above)
-document_ordered number key (Err why) texts rows ordered above = tt
+module _ (P : Rows → Type 0) (more : (key doc : ℕ) (texts : List (List ℕ)) (rows : Rows) → P rows → rows.largest < doc → P (with_row key doc texts rows))
+    (less : (key : ℕ) (rows : Rows) → P rows → P (record { list = without_key key rows.list; largest = rows.largest })) where
+  abbrev IfTaken : Result Rows Refusal → Type 0
+  IfTaken (Ok rows) = P rows
+  IfTaken (Err why) = Unit {0}
 
-insert_ordered : (limit number key : ℕ) (doc : Option ℕ) (texts : List (List ℕ)) (rows : Rows) (taken : Bool) → IsOrdered rows
-    → OkOrdered (if taken then Err (DuplicateKey number key) else with_document number key (doc_for limit rows.largest doc) texts rows)
-insert_ordered limit number key doc texts rows true ordered = tt
-insert_ordered limit number key doc texts rows false ordered =
-    document_ordered number key (doc_for limit rows.largest doc) texts rows ordered (doc_above limit rows.largest doc)
+  or_kept : (refused : Bool) (why : Refusal) (rows : Rows) → P rows → IfTaken (if refused then Err why else Ok rows)
+  or_kept true why rows holds = tt
+  or_kept false why rows holds = holds
 
-update_ordered : (limit number key : ℕ) (news : List (Option (List ℕ))) (found : List Row) (rows : Rows) → IsOrdered rows
-    → OkOrdered (after_update limit number key news found rows)
-update_ordered limit number key news [] rows ordered =
-    or_kept (nat_lt 65535 (set_bytes news)) (TextTooLong number (set_bytes news)) rows ordered
-update_ordered limit number key news (row ∷ others) rows ordered =
-    document_ordered number key (doc_for limit rows.largest None) (updated news row.texts)
-    (record { list = without_key key rows.list; largest = rows.largest }) (one_less key rows ordered) (doc_above limit rows.largest None)
+  after_document : (number key : ℕ) (doc : Result ℕ Refusal) (texts : List (List ℕ)) (rows : Rows) → P rows → IsAbove rows.largest doc
+      → IfTaken (with_document number key doc texts rows)
+  after_document number key (Ok doc) texts rows holds above =
+      or_kept (nat_lt 65535 (sum_by length texts)) (TextTooLong number (sum_by length texts)) (with_row key doc texts rows) (more key doc texts rows holds above)
+  after_document number key (Err why) texts rows holds above = tt
 
-change_ordered : (limit number : ℕ) (change : Change) (rows : Rows) → IsOrdered rows → OkOrdered (after_change limit number change rows)
-change_ordered limit number (Insert key doc texts) rows ordered =
-    insert_ordered limit number key doc texts rows (has_key key rows.list) ordered
-change_ordered limit number (Update key news) rows ordered = update_ordered limit number key news (with_key key rows.list) rows ordered
-change_ordered limit number (Delete key) rows ordered = one_less key rows ordered
+  after_insert : (limit number key : ℕ) (doc : Option ℕ) (texts : List (List ℕ)) (rows : Rows) (taken : Bool) → P rows
+      → IfTaken (if taken then Err (DuplicateKey number key) else with_document number key (doc_for limit rows.largest doc) texts rows)
+  after_insert limit number key doc texts rows true holds = tt
+  after_insert limit number key doc texts rows false holds = after_document number key (doc_for limit rows.largest doc) texts rows holds (doc_above limit rows.largest doc)
 
-follows_ordered : (result : Result Rows Refusal) (next : Rows → Result Rows Refusal) → OkOrdered result
-    → ((rows : Rows) → IsOrdered rows → OkOrdered (next rows)) → OkOrdered (on_rows result next)
-follows_ordered (Ok rows) next ordered follows = follows rows ordered
-follows_ordered (Err why) next ordered follows = tt
+  updated_holds : (limit number key : ℕ) (news : List (Option (List ℕ))) (found : List Row) (rows : Rows) → P rows → IfTaken (after_update limit number key news found rows)
+  updated_holds limit number key news [] rows holds = or_kept (nat_lt 65535 (set_bytes news)) (TextTooLong number (set_bytes news)) rows holds
+  updated_holds limit number key news (row ∷ others) rows holds =
+      after_document number key (doc_for limit rows.largest None) (updated news row.texts) (record { list = without_key key rows.list; largest = rows.largest })
+      (less key rows holds) (doc_above limit rows.largest None)
 
-changes_ordered : (limit number : ℕ) (changes : List Change) (rows : Rows) → IsOrdered rows → OkOrdered (after_changes limit number changes rows)
-changes_ordered limit number [] rows ordered = ordered
-changes_ordered limit number (change ∷ changes) rows ordered =
-    follows_ordered (after_change limit number change rows) (after_changes limit (number + 1) changes) (change_ordered limit number change rows ordered)
-    (λ later is. changes_ordered limit (number + 1) changes later is)
+  change_holds : (limit number : ℕ) (change : Change) (rows : Rows) → P rows → IfTaken (after_change limit number change rows)
+  change_holds limit number (Insert key doc texts) rows holds = after_insert limit number key doc texts rows (has_key key rows.list) holds
+  change_holds limit number (Update key news) rows holds = updated_holds limit number key news (with_key key rows.list) rows holds
+  change_holds limit number (Delete key) rows holds = less key rows holds
 
-within_ordered : (limit : ℕ) (result : Result Rows Refusal) → OkOrdered result → OkOrdered (within_rows limit result)
-within_ordered limit (Ok rows) ordered = or_kept (nat_lt limit (length rows.list)) (RowsFull (length rows.list)) rows ordered
-within_ordered limit (Err why) ordered = tt
+  follows_holds : (result : Result Rows Refusal) (next : Rows → Result Rows Refusal) → IfTaken result → ((rows : Rows) → P rows → IfTaken (next rows)) → IfTaken (on_rows result next)
+  follows_holds (Ok rows) next holds follows = follows rows holds
+  follows_holds (Err why) next holds follows = tt
 
-unwrapped_ordered : (result : Result Rows Refusal) (rows : Rows) → OkOrdered result → IsOrdered rows → IsOrdered (result_unwrap_or result rows)
-unwrapped_ordered (Ok after) rows ordered old = ordered
-unwrapped_ordered (Err why) rows ordered old = old
+  changes_hold : (limit number : ℕ) (changes : List Change) (rows : Rows) → P rows → IfTaken (after_changes limit number changes rows)
+  changes_hold limit number [] rows holds = holds
+  changes_hold limit number (change ∷ changes) rows holds =
+      follows_holds (after_change limit number change rows) (after_changes limit (number + 1) changes) (change_holds limit number change rows holds)
+      (λ later is. changes_hold limit (number + 1) changes later is)
+
+  within_holds : (limit : ℕ) (result : Result Rows Refusal) → IfTaken result → IfTaken (within_rows limit result)
+  within_holds limit (Ok rows) holds = or_kept (nat_lt limit (length rows.list)) (RowsFull (length rows.list)) rows holds
+  within_holds limit (Err why) holds = tt
+
+  unwrapped_holds : (result : Result Rows Refusal) (rows : Rows) → IfTaken result → P rows → P (result_unwrap_or result rows)
+  unwrapped_holds (Ok after) rows holds old = holds
+  unwrapped_holds (Err why) rows holds old = old
+
+  pub commit_holds : (commit : Commit) (rows : Rows) → P rows → P (rows_after rows commit)
+  commit_holds commit rows holds =
+      unwrapped_holds (after_commit standard_limits commit rows) rows
+      (within_holds standard_limits.rows (after_changes standard_limits.ids 1 commit rows) (changes_hold standard_limits.ids 1 commit rows holds)) holds
+
+-- ---- the rows are ordered
+
+pub commit_ordered : (commit : Commit) (rows : Rows) → IsOrdered rows → IsOrdered (rows_after rows commit)
+commit_ordered commit rows ordered = commit_holds IsOrdered one_more one_less commit rows ordered
 
 commits_ordered : (commits : List Commit) (rows : Rows) → IsOrdered rows → IsOrdered (fold rows_after rows commits)
 commits_ordered [] rows ordered = ordered
-commits_ordered (commit ∷ commits) rows ordered =
-    commits_ordered commits (rows_after rows commit)
-    (unwrapped_ordered (after_commit standard_limits commit rows) rows
-    (within_ordered standard_limits.rows (after_changes standard_limits.ids 1 commit rows) (changes_ordered standard_limits.ids 1 commit rows ordered)) ordered)
+commits_ordered (commit ∷ commits) rows ordered = commits_ordered commits (rows_after rows commit) (commit_ordered commit rows ordered)
 
 ids_ascend : (rows : List Row) → AllPairs Before rows → AllPairs (λ (a b : ℕ). a < b) (map (λ (row : Row). row.doc) rows)
 ids_ascend rows ascend i j d order less =

@@ -1,2 +1,4 @@
 mod Ascending
 mod WorkedRows
+mod WorkedTurns
+mod Turns

@@ -1,11 +1,9 @@
 -- Small commits with what they leave, worked out by hand: what the definitions compute.
-use Rattle.std.proofs.Common.{◌≡◌, ℕ, List, [], ◌∷◌, Some, None, Ok, Err, Result, refl}
+use Rattle.std.proofs.Common.{◌≡◌, ℕ, List, [], ◌∷◌, Some, None, Ok, Err, refl}
 use Rattle.std.specs.Prelude.{codes}
 use Rattle.fts_types.specs.declared.limits.Limits.{Limits}
 use Rattle.fts_types.specs.Limits.{standard_limits}
-use Rattle.fts_commits.specs.declared.change.Change.{Change}
 use Rattle.fts_commits.specs.declared.change.Change.TheVariants.{Insert, Update, Delete}
-use Rattle.fts_commits.specs.declared.refusal.Refusal.{Refusal}
 use Rattle.fts_commits.specs.declared.refusal.Refusal.TheVariants.{DuplicateKey, DocIdOrder, DocIdGap, IdsFull, RowsFull}
 use Rattle.fts_commits.specs.Commit.{Row, Rows, no_rows, after_commit, replay}
 

@@ -1,6 +1,7 @@
 pub mod Text
 pub mod Refusal
 pub mod Commit
+pub mod Turn
 pub mod NewText
 pub mod Fits
 pub mod Scan

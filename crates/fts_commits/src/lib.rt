@@ -17,6 +17,6 @@ mod text;
 
 pub use change::{Change, NewTexts};
 pub use changes::Changes;
-pub use laws::ids_ascend;
+pub use laws::{are_turns, ids_ascend};
 pub use refusal::Refusal;
 pub use text::{Text, is_text_byte};

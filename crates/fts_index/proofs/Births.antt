@@ -9,14 +9,14 @@ use Rattle.fts_cache.specs.Document.{Document, document_postings}
 use Rattle.fts_commits.specs.Commit.{Row}
 use Rattle.fts_rows.specs.declared.row.Row.{Row as Kept}
 use Rattle.fts_rows.specs.Row.{row_of}
-use Rattle.fts_rows.specs.Rows.{IdsAscend}
+use Rattle.fts_commits.specs.Turn.{RowsAscend}
 use Rattle.fts_index.specs.Births.{CanIndex}
 use Rattle.fts_index.specs.Words.{row_postings, rows_postings}
 use Rattle.fts_index.specs.Document.{HasWordsOf, HaveWordsOf}
 use Rattle.fts_index.specs.Index.{IdsAscendFrom}
 
 -- a new row by its place: its id is above the last, and it can be indexed
-pub birth_at : (last largest : ℕ) (births : List Kept) (i : ℕ) (birth : Kept) → IdsAscend last largest (map row_of births) → All CanIndex (map row_of births)
+pub birth_at : (last largest : ℕ) (births : List Kept) (i : ℕ) (birth : Kept) → RowsAscend last largest (map row_of births) → All CanIndex (map row_of births)
     → i < length births → birth ≡ get_or births i birth → (last < birth.doc) × CanIndex (row_of birth)
 birth_at last largest [] i birth ids rows lt e = absurd (omega (arith, lt))
 birth_at last largest (b ∷ bs) zero birth ids rows lt e =
@@ -50,7 +50,7 @@ words_at rules births i birth documents more document lt e h one pushed =
 
 -- the documents' ids ascend as the rows' do
 pub documents_ascend : (rules : Rules) (low last largest : ℕ) (rows : List Row) (documents : List Document)
-    → low ≤ last → IdsAscend last largest rows → HaveWordsOf rules rows documents → IdsAscendFrom low documents
+    → low ≤ last → RowsAscend last largest rows → HaveWordsOf rules rows documents → IdsAscendFrom low documents
 documents_ascend rules low last largest [] [] le ids h = tt
 documents_ascend rules low last largest (r ∷ rs) (d ∷ ds) le ids h =
     let same : d.id ≡ r.doc = h.0.id in
@@ -60,7 +60,7 @@ documents_ascend rules low last largest (r ∷ rs) [] le ids h = absurd h
 
 -- and end as they do
 pub documents_end : (rules : Rules) (low last largest : ℕ) (rows : List Row) (documents : List Document)
-    → low ≤ last → IdsAscend last largest rows → HaveWordsOf rules rows documents → last_after low documents ≤ largest
+    → low ≤ last → RowsAscend last largest rows → HaveWordsOf rules rows documents → last_after low documents ≤ largest
 documents_end rules low last largest [] [] le ids h = omega (arith, ids)
 documents_end rules low last largest (r ∷ rs) (d ∷ ds) le ids h =
     let same : d.id ≡ r.doc = h.0.id in

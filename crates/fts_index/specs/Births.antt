@@ -2,7 +2,7 @@
 use Rattle.std.specs.Prelude.{ℕ, ◌<◌, ◌^◌, List, All}
 use Rattle.fts_types.specs.Row.{IsRow}
 use Rattle.fts_commits.specs.Commit.{Row}
-use Rattle.fts_rows.specs.Rows.{IdsAscend}
+use Rattle.fts_commits.specs.Turn.{RowsAscend}
 
 -- the row can be indexed
 pub record CanIndex (row : Row) : Type 0 where
@@ -11,5 +11,5 @@ pub record CanIndex (row : Row) : Type 0 where
 
 -- the rows can be indexed behind those up to the id `last`, one after another, and none has an id above `largest`
 pub record AreBirths (last largest : ℕ) (births : List Row) : Type 0 where
-  pub ids : IdsAscend last largest births
+  pub ids : RowsAscend last largest births
   pub rows : All CanIndex births

@@ -40,7 +40,7 @@ pub(crate) fn document_words(
     settings: &Settings,
     row: &Row,
 ) -> Result<DocWords, AllocError>
-    requires texts { IsRow row.now.texts }
+    requires texts { IsRow (row_of row.now).texts }
     requires positive { 0 < row.now.doc }
     requires limit { row.now.doc < 2 ^ 63 }
     ensures { IfOk result (λ document. HasWordsOf (rules_of settings.now) (row_of row.now)

@@ -10,6 +10,7 @@ use fts_rows::Row;
 use fts_types::{Names, RowTexts, Settings};
 use std::alloc::Global;
 use std::process::Abort;
+use std::sync::Arc;
 use std::test::Fail;
 
 fn settings(alloc: Global) -> Settings {
@@ -35,10 +36,14 @@ fn row(rt: &impl Abort, alloc: Global, doc: u64, texts: &[&[u8]]) -> Result<Row,
         columns.push(text.to_vec(alloc)?)?;
     }
     assert!(rt; columns.is_row());
+    let texts = match Arc::new(alloc, columns) {
+        Ok(texts) => texts,
+        Err(_) => return Err(Fail::from("no memory")),
+    };
     Ok(Row {
         key: doc,
         doc,
-        texts: columns,
+        texts,
     })
 }
 

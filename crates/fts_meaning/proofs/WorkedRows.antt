@@ -110,3 +110,7 @@ one_word_twice = refl
 phrase_in_one_column : scan standard (record { doc = 1; texts = codes "x" ∷ codes "test, phrase" ∷ [] } ∷ record { doc = 2; texts = codes "x" ∷ codes "test the phrase" ∷ [] } ∷ record { doc = 3; texts = codes "a test" ∷ codes "phrase b" ∷ [] } ∷ []) (one (optional (phrase (codes "test" ∷ codes "phrase" ∷ [])))) ≡ 1 ∷ []
 unfolding one optional standard default_stopwords words_in word_at apostrophe_at in_word runs_from placed_words
 phrase_in_one_column = refl
+
+-- a phrase of words that can't be indexed words is found nowhere, though they stand together
+phrase_of_stopwords : scan standard (record { doc = 1; texts = codes "all of the" ∷ [] } ∷ []) (one (optional (phrase (codes "of" ∷ codes "the" ∷ [])))) ≡ []
+phrase_of_stopwords = refl

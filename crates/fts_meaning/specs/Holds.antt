@@ -1,5 +1,6 @@
+use Rattle.std.specs.Prelude.{nat_eq}
 use Rattle.std.specs.Prelude.{ℕ, ◌+◌, Bool, true, false, not, ◌&&◌, ◌||◌, List, [], ◌∷◌, length, take, drop, filter}
-use Rattle.std.specs.List.{list_any, list_all, range_with_len}
+use Rattle.std.specs.List.{list_any, list_all, range_with_len, starts_with}
 use Rattle.std.specs.Str.{bytes_eq}
 use Rattle.fts_words.specs.Indexed.{Rules, is_indexable, indexed_words, word_of}
 use Rattle.fts_meaning.specs.declared.sign.Sign.{Sign}
@@ -23,28 +24,41 @@ starts_with_words (v ∷ vs) (w ∷ ws) = bytes_eq v w && starts_with_words vs w
 abbrev pub from_some_place : List (List ℕ) → (List (List ℕ) → Bool) → Bool
 from_some_place words test = list_any (λ place. test (drop place words)) (range_with_len 0 (length words))
 
--- the row has the phrase: one of its words is indexable, and in some column its words stand one behind another
+-- the words stand one behind another in the text
+abbrev pub stands_in : List (List ℕ) → List ℕ → Bool
+stands_in words text = from_some_place (words_in text) (λ rest. starts_with_words rest words)
+
+-- the words stand together: one behind another in some column
+abbrev pub stand_together : List (List ℕ) → List (List ℕ) → Bool
+stand_together columns words = list_any (stands_in words) columns
+
+-- the row has the phrase: one of its words is indexable, and they stand together
 abbrev pub phrase_holds : Rules → List (List ℕ) → List (List ℕ) → Bool
-phrase_holds rules columns words =
-    list_any (is_indexable rules) words
-    && list_any (λ text. from_some_place (words_in text) (λ rest. starts_with_words rest words)) columns
+phrase_holds rules columns words = list_any (is_indexable rules) words && stand_together columns words
 
 -- the word is one of the list
 abbrev pub is_among : List (List ℕ) → List ℕ → Bool
 is_among words w = list_any (λ v. bytes_eq v w) words
 
--- the row has the words at the distance: one of them is indexable, and in some column each indexable one is among
--- n + 1 words that stand one behind another, so that the largest of their word numbers less the smallest is at most n
+-- each of the words is among n + 1 words of the text that stand one behind another, so that the largest of their word
+-- numbers less the smallest is at most n
+abbrev pub are_near_in : List (List ℕ) → ℕ → List ℕ → Bool
+are_near_in words n text =
+    from_some_place (words_in text) (λ rest. list_all (is_among (take (n + 1) rest)) words)
+
+-- the words lie near each other: so in some column
+abbrev pub lie_near : List (List ℕ) → List (List ℕ) → ℕ → Bool
+lie_near columns words n = list_any (are_near_in words n) columns
+
+-- the row has the words at the distance: one of them is indexable, and those that are lie near each other
 abbrev pub distance_holds : Rules → List (List ℕ) → List (List ℕ) → ℕ → Bool
 distance_holds rules columns words n =
-    list_any (is_indexable rules) words
-    && list_any (λ text. from_some_place (words_in text)
-    (λ rest. list_all (is_among (take (n + 1) rest)) (filter (is_indexable rules) words))) columns
+    list_any (is_indexable rules) words && lie_near columns (filter (is_indexable rules) words) n
 
 -- the operand holds in the row
 abbrev pub operand_holds : Rules → List (List ℕ) → Operand → Bool
 operand_holds rules columns (word w) = some_indexed rules columns (λ found. bytes_eq found w)
-operand_holds rules columns (prefix w) = some_indexed rules columns (λ found. bytes_eq (take (length w) found) w)
+operand_holds rules columns (prefix w) = some_indexed rules columns (λ found. starts_with nat_eq found w)
 operand_holds rules columns (phrase words) = phrase_holds rules columns words
 operand_holds rules columns (distance words n) = distance_holds rules columns words n
 

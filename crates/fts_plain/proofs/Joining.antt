@@ -9,9 +9,8 @@ use Rattle.std.proofs.lemmas.List.{get_or-take, get_or-drop}
 use Rattle.std.proofs.lemmas.List.Folds.{list_any_at}
 use Rattle.std.proofs.lemmas.Slice.Eq.{bytes_eq-Decides}
 use Rattle.std.proofs.Math.ListN.{drop_of_length-le}
-use Rattle.fts_meaning.specs.Holds.{starts_with_words, is_among, distance_holds}
+use Rattle.fts_meaning.specs.Holds.{starts_with_words, is_among, lie_near, distance_holds}
 use Rattle.fts_words.specs.Indexed.{Rules, is_indexable}
-use Rattle.fts_plain.specs.Words.{lies_near}
 use Rattle.fts_plain.proofs.Walking.{drop_first}
 
 -- one word of a phrase after another
@@ -85,6 +84,6 @@ among_at all from count i w less room same =
     sym (list_any_at (λ (v : List ℕ). bytes_eq v w) xs i [] long (ap (λ (v : List ℕ). bytes_eq v w) at ∙ same))
 
 -- the indexable words of a distance stand close together in some column
-pub distance_found : {E : Type 0} (rules : Rules) (columns words : List (List ℕ)) (n : ℕ) (r : Result Bool E) → true ≡ list_any (is_indexable rules) words → IfOk r (λ f. f ≡ list_any (lies_near rules words n) columns) → IfOk r (λ h. h ≡ distance_holds rules columns words n)
+pub distance_found : {E : Type 0} (rules : Rules) (columns words : List (List ℕ)) (n : ℕ) (r : Result Bool E) → true ≡ list_any (is_indexable rules) words → IfOk r (λ f. f ≡ lie_near columns (filter (is_indexable rules) words) n) → IfOk r (λ h. h ≡ distance_holds rules columns words n)
 distance_found rules columns words n (Ok v) some h = h ∙ rw (← some) refl
 distance_found rules columns words n (Err e) some h = tt

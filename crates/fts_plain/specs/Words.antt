@@ -1,14 +1,13 @@
-use Rattle.std.specs.Prelude.{ℕ, ◌+◌, Bool, true, List, length, take, drop, filter, if◌then◌else◌}
-use Rattle.std.specs.List.{list_all}
+use Rattle.std.specs.Prelude.{ℕ, nat_eq, Bool, true, List, length, take, drop, filter, if◌then◌else◌}
+use Rattle.std.specs.List.{list_all, starts_with}
 use Rattle.std.specs.Str.{bytes_eq}
 use Rattle.fts_words.specs.Indexed.{Rules, is_indexable}
-use Rattle.fts_meaning.specs.Token.{words_in}
 use Rattle.fts_meaning.specs.Tree.{Operand, word, prefix, phrase, distance}
-use Rattle.fts_meaning.specs.Holds.{from_some_place, starts_with_words, is_among}
+use Rattle.fts_meaning.specs.Holds.{starts_with_words, is_among}
 
 -- a word that was found is the word, or begins with it
 abbrev pub fits : Bool → List ℕ → List ℕ → Bool
-fits is_prefix w found = if is_prefix then bytes_eq (take (length w) found) w else bytes_eq found w
+fits is_prefix w found = if is_prefix then starts_with nat_eq found w else bytes_eq found w
 
 -- what is behind a place passes the test
 abbrev pub from_place : List (List ℕ) → (List (List ℕ) → Bool) → ℕ → Bool
@@ -18,17 +17,9 @@ from_place words test place = test (drop place words)
 abbrev pub begins_with : List (List ℕ) → List (List ℕ) → Bool
 begins_with words rest = starts_with_words rest words
 
--- the words stand one behind another in the text
-abbrev pub stands_in : List (List ℕ) → List ℕ → Bool
-stands_in words text = from_some_place (words_in text) (begins_with words)
-
 -- each indexable word is among the first of the others, so many
 abbrev pub is_close : Rules → ℕ → List (List ℕ) → List (List ℕ) → Bool
 is_close rules count words rest = list_all (is_among (take count rest)) (filter (is_indexable rules) words)
-
--- the indexable words stand in the text, each among n + 1 that stand one behind another
-abbrev pub lies_near : Rules → List (List ℕ) → ℕ → List ℕ → Bool
-lies_near rules words n text = from_some_place (words_in text) (is_close rules (n + 1) words)
 
 -- a term that is this operand stays
 abbrev pub operand_stays : Rules → Operand → Bool

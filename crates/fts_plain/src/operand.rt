@@ -1,12 +1,13 @@
-ghost use Rattle.std.specs.Prelude.{◌≡◌, IfOk};
-ghost use Rattle.std.specs.List.{list_any};
+ghost use Rattle.std.specs.Prelude.{◌≡◌, IfOk, filter};
 ghost use Rattle.fts_words.specs.Indexed.{word_of};
 ghost use Rattle.fts_token.specs.Row.{LiesIn};
 ghost use Rattle.fts_types.specs.Row.{IsRow};
 ghost use Rattle.fts_types.specs.Rules.{rules_of};
 ghost use Rattle.fts_query.specs.View.{operand_view};
-ghost use Rattle.fts_meaning.specs.Holds.{some_indexed, operand_holds};
-ghost use Rattle.fts_plain.specs.Words.{fits, stands_in, lies_near};
+ghost use Rattle.fts_words.specs.Indexed.{is_indexable};
+ghost use Rattle.fts_meaning.specs.Holds.{some_indexed, operand_holds, stands_in, stand_together};
+ghost use Rattle.fts_meaning.specs.Holds.{are_near_in, lie_near};
+ghost use Rattle.fts_plain.specs.Words.{fits};
 
 use crate::words::{fits, has_run, is_near, some_indexable};
 use fts_query::{Operand, lowered, words_in};
@@ -63,7 +64,7 @@ fn text_has_distance(
     number: u16,
 ) -> Result<bool, AllocError>
     ensures { IfOk result (λ found. found
-        ≡ lies_near (rules_of settings.now) words.now number text.now) }
+        ≡ are_near_in (filter (is_indexable (rules_of settings.now)) words.now) number text.now) }
 {
     let all = words_in(alloc, text)?;
     Ok(is_near(settings, &all, words, usize::from(number)))
@@ -71,7 +72,7 @@ fn text_has_distance(
 
 /// Whether the words stand one behind another in some column.
 fn has_phrase(alloc: Global, columns: &RowTexts, words: &Texts) -> Result<bool, AllocError>
-    ensures { IfOk result (λ found. found ≡ list_any (stands_in words.now) columns.now) }
+    ensures { IfOk result (λ found. found ≡ stand_together columns.now words.now) }
 {
     for column in 0..columns.len() {
         if text_has_phrase(alloc, columns.text(column), words)? {
@@ -90,7 +91,7 @@ fn has_distance(
     number: u16,
 ) -> Result<bool, AllocError>
     ensures { IfOk result (λ found. found
-        ≡ list_any (lies_near (rules_of settings.now) words.now number) columns.now) }
+        ≡ lie_near columns.now (filter (is_indexable (rules_of settings.now)) words.now) number) }
 {
     for column in 0..columns.len() {
         if text_has_distance(alloc, settings, columns.text(column), words, number)? {

@@ -15,11 +15,7 @@ pub(crate) fn fits(is_prefix: bool, word: &[u8], found: &[u8]) -> bool
     if !is_prefix {
         return found == word;
     }
-    if found.len() < word.len() {
-        return false;
-    }
-    let front = &found[..word.len()];
-    front == word
+    found.starts_with(word)
 }
 
 /// Whether one of the words can be an indexed word.

@@ -1,19 +1,22 @@
 -- A query in which phrases become spaces, one after another.
-use Rattle.std.proofs.Common.{◌≡◌, ℕ, suc, ◌+◌, ◌-◌, ◌<◌, ◌≤◌, List, [], ◌∷◌, set, ap, arith}
+use Rattle.std.proofs.Common.{◌≡◌, ℕ, zero, suc, ◌+◌, ◌-◌, ◌<◌, ◌≤◌, List, [], ◌∷◌, ◌++◌, length, take, drop, replicate, set, sym, ap, ap₂, ◌∙◌, arith, append_assoc}
+use Rattle.std.proofs.lemmas.List.{take-append-drop, take_more, take-set-le, drop-set-lt, get_or-set_same, length-set}
 use Rattle.fts_words.specs.declared.span.Span.{Span}
 use Rattle.fts_meaning.specs.Plain.{with_spaces, phrase_end, without}
 
-pub spaces_more : (text : List ℕ) (i to : ℕ) → i < to → with_spaces text i (to - i) ≡ with_spaces (set text i 32) (i + 1) (to - (i + 1))
+-- so many spaces, between what stands before and behind them
+pub filled : (text : List ℕ) (from n : ℕ) → from + n ≤ length text → with_spaces text from n ≡ take from text ++ (replicate n 32 ++ drop (from + n) text)
 unfolding with_spaces
-spaces_more text i to less =
-    let counted : to - i ≡ suc (to - (i + 1)) = omega arith in
-    ap (with_spaces text i) counted
-
-pub spaces_none : (text : List ℕ) (i to : ℕ) → to ≤ i → with_spaces text i (to - i) ≡ text
-unfolding with_spaces
-spaces_none text i to past =
-    let counted : to - i ≡ 0 = omega arith in
-    ap (with_spaces text i) counted
+filled text from zero within = sym (take-append-drop from text) ∙ ap (λ (i : ℕ). take from text ++ drop i text) (omega arith)
+filled text from (suc n) within =
+    let more : List ℕ = set text from 32 in
+    let front : take (from + 1) more ≡ take from text ++ 32 ∷ [] =
+    take_more more from 0 (omega (arith, length-set text from 32, within))
+    ∙ ap₂ (λ (l : List ℕ) (b : ℕ). l ++ b ∷ []) (take-set-le from text from 32 (omega arith)) (get_or-set_same text from 32 0 (omega (arith, within))) in
+    let back : drop (from + 1 + n) more ≡ drop (from + suc n) text = drop-set-lt (from + 1 + n) text from 32 (omega arith) ∙ ap (λ (i : ℕ). drop i text) (omega arith) in
+    filled more (from + 1) n (omega (arith, length-set text from 32, within))
+    ∙ ap₂ (λ (f b : List ℕ). f ++ (replicate n 32 ++ b)) front back
+    ∙ append_assoc (take from text) (32 ∷ []) (replicate n 32 ++ drop (from + suc n) text)
 
 pub without_more : (query text : List ℕ) (phrase : Span) (left rest : List Span) → left ≡ phrase ∷ rest → without query left text ≡ without query rest (with_spaces text (phrase.from + 1) (phrase_end query phrase.to - (phrase.from + 1)))
 unfolding without

@@ -6,15 +6,12 @@ use crate::quotes::next_phrase;
 use std::alloc::{AllocError, Global};
 
 /// Writes spaces from a place up to another.
-#[tactic(auto, using(crate::proofs::PlainLemmas::spaces_more, crate::proofs::PlainLemmas::spaces_none))]
 fn fill_with_spaces(text: &mut [u8], from: usize, to: usize)
     requires order { from ≤ to }
     requires within { to ≤ length text.old }
     ensures { text.new ≡ with_spaces text.old from (to - from) }
 {
-    for place in from..to {
-        text[place] = b' ';
-    }
+    text[from..to].fill(b' ');
 }
 
 /// Where the phrase ends whose closing quote is given: behind it, and behind the tail of a distance

@@ -74,7 +74,7 @@ pub(crate) fn word_end(text: &[u8], from: usize) -> usize
 pub fn lowered(alloc: Global, word: &[u8]) -> Result<Vec<u8>, AllocError>
     ensures { IfOk result (λ v. v.items ≡ lowered word.now) }
 {
-    word.iter().map(u8::to_ascii_lowercase).collect(alloc)
+    word.to_ascii_lowercase(alloc)
 }
 
 /// The raw words of a text with their letters lowered.

@@ -1,5 +1,6 @@
-pub mod Places
 pub mod Ids
+pub mod Slotted
+pub mod Keys
 pub mod Adding
 pub mod Drafting
-pub mod Searching
+pub mod Turning

@@ -1,4 +1,5 @@
 pub mod Row
 pub mod Rows
+pub mod Slots
 pub mod Plan
 pub mod Refusal

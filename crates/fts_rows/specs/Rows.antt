@@ -1,6 +1,5 @@
 -- The rows of a table, in memory.
-use Rattle.std.specs.Prelude.{◌≡◌, ℕ, ◌<◌, ◌≤◌, ◌==◌, List, [], ◌∷◌, find, Option, option_map}
-use Rattle.std.specs.List.{position_from}
+use Rattle.std.specs.Prelude.{ℕ, ◌==◌, not, List, filter, find, Option, option_map}
 use Rattle.fts_types.specs.declared.limits.Limits.{Limits}
 use Rattle.fts_commits.specs.Commit.{Row, Rows}
 
@@ -26,20 +25,10 @@ row_with_key key rows = find (λ row. row.key == key) rows
 abbrev pub row_with_id : ℕ → List Row → Option Row
 row_with_id doc rows = find (λ row. row.doc == doc) rows
 
+-- the rows without that of the document id
+abbrev pub without_id : ℕ → List Row → List Row
+without_id doc rows = filter (λ row. not (row.doc == doc)) rows
+
 -- the texts of the row with the document id, if there is one
 abbrev pub texts_with_id : ℕ → List Row → Option (List (List ℕ))
 texts_with_id doc rows = option_map (λ row. row.texts) (row_with_id doc rows)
-
--- the ids of the rows ascend, the first above `low`, and none above `high`
-abbrev pub IdsAscend : ℕ → ℕ → List Row → Type 0
-IdsAscend low high [] = low ≤ high
-IdsAscend low high (row ∷ rows) = (low < row.doc) × IdsAscend row.doc high rows
-
--- each key is led to the place of its row, from 0, or to none where no row has it
-abbrev pub LeadsToRows : (ℕ → Option ℕ) → List Row → Type 0
-LeadsToRows place_of rows = (key : ℕ) → place_of key ≡ position_from (λ row. row.key == key) 0 rows
-
--- how the rows of a table are kept: by ascending ids, and each key leads to its row
-pub record AreKept (place_of : ℕ → Option ℕ) (largest : ℕ) (rows : List Row) : Type 0 where
-  pub places : LeadsToRows place_of rows
-  pub ids : IdsAscend 0 largest rows

@@ -10,6 +10,7 @@ mod plan;
 mod planning;
 mod row;
 mod rows;
+mod slots;
 
 pub use error::PlanError;
 pub use plan::Plan;

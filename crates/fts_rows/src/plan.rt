@@ -1,5 +1,6 @@
 ghost use Rattle.std.specs.Prelude.{◌≡◌, [], ◌∷◌, ◌++◌, map, OnOk};
 ghost use Rattle.fts_commits.specs.Commit.{Rows as RowList, has_key};
+ghost use Rattle.fts_commits.specs.Turn.{turn_between};
 ghost use Rattle.fts_rows.specs.Row.{row_of};
 ghost use Rattle.fts_rows.specs.Rows.{Held, rows_of};
 ghost use Rattle.fts_rows.specs.Plan.{PlanFor};
@@ -53,8 +54,19 @@ impl Plan {
         ensures births { map row_of result.now ≡ self.now.births }
         ensures added { (held : Held) (after : RowList) → PlanFor held self.now after
             → after.list ≡ (rows_of held).list ++ map row_of result.now }
+        ensures born { (held : Held) (after : RowList) → PlanFor held self.now after
+            → map row_of result.now ≡ (turn_between (rows_of held) after).births }
     {
         &self.births
+    }
+
+    /// The document ids that die in the commit, ascending: none, since each of its changes adds a
+    /// row.
+    pub fn deaths(&self) -> &[DocId]
+        ensures died { (held : Held) (after : RowList) → PlanFor held self.now after
+            → result.now ≡ (turn_between (rows_of held) after).deaths }
+    {
+        &[]
     }
 
     /// The largest id that is used after the commit.

@@ -3,10 +3,11 @@ ghost use Rattle.std.specs.Prelude.{◌≡◌, ◌+◌, ◌<◌, ◌≤◌, ℕ,
 ghost use Rattle.std.specs.Prelude.{IfErr, OnOk};
 ghost use Rattle.fts_commits.specs.Commit.{Rows as RowList, doc_for, has_key, after_change};
 ghost use Rattle.fts_commits.specs.Commit.{after_changes, after_commit};
+ghost use Rattle.fts_commits.specs.Turn.{turn_between};
 ghost use Rattle.fts_commits.specs.declared.change.Change.TheVariants.{Insert};
 ghost use Rattle.fts_commits.specs.Fits.{IsPlainInsert};
 ghost use Rattle.fts_rows.specs.Rows.{rows_of, limits_of};
-ghost use Rattle.fts_rows.specs.Plan.{Fits, PlanFor, rows_with};
+ghost use Rattle.fts_rows.specs.Plan.{Fits, PlanFor, rows_with, turn_of};
 ghost use Rattle.fts_rows.specs.Refusal.{IsNoPlan, IsTooLong, IsTooMany};
 
 use crate::error::PlanError;
@@ -15,6 +16,7 @@ use crate::row::Row;
 use crate::rows::Rows;
 use fts_commits::{Change, Refusal};
 use fts_types::{DocId, Key, RowTexts};
+use std::sync::Arc;
 
 /// How far a given document id may be above the largest that was used (MySQL:
 /// `FTS_DOC_ID_MAX_STEP`).
@@ -98,7 +100,10 @@ impl Rows {
         if let Err(error) = check_length(change, texts) {
             return Err(error);
         }
-        let texts = texts.copied(self.alloc())?;
+        let texts = match Arc::new(self.alloc(), texts.copied(self.alloc())?) {
+            Ok(texts) => texts,
+            Err(_) => return Err(PlanError::NoMemory),
+        };
         plan.add(Row { key, doc, texts })?;
         Ok(())
     }
@@ -128,6 +133,8 @@ impl Rows {
         ensures ok { IfOk result (λ plan. after_changes self.now.limits.ids 1 changes.now
             self.now.rows ≡ Ok (rows_with plan self.now.rows)) }
         ensures fits { IfOk result (λ plan. Fits self.now.rows plan (length changes.now)) }
+        ensures turn { IfOk result (λ plan. turn_of plan
+            ≡ turn_between self.now.rows (rows_with plan self.now.rows)) }
         ensures refused { IfErr result
             (IsNoPlan (after_changes self.now.limits.ids 1 changes.now self.now.rows)) }
     {

@@ -1,10 +1,12 @@
 use fts_types::{DocId, Key, RowTexts};
+use std::sync::Arc;
 
 /// A row of the table.
 #[derive(Debug, Drop)]
 pub struct Row {
     pub key: Key,
     pub doc: DocId,
-    /// The texts of its columns.
-    pub texts: RowTexts,
+    /// The texts of its columns, behind a counted pointer: who clones it holds them, also when the
+    /// row has gone.
+    pub texts: Arc<RowTexts>,
 }

@@ -1,45 +1,51 @@
 ghost use Rattle.std.specs.Prelude.{◌≡◌, ◌+◌, ◌<◌, ◌≤◌, ◌↔◌, [], ◌∷◌, ◌++◌, false, length, IsTrue};
 ghost use Rattle.std.specs.Prelude.{OnOk};
+ghost use Rattle.std.specs.Arc.{arc_value};
 ghost use Rattle.std.specs.Option.{option_copied, option_map};
-ghost use Rattle.fts_commits.specs.Commit.{Rows as RowList, no_rows, has_key};
+ghost use Rattle.fts_commits.specs.Commit.{Rows as RowList, no_rows, has_key, without_key};
+ghost use Rattle.fts_commits.specs.Turn.{RowsAscend};
 ghost use Rattle.fts_rows.specs.Row.{row_of};
-ghost use Rattle.fts_rows.specs.Rows.{rows_of, limits_of, row_with_key, row_with_id, texts_with_id};
+ghost use Rattle.fts_rows.specs.Rows.{rows_of, limits_of, row_with_key, texts_with_id};
 ghost use Rattle.fts_rows.specs.Plan.{PlanFor};
 
 use crate::plan::Plan;
 use crate::row::Row;
+use crate::slots::{Slots, compact, push_row, row_at, take_row};
 use fts_types::{DocId, Key, Limits, RowTexts};
+use indexmap::IndexMap;
 use std::alloc::{AllocError, Global};
 use std::collections::HashMap;
 use std::marker::Model;
+use std::sync::Arc;
 
 /// The rows of a table.
 #[derive(Drop)]
 pub struct Rows {
     alloc: Global,
     // By ascending ids.
-    list: Vec<Row>,
-    // For each key the place of its row in the list.
-    places: HashMap<Key, usize>,
+    slots: Slots,
+    // For each key the id of its row.
+    docs: HashMap<Key, DocId>,
     largest: DocId,
     limits: Limits,
 }
 
 impl Model for Rows {
-    ghost use Rattle.std.specs.Prelude.{◌-◌, min, map, nat_eq, vec_len, vec_capacity};
-    ghost use Rattle.std.specs.HashMap.{get, spare};
-    ghost use Rattle.fts_rows.specs.Row.{row_of};
-    ghost use Rattle.fts_rows.specs.Rows.{Held, AreKept};
+    ghost use Rattle.std.specs.Prelude.{min, nat_eq};
+    ghost use Rattle.std.specs.HashMap.{get, spare, hash_map_len};
+    ghost use Rattle.fts_rows.specs.Rows.{Held};
+    ghost use Rattle.fts_rows.specs.Slots.{AreKept, rows_in};
 
     ghost Value = { Held };
 
     ghost view = { λ r. record {
-      rows = record { list = map row_of r.list.items; largest = r.largest };
+      rows = record { list = rows_in r.slots.entries; largest = r.largest };
       limits = r.limits;
-      room = min (spare r.places) (vec_capacity r.list - vec_len r.list);
+      room = min (spare r.docs) (spare r.slots);
     } };
 
-    ghost invariant = { λ r. AreKept (get nat_eq r.places) r.largest (map row_of r.list.items) };
+    ghost invariant = { λ r. AreKept (get nat_eq r.docs) (hash_map_len r.docs) r.largest
+        r.slots.entries };
 }
 
 impl Rows {
@@ -50,8 +56,8 @@ impl Rows {
     {
         Rows {
             alloc,
-            list: Vec::new(alloc),
-            places: HashMap::new(alloc),
+            slots: IndexMap::new(alloc),
+            docs: HashMap::new(alloc),
             largest: 0,
             limits,
         }
@@ -78,9 +84,10 @@ impl Rows {
         self.alloc
     }
 
-    /// The largest document id that was used, 0 before the first.
+    /// The largest document id that was used, 0 before the first. No row has a larger one.
     pub fn largest(&self) -> DocId
-        ensures { result ≡ (rows_of self.now).largest }
+        ensures largest { result ≡ (rows_of self.now).largest }
+        ensures ascend { RowsAscend 0 result (rows_of self.now).list }
     {
         self.largest
     }
@@ -89,21 +96,21 @@ impl Rows {
     pub fn len(&self) -> usize
         ensures { result ≡ length (rows_of self.now).list }
     {
-        self.list.len()
+        self.docs.len()
     }
 
     /// Whether there are none.
     pub fn is_empty(&self) -> bool
         ensures { IsTrue result ↔ ((rows_of self.now).list ≡ []) }
     {
-        self.list.is_empty()
+        self.docs.is_empty()
     }
 
     /// Whether a row has the key.
     pub(crate) fn has(&self, key: Key) -> bool
         ensures { result ≡ has_key key (rows_of self.now).list }
     {
-        self.places.contains_key(&key)
+        self.docs.contains_key(&key)
     }
 
     /// The row with this key, in constant time.
@@ -111,41 +118,36 @@ impl Rows {
         ensures { option_map row_of (option_copied result)
             ≡ row_with_key key (rows_of self.now).list }
     {
-        match self.places.get(&key) {
-            Some(place) => self.list.get(*place),
+        match self.docs.get(&key) {
+            Some(doc) => row_at(&self.slots, *doc),
             None => None,
         }
     }
 
-    /// The row with this document id, by a binary search.
-    fn row_with_id(&self, doc: DocId) -> Option<&Row>
-        ensures { option_map row_of (option_copied result)
-            ≡ row_with_id doc (rows_of self.now).list }
+    /// The texts of the row with this document id, in constant time. Who clones the pointer holds
+    /// them, whatever becomes of the row.
+    pub fn text_of(&self, doc: DocId) -> Option<&Arc<RowTexts>>
+        ensures { option_map arc_value (option_copied result)
+            ≡ texts_with_id doc (rows_of self.now).list }
     {
-        match self.list.binary_search_by_key(&doc, |row| row.doc) {
-            Ok(place) => Some(&self.list[place]),
-            Err(_) => None,
-        }
-    }
-
-    /// The texts of the row with this document id, by a binary search.
-    pub fn text_of(&self, doc: DocId) -> Option<&RowTexts>
-        ensures { option_copied result ≡ texts_with_id doc (rows_of self.now).list }
-    {
-        match self.row_with_id(doc) {
+        match row_at(&self.slots, doc) {
             Some(row) => Some(&row.texts),
             None => None,
         }
     }
 
-    /// Makes room for so many more rows.
+    /// Makes room for so many more rows. Places of rows that were taken out are given up here, once
+    /// they are more than the rows.
     pub(crate) fn reserve(&mut self, more: usize) -> Result<(), AllocError>
         ensures rows { rows_of self.new ≡ rows_of self.old }
         ensures limits { limits_of self.new ≡ limits_of self.old }
         ensures room { OnOk result (more ≤ self.new.room) }
     {
-        self.places.reserve(more)?;
-        self.list.reserve(more)
+        if self.docs.len() < self.slots.len() / 2 {
+            compact(&mut self.slots);
+        }
+        self.docs.reserve(more)?;
+        self.slots.reserve(more)
     }
 
     /// Puts a row behind the others.
@@ -159,11 +161,28 @@ impl Rows {
         ensures room { self.old.room ≤ self.new.room + 1 }
     {
         self.largest = row.doc;
-        match self.places.insert(row.key, self.list.len()) {
+        match self.docs.insert(row.key, row.doc) {
             Ok(_) => {}
             Err(_) => unreachable!(),
         }
-        self.list.push_reserved(row);
+        push_row(&mut self.slots, row);
+    }
+
+    /// Takes the row with this key out, and gives it, or nothing where no row has the key. It takes
+    /// no memory, and constant time; the other rows stay in their order.
+    pub fn remove(&mut self, key: Key) -> Option<Row>
+        ensures row { option_map row_of result ≡ row_with_key key (rows_of self.old).list }
+        ensures rows { rows_of self.new ≡ record {
+          list = without_key key (rows_of self.old).list;
+          largest = (rows_of self.old).largest;
+        } }
+        ensures limits { limits_of self.new ≡ limits_of self.old }
+        ensures room { self.old.room ≤ self.new.room }
+    {
+        match self.docs.remove(&key) {
+            Some(doc) => take_row(&mut self.slots, doc),
+            None => None,
+        }
     }
 
     /// Does to the rows what was planned for them. It takes no memory, and constant time for each

@@ -5,6 +5,7 @@ use super::*;
 use fts_commits::{Change, Refusal};
 use fts_types::{DocId, Key, Limits, RowTexts};
 use std::alloc::{AllocError, Global};
+use std::sync::Arc;
 use std::test::*;
 
 /// Texts of so many bytes each.
@@ -24,13 +25,13 @@ fn insert(key: Key, texts: RowTexts) -> Change
     Change::Insert { key, doc, texts }
 }
 
-/// INSERTs of these keys, each with a text as long as its key says.
+/// INSERTs of these keys, each with a text as long as the key's last two digits say.
 fn inserts(alloc: Global, keys: &[Key]) -> Result<Vec<Change>, AllocError>
     ensures { IfOk result (λ changes. All IsPlainInsert changes.items) }
 {
     let mut changes = Vec::new(alloc);
     for key in keys {
-        let texts = texts_of(alloc, &[*key as usize])?;
+        let texts = texts_of(alloc, &[(*key % 100) as usize])?;
         changes.push(insert(*key, texts))?;
     }
     Ok(changes)
@@ -146,6 +147,7 @@ fn a_plan_tells_what_it_adds(rt: HostRuntime) -> Result<(), Fail> {
     let plan = rows.plan(&changes).map_err(|_| Fail::from("refused"))?;
     assert!(rt; plan.births().len() == 2 && plan.largest() == 2);
     assert!(rt; plan.births()[1].key == 2 && plan.births()[1].doc == 2);
+    assert!(rt; plan.deaths().is_empty());
     assert!(rt; rows.is_empty());
     Ok(())
 }
@@ -175,5 +177,82 @@ fn errors_tell_their_cause(rt: HostRuntime) -> Result<(), Fail> {
         let text = format!(in rt.alloc(); "{error}")?;
         assert_eq!(rt; text.as_str(), want);
     }
+    Ok(())
+}
+
+/// A thousand keys from one on, with a step between them.
+fn keys_from(alloc: Global, first: Key, step: Key) -> Result<Vec<Key>, AllocError> {
+    let mut keys = Vec::with_capacity(alloc, 1000)?;
+    let mut key = first;
+    for _ in 0..1000 {
+        keys.push(key)?;
+        key = key.wrapping_add(step);
+    }
+    Ok(keys)
+}
+
+/// Commits INSERTs of half a million keys from one on, with a step between them.
+fn fill(rows: &mut Rows, alloc: Global, first: Key, step: Key) -> Result<(), PlanError> {
+    let mut key = first;
+    for _ in 0..500 {
+        let keys = keys_from(alloc, key, step)?;
+        commit_keys(rows, alloc, &keys)?;
+        key = key.wrapping_add(step.wrapping_mul(1000));
+    }
+    Ok(())
+}
+
+/// Takes the rows of half a million keys from one on out, and says how many of them had one.
+fn take_out(rows: &mut Rows, first: Key, step: Key) -> u64 {
+    let mut key = first;
+    let mut taken: u64 = 0;
+    for _ in 0..500_000 {
+        if rows.remove(key).is_some() {
+            taken = taken.wrapping_add(1);
+        }
+        key = key.wrapping_add(step);
+    }
+    taken
+}
+
+#[test]
+fn each_second_of_a_million_rows_goes(rt: HostRuntime) -> Result<(), Fail> {
+    let mut rows = Rows::new(rt.alloc(), Limits::standard());
+    assert_eq!(rt; fill(&mut rows, rt.alloc(), 0, 2), Ok(()));
+    assert_eq!(rt; fill(&mut rows, rt.alloc(), 1, 2), Ok(()));
+    assert_eq!(rt; take_out(&mut rows, 0, 2), 500_000);
+    assert!(rt; rows.len() == 500_000 && rows.largest() == 1_000_000);
+    assert_eq!(rt; fill(&mut rows, rt.alloc(), 0, 2), Ok(()));
+    assert_eq!(rt; take_out(&mut rows, 1, 2), 500_000);
+    assert_eq!(rt; take_out(&mut rows, 1, 2), 0);
+    for (key, want) in [
+        (0, Some((1_000_001, 0))),
+        (999_998, Some((1_500_000, 98))),
+        (1, None),
+    ] {
+        assert_eq!(rt; seen(&rows, key), want, "of {key}");
+    }
+    Ok(())
+}
+
+/// The first text of a row that was taken out, by a pointer that was cloned before.
+fn held(rows: &mut Rows, key: Key) -> Option<Arc<RowTexts>> {
+    let texts = Arc::try_clone(&rows.row(key)?.texts).ok()?;
+    let row = rows.remove(key)?;
+    if rows.row(key).is_some() || rows.text_of(row.doc).is_some() {
+        return None;
+    }
+    Some(texts)
+}
+
+#[test]
+fn texts_outlive_their_row(rt: HostRuntime) -> Result<(), Fail> {
+    let mut rows = Rows::new(rt.alloc(), Limits::standard());
+    assert_eq!(rt; commit_keys(&mut rows, rt.alloc(), &[4, 9]), Ok(()));
+    let Some(texts) = held(&mut rows, 9) else {
+        return Err(Fail::from("still there"));
+    };
+    assert_eq!(rt; texts.size(), Some(9));
+    assert!(rt; rows.len() == 1 && rows.remove(9).is_none());
     Ok(())
 }

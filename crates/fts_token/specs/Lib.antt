@@ -1,6 +1,5 @@
 pub mod Bits
 pub mod Bounds
-pub mod Bytes
 pub mod Chosen
 pub mod Left
 pub mod Row

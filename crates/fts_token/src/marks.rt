@@ -66,11 +66,8 @@ fn padded(text: &[u8], at: usize) -> [u8; 64]
     ensures bytes { (k : ℕ) → slice_index result k ≡ slice_index text.now (at + k) }
 {
     let mut last = [0; 64];
-    let mut i = 0;
-    while i < text.len() - at {
-        last[i] = text[at + i];
-        i += 1;
-    }
+    let rest = &text[at..];
+    last[..rest.len()].copy_from_slice(rest);
     last
 }
 

@@ -1,42 +1,18 @@
 ghost use Rattle.std.specs.Prelude.{◌≡◌, ◌+◌, ◌≤◌, length, IsFalse};
 ghost use Rattle.fts_words.specs.Byte.{is_word_byte, word_at};
 ghost use Rattle.fts_words.specs.RawWords.{raw_words};
-ghost use Rattle.fts_token.specs.Bytes.{word_bytes};
 ghost use Rattle.fts_token.specs.Bounds.{is_inside, IsAhead};
 
 use crate::block::{Block, first_word};
 use fts_words::Span;
-
-const T: bool = true;
-
-const F: bool = false;
-
-/// For each byte, whether it is a word byte: the processor can't foresee the branches of
-/// comparisons.
-#[tactic(auto, unfolding(crate::specs::Bytes::word_bytes))]
-#[inline(always)]
-fn word_bytes() -> &'static [bool]
-    ensures { result.now ≡ word_bytes }
-{
-    &[
-        F, F, F, F, F, F, F, F, F, F, F, F, F, F, F, F, F, F, F, F, F, F, F, F, F, F, F, F, F, F,
-        F, F, F, F, F, F, F, F, F, F, F, F, F, F, F, F, F, F, T, T, T, T, T, T, T, T, T, T, F, F,
-        F, F, F, F, F, T, T, T, T, T, T, T, T, T, T, T, T, T, T, T, T, T, T, T, T, T, T, T, T, T,
-        T, F, F, F, F, T, F, T, T, T, T, T, T, T, T, T, T, T, T, T, T, T, T, T, T, T, T, T, T, T,
-        T, T, T, F, F, F, F, F, F, F, F, F, F, F, F, F, F, F, F, F, F, F, F, F, F, F, F, F, F, F,
-        F, F, F, F, F, F, F, F, F, F, F, F, F, F, F, F, F, F, F, F, F, F, F, F, F, F, F, F, F, F,
-        F, F, F, F, F, F, F, F, F, F, F, F, F, F, F, F, F, F, F, F, F, F, F, F, F, F, F, F, F, F,
-        F, F, F, F, F, F, F, F, F, F, F, F, F, F, F, F, F, F, F, F, F, F, F, F, F, F, F, F, F, F,
-        F, F, F, F, F, F, F, F, F, F, F, F, F, F, F, F,
-    ]
-}
 
 /// Whether the byte is an ASCII letter, a digit or `_`.
 #[inline(always)]
 pub fn is_word_byte(byte: u8) -> bool
     ensures { result ≡ is_word_byte byte }
 {
-    word_bytes()[usize::from(byte)]
+    // Without a branch, which the processor couldn't foresee.
+    byte.is_ascii_alphanumeric() | (byte == b'_')
 }
 
 /// Whether the text has a word byte at a place. It has none behind its end.

@@ -1,14 +1,16 @@
-use Rattle.std.proofs.Common.{map, refl, ap, sym, ◌∙◌}
+use Rattle.std.proofs.Common.{ℕ, List, map, refl, ap, subst, sym, ◌∙◌}
 use Rattle.fts_types.specs.Rules.{rules_of}
 use Rattle.fts_rows.specs.Row.{row_of}
+use Rattle.fts_index.specs.Occurrences.{AreSorted}
 use Rattle.fts_index.specs.declared.occurrence.Occurrence.{Occurrence}
 use Rattle.fts_index.proofs.Runs.{building_begins, turn}
 use Rattle.fts_index.proofs.document.document_words.Goals as goal
 
 pub loop-first-init : goal.loop-first-init
 loop-first-init c =
+    let sorted = subst (λ (texts : List (List ℕ)). AreSorted (rules_of c.args.settings.now) texts c.in_ok-all.all.items) c.deref-2.ensures c.in_ok-all.ensures in
     rw c.as_slice-rest.ensures.value
-    (building_begins (rules_of c.args.settings.now) (row_of c.args.row.now) _ _ c.new-document.ensures c.in_ok-all.ensures c.requires.texts)
+    (building_begins (rules_of c.args.settings.now) (row_of c.args.row.now) _ _ c.new-document.ensures sorted c.requires.texts)
 
 pub push-requires : goal.push-requires
 push-requires c =

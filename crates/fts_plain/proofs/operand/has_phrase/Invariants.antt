@@ -1,6 +1,6 @@
 use Rattle.std.proofs.Common.{◌≡◌, false, take}
 use Rattle.std.specs.List.{list_any}
-use Rattle.fts_plain.specs.Words.{stands_in}
+use Rattle.fts_meaning.specs.Holds.{stands_in}
 use Rattle.fts_plain.proofs.operand.has_phrase.Given as goal
 
 abbrev pub invariant-loop-column : goal.invariant-loop-column

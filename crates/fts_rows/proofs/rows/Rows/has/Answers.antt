@@ -1,11 +1,14 @@
-use Rattle.std.proofs.Common.{is_some, ap, ◌∙◌}
-use Rattle.fts_commits.specs.Commit.{Row, has_key}
+use Rattle.std.proofs.Common.{nat_eq, ap, ◌∙◌}
+use Rattle.std.specs.HashMap.{get}
+use Rattle.fts_commits.specs.Commit.{has_key}
 use Rattle.fts_rows.specs.Rows.{Held}
-use Rattle.fts_rows.specs.Row.{row_of}
-use Rattle.std.proofs.Common.{map, nat_eq}
-use Rattle.fts_rows.proofs.Places.{some-place}
+use Rattle.fts_rows.specs.Slots.{rows_in}
+use Rattle.fts_rows.proofs.Keys.{has_led}
 use Rattle.fts_rows.proofs.rows.Rows.has.Goals as goal
 
 pub returns : goal.returns
 returns c =
-    c.contains_key.ensures ∙ ap is_some (c.self.invariant.places c.args.key) ∙ some-place (λ (r : Row). nat_eq r.key c.args.key) 0 (map row_of c.self.inside.list.items) ∙ ap (λ (h : Held). has_key c.args.key h.rows.list) c.self.view_is
+    let key = c.args.key in
+    c.contains_key.ensures
+    ∙ has_led key (rows_in c.self.inside.slots.entries) (get nat_eq c.self.inside.docs key) (c.self.invariant.keys key)
+    ∙ ap (λ (h : Held). has_key key h.rows.list) c.self.view_is
