@@ -16,7 +16,6 @@ use Rattle.std.specs.declared.cmp.Ordering.{Ordering}
 use Rattle.std.specs.declared.cmp.Ordering.TheVariants.{Less, Equal, Greater}
 use Rattle.fts_ilist.specs.Spelling.{Posting, ArePositions}
 use Rattle.fts_ilist.specs.Queue.{Queue, bytes_for, postings_behind}
-use Rattle.fts_cache.specs.declared.document.WordPlaces.{WordPlaces}
 use Rattle.fts_cache.specs.Document.{WordPositions, Document, IsDocument, document_size, words_size, found_words, postings_from, bytes_in, IsBefore, BeginsBefore, EndsBefore, AreWords}
 use Rattle.fts_cache.specs.Words.{Entries, queue_in, Changes, StaysButRoom, Pushes, IsAdded, IsPartlyAdded}
 use Rattle.fts_cache.proofs.Queues.{which_word, is_same}
@@ -140,11 +139,6 @@ words_at ws i v e =
     let within = slice_get_within ws i v e in
     drop_more ws i v within ∙ ap (λ (x : WordPositions). x ∷ drop (i + 1) ws) (sym (unwrap_or-slice_get ws i v) ∙ ap (λ (o : Option WordPositions). unwrap_or o v) e)
 
-pub mapped_at : {A B : Type 0} (f : A → B) (xs : List A) (i : ℕ) (x : A) → i < length (map f xs) → x ≡ get_or xs i x → slice_get (map f xs) i ≡ Some (f x)
-mapped_at f [] i x lt e = absurd (omega (arith, lt))
-mapped_at f (y ∷ ys) zero x lt e = ap (λ z. Some (f z)) (sym e)
-mapped_at f (y ∷ ys) (suc i) x lt e = mapped_at f ys i x (omega (arith, lt)) e
-
 words_drop : (i : ℕ) (ws : List WordPositions) → AreWords ws → AreWords (drop i ws)
 words_drop zero ws h = h
 words_drop (suc i) [] h = tt
@@ -255,30 +249,27 @@ behind_both a b c ps e =
 
 -- ---- the last word
 
-abbrev pub shown_word : WordPlaces → WordPositions
-shown_word p = record { word = p.word.items; positions = p.positions.items }
-
-pub ends_at : (word : List ℕ) (ps : List WordPlaces) (i : ℕ) (x : WordPlaces) → i + 1 ≡ length ps → x ≡ get_or ps i x → EndsBefore (map shown_word ps) word ↔ IsBefore x.word.items word
+ends_at : (word : List ℕ) (ws : List WordPositions) (i : ℕ) (x : WordPositions) → i + 1 ≡ length ws → slice_get ws i ≡ Some x → EndsBefore ws word ↔ IsBefore x.word word
 ends_at word [] i x e at = absurd (omega (arith, e))
-ends_at word (p ∷ []) zero x e at = (λ h. subst (λ (y : WordPlaces). IsBefore y.word.items word) (sym at) h, λ h. subst (λ (y : WordPlaces). IsBefore y.word.items word) at h)
-ends_at word (p ∷ []) (suc i) x e at = absurd (omega (arith, e))
-ends_at word (p ∷ (q ∷ qs)) zero x e at = absurd (omega (arith, e))
-ends_at word (p ∷ (q ∷ qs)) (suc i) x e at = ends_at word (q ∷ qs) i x (omega (arith, e)) at
+ends_at word (w ∷ []) zero x e at =
+    let same : w ≡ x = ap (λ (o : Option WordPositions). unwrap_or o x) at in
+    (λ h. subst (λ (y : WordPositions). IsBefore y.word word) same h, λ h. subst (λ (y : WordPositions). IsBefore y.word word) (sym same) h)
+ends_at word (w ∷ []) (suc i) x e at = absurd (omega (arith, e))
+ends_at word (w ∷ (v ∷ vs)) zero x e at = absurd (omega (arith, e))
+ends_at word (w ∷ (v ∷ vs)) (suc i) x e at = ends_at word (v ∷ vs) i x (omega (arith, e)) at
 
-pub ends_nowhere : (word : List ℕ) (ps : List WordPlaces) → length ps ≡ 0 → EndsBefore (map shown_word ps) word
+pub ends_nowhere : (word : List ℕ) (ws : List WordPositions) → length ws ≡ 0 → EndsBefore ws word
 ends_nowhere word [] e = tt
-ends_nowhere word (p ∷ ps) e = absurd (omega (arith, e))
+ends_nowhere word (w ∷ ws) e = absurd (omega (arith, e))
 
 below : (o : Ordering) → (is_lt o ≡ true) ↔ (o ≡ Less)
 below Less = (λ e. refl, λ e. refl)
 below Equal = (λ e. absurd cc, λ e. absurd cc)
 below Greater = (λ e. absurd cc, λ e. absurd cc)
 
-pub behind_last : (word : List ℕ) (ps : List WordPlaces) (x : WordPlaces) (o : Ordering) (b : Bool) → Some x ≡ slice_get ps (length ps - 1) → o ≡ slice_cmp nat_cmp x.word.items word → b ≡ is_lt o
-    → IsTrue b ↔ EndsBefore (map shown_word ps) word
-behind_last word ps x o b at order test =
-    let within = slice_get_within ps (length ps - 1) x (sym at) in
-    let same : x ≡ get_or ps (length ps - 1) x = ap (λ (y : Option WordPlaces). unwrap_or y x) at ∙ unwrap_or-slice_get ps (length ps - 1) x in
-    let e = ends_at word ps (length ps - 1) x (omega arith) same in
+pub behind_last : (word : List ℕ) (ws : List WordPositions) (i : ℕ) (x : WordPositions) (o : Ordering) (b : Bool) → i + 1 ≡ length ws → slice_get ws i ≡ Some x → o ≡ slice_cmp nat_cmp x.word word → b ≡ is_lt o
+    → IsTrue b ↔ EndsBefore ws word
+behind_last word ws i x o b e at order test =
+    let h = ends_at word ws i x e at in
     let l = below o in
-    (λ t. e.1 (sym order ∙ l.0 (sym test ∙ t)), λ h. test ∙ l.1 (order ∙ e.0 h))
+    (λ t. h.1 (sym order ∙ l.0 (sym test ∙ t)), λ f. test ∙ l.1 (order ∙ h.0 f))

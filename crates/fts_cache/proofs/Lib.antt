@@ -1,5 +1,6 @@
 pub mod Queues
 pub mod Documents
+pub mod Arena
 pub mod Ids
 pub mod Sweeps
 pub mod Shown

@@ -18,9 +18,7 @@ fn document(
 {
     let mut made = DocWords::new(alloc, id);
     for (word, positions) in words {
-        let word = Vec::from_slice(alloc, word)?;
-        let positions = Vec::from_slice(alloc, positions)?;
-        assert!(rt; made.can_push(&word, &positions));
+        assert!(rt; made.can_push(word, positions));
         made.push(word, positions)?;
     }
     Ok(made)
@@ -181,10 +179,8 @@ fn letters(
     let mut made = DocWords::new(alloc, id);
     for letter in b'a'..=b'y' {
         if (id % 7 * u64::from(letter)) % 7 < 3 {
-            let word = Vec::from_slice(alloc, &[letter])?;
-            let positions = Vec::from_slice(alloc, &[5, 6])?;
-            assert!(rt; made.can_push(&word, &positions));
-            made.push(word, positions)?;
+            assert!(rt; made.can_push(&[letter], &[5, 6]));
+            made.push(&[letter], &[5, 6])?;
             noted.push((id, letter))?;
         }
     }
