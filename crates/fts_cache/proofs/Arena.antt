@@ -2,8 +2,7 @@
 use Rattle.std.proofs.Common.{◌≡◌, ℕ, ◌+◌, ◌-◌, ◌*◌, ◌<◌, ◌≤◌, zero, suc, List, [], ◌∷◌, ◌++◌, length, take, drop, get_or, slice_get, slice_index_or, slice_range, Some, subst, refl, sym, ap, ◌∙◌, arith}
 use Rattle.std.proofs.lemmas.List.{take-append-le, drop-append-le, length-append, length-drop, take_all, drop_at, get_or_read}
 use Rattle.fts_cache.specs.declared.document.WordEnd.{WordEnd}
-use Rattle.fts_ilist.specs.Spelling.{ArePositions}
-use Rattle.fts_cache.specs.Document.{WordPositions, Document, document_size, CanPush}
+use Rattle.fts_cache.specs.Document.{WordPositions, Document, CanPush}
 use Rattle.fts_cache.specs.Arena.{no_end, end_before, words_in, AreEnds, document_in, IsArena}
 use Rattle.fts_cache.proofs.Documents.{document_push}
 

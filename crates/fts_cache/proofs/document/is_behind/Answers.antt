@@ -1,4 +1,4 @@
-use Rattle.std.proofs.Common.{◌≡◌, ◌+◌, arith, sym}
+use Rattle.std.proofs.Common.{arith}
 use Rattle.fts_cache.specs.Document.{WordPositions}
 use Rattle.fts_cache.proofs.Documents.{behind_last}
 use Rattle.fts_cache.proofs.document.is_behind.Goals as goal

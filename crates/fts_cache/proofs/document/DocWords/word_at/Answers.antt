@@ -1,5 +1,4 @@
-use Rattle.std.proofs.Common.{◌≡◌, ◌≤◌, ◌<◌, length, arith, ap, sym, subst, ◌∙◌, slice_get, Some, slice_range}
-use Rattle.fts_ilist.specs.Spelling.{ArePositions}
+use Rattle.std.proofs.Common.{◌≡◌, ◌<◌, length, arith, ap, sym, subst, ◌∙◌, slice_get, Some, slice_range}
 use Rattle.fts_cache.specs.Arena.{words_in, no_end, end_before}
 use Rattle.fts_cache.specs.Document.{WordPositions}
 use Rattle.fts_cache.proofs.Documents.{positions_of_word}
@@ -86,4 +85,3 @@ returns-clause-few c =
     ∙ ap (λ bs. let v : WordPositions = record { word = bs; positions = slice_range i.positions.items c.before-start.result.positions c.index-end.result.now.positions } in Some v) (sym (c.bytes_between.ensures ∙ ap (λ bs. slice_range bs c.before-start.result.word c.index-end.result.now.word) c.deref-2.ensures.value))
     ∙ ap (λ ps. let v : WordPositions = record { word = c.bytes_between.result.now; positions = ps } in Some v) (sym (c.positions_between.ensures ∙ ap (λ ps. slice_range ps c.before-start.result.positions c.index-end.result.now.positions) c.deref-3.ensures.value)) in
     (positions_of_word _ c.args.place w c.self.invariant.is_document.words at).1
-
