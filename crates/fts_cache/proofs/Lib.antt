@@ -5,6 +5,7 @@ pub mod Arena
 pub mod Ids
 pub mod Notes
 pub mod Leaving
+pub mod Rooms
 pub mod Promises
 pub mod Shown
 pub mod Numbers

@@ -7,7 +7,7 @@ use Rattle.std.specs.Option.{unwrap_or, option_map}
 use Rattle.std.specs.Str.{bytes_eq}
 use Rattle.fts_ilist.specs.Queue.{Queue}
 use Rattle.fts_cache.specs.declared.words.CachedWord.{CachedWord}
-use Rattle.fts_cache.specs.Words.{Entries, Slots, slot_in, number_in, no_queue, queue_at, queue_in, IsTable, Alters, with_queue, Changes, Stays, Enters, IsLess, IsDropped, without}
+use Rattle.fts_cache.specs.Words.{Entries, Slots, slot_in, number_in, no_queue, queue_at, queue_in, IsTable, Alters, with_queue, Changes, Stays, Enters, IsLess, LetsGo, IsDropped, without}
 use Rattle.fts_cache.proofs.Queues.{which_word, is_same, same_word}
 
 pub which_number : (m n : ℕ) → ((nat_eq m n ≡ true) × (m ≡ n)) ⊎ ((nat_eq m n ≡ false) × (m ≢ n))
@@ -168,9 +168,12 @@ altered_not n old new a w =
 
 -- ---- a word is let go of
 
-pub record LeavesLess (old new : Entries) : Type 0 where
+pub record LeavesLess (n : ℕ) (old new : Entries) : Type 0 where
   pub table : IsTable new
-  pub less : IsLess old new
+  pub less : LetsGo n old new
+
+pub lets_none : (n : ℕ) (old : Entries) → LetsGo n old old
+lets_none n old = record { less = record { numbers = λ w m e. e; postings = λ w. refl; last = λ w. omega arith }; room = λ w. omega arith; others = λ w e. refl }
 
 pub less_not : (old : Entries) → IsLess old old
 less_not old = record { numbers = λ w n e. e; postings = λ w. refl; last = λ w. omega arith }
@@ -178,7 +181,7 @@ less_not old = record { numbers = λ w n e. e; postings = λ w. refl; last = λ 
 pub let_go : (old new : Entries) (n : ℕ) (s : CachedWord) → IsTable old → slot_in old.slots n ≡ Some s → s.queue.postings ≡ []
     → slot_in new.slots n ≡ None → ((m : ℕ) → m ≢ n → slot_in new.slots m ≡ slot_in old.slots m)
     → ((w : List ℕ) → number_in new w ≡ cond (bytes_eq w s.word.items) None (number_in old w))
-    → LeavesLess old new
+    → LeavesLess n old new
 let_go old new n s t at unused gone others numbers = record {
   table = record {
     found = λ w m e.
@@ -188,9 +191,9 @@ let_go old new n s t at unused gone others numbers = record {
     known = known;
   };
   less = record {
-    numbers = λ w m e. (kept w m e).0;
-    postings = postings;
-    last = last;
+    less = record { numbers = λ w m e. (kept w m e).0; postings = postings; last = last };
+    room = room;
+    others = others_stay;
   };
 }
   where
@@ -240,6 +243,23 @@ let_go old new n s t at unused gone others numbers = record {
         ap (λ (x : Queue). x.postings) (stays w h.1 (numbers w ∙ ap (λ (b : Bool). cond b None (number_in old w)) h.0) (number_in old w) refl))
         (which_word w s.word.items)
 
+    there : (w : List ℕ) → bytes_eq w s.word.items ≡ false → w ≢ s.word.items → queue_in new w ≡ queue_in old w
+    there w b differs = stays w differs (numbers w ∙ ap (λ (c : Bool). cond c None (number_in old w)) b) (number_in old w) refl
+
+    room : (w : List ℕ) → (queue_in new w).room ≤ (queue_in old w).room
+    room w =
+        ⊎_elim
+        (λ (h : (bytes_eq w s.word.items ≡ true) × (w ≡ s.word.items)). omega (arith, ap (λ (x : Queue). x.room) (here w h.0 h.1).0))
+        (λ (h : (bytes_eq w s.word.items ≡ false) × (w ≢ s.word.items)). omega (arith, ap (λ (x : Queue). x.room) (there w h.0 h.1)))
+        (which_word w s.word.items)
+
+    others_stay : (w : List ℕ) → number_in old w ≢ Some n → queue_in new w ≡ queue_in old w
+    others_stay w differs =
+        ⊎_elim
+        (λ (h : (bytes_eq w s.word.items ≡ true) × (w ≡ s.word.items)). absurd (differs (ap (number_in old) h.1 ∙ is_word)))
+        (λ (h : (bytes_eq w s.word.items ≡ false) × (w ≢ s.word.items)). there w h.0 h.1)
+        (which_word w s.word.items)
+
     last : (w : List ℕ) → (queue_in new w).last ≤ (queue_in old w).last
     last w =
         ⊎_elim
@@ -249,16 +269,18 @@ let_go old new n s t at unused gone others numbers = record {
         (which_word w s.word.items)
 
 -- documents were taken out of a queue, and then words were let go of
-pub dropped : (n doc : ℕ) (old now new : Entries) → IsTable old → now.numbers ≡ old.numbers → IsAltered n (without doc) old now → IsLess now new → (w : List ℕ) → IsDropped n doc old new w
-dropped n doc old now new t same a l w = record {
-  numbers = λ m e. sym (ap (λ ns. lookup (λ k. bytes_eq w k.items) ns) same) ∙ l.numbers w m e;
-  here = λ e. l.postings w ∙ ap (λ (q : Queue). q.postings) (a.here w e);
-  others = λ e. l.postings w ∙ ap (λ (q : Queue). q.postings) (a.others w e);
-  last = ⊎_elim
-      (λ (h : number_in old w ≡ Some n). omega (arith, l.last w, ap (λ (q : Queue). q.last) (a.here w h)))
-      (λ (h : number_in old w ≢ Some n). omega (arith, l.last w, ap (λ (q : Queue). q.last) (a.others w h)))
-      (has_it (number_in old w) n);
-}
+pub dropped : (n doc : ℕ) (old now new : Entries) → IsTable old → now.numbers ≡ old.numbers → IsAltered n (without doc) old now → LetsGo n now new → (w : List ℕ) → IsDropped n doc old new w
+dropped n doc old now new t same a h w =
+    let l = h.less in
+    record {
+      numbers = λ m e. sym (ap (λ ns. lookup (λ k. bytes_eq w k.items) ns) same) ∙ l.numbers w m e;
+      here = λ e. l.postings w ∙ ap (λ (q : Queue). q.postings) (a.here w e);
+      others = λ e. l.postings w ∙ ap (λ (q : Queue). q.postings) (a.others w e);
+      last = ⊎_elim
+          (λ (h : number_in old w ≡ Some n). omega (arith, l.last w, ap (λ (q : Queue). q.last) (a.here w h)))
+          (λ (h : number_in old w ≢ Some n). omega (arith, l.last w, ap (λ (q : Queue). q.last) (a.others w h)))
+          (has_it (number_in old w) n);
+    }
 
 -- ---- a word is entered
 

@@ -1,8 +1,11 @@
 -- What contracts see of a cache.
 use Rattle.std.specs.Prelude.{◌≡◌, ℕ, ◌+◌, ◌^◌, ◌<◌, ◌≤◌, List, [], ◌∷◌, length, filter, sum_by, nat_lt}
+use Rattle.std.specs.Prelude.{Bool, false, if◌then◌else◌}
+use Rattle.std.specs.List.{concat}
+use Rattle.std.specs.Option.{option_map_or}
 use Rattle.fts_ilist.specs.Spelling.{Posting}
 use Rattle.fts_cache.specs.Document.{Document, document_size, bytes_of}
-use Rattle.fts_cache.specs.Words.{Entries, queue_in, AreNumbersOf}
+use Rattle.fts_cache.specs.Words.{Entries, queue_in, number_in, has_number, AreNumbersOf}
 
 -- a document in the cache
 pub record CachedDocument : Type 0 where
@@ -47,6 +50,14 @@ pub record SameContents (old new : CacheState) : Type 0 where
   pub documents : new.documents ≡ old.documents
   pub postings : (w : List ℕ) → postings_of new w ≡ postings_of old w
   pub last : new.last ≡ old.last
+
+-- whether room was promised for the word and not used
+abbrev pub is_promised : CacheState → List ℕ → Bool
+is_promised c word = option_map_or (λ n. has_number n (concat c.promised)) (number_in c.words word) false
+
+-- the room of the word without what was promised and not used
+abbrev pub room_left : CacheState → List ℕ → ℕ
+room_left c word = if is_promised c word then 0 else room_of c word
 
 -- the numbers that were promised begin with those of the words of these documents
 abbrev pub AreNumbers : Entries → List Document → List (List ℕ) → Type 0

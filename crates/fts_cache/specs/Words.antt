@@ -1,6 +1,7 @@
 -- The cached words, each by its number, and their queues.
 use Rattle.std.specs.Prelude.{◌≡◌, ◌≢◌, ℕ, ◌+◌, ◌-◌, ◌^◌, ◌<◌, ◌≤◌, Bool, ◌&&◌, nat_eq, nat_le, nat_lt, map, filter}
-use Rattle.std.specs.Prelude.{List, [], ◌∷◌, ◌++◌, length, if◌then◌else◌, Option, Some, None, slice_index_or, filter_map}
+use Rattle.std.specs.Prelude.{List, [], ◌∷◌, ◌++◌, length, if◌then◌else◌}
+use Rattle.std.specs.Prelude.{Option, Some, None, slice_index_or, filter_map, true, false}
 use Rattle.std.specs.Global.{Vec}
 use Rattle.std.specs.List.{starts_with, list_any}
 use Rattle.std.specs.Map.{lookup}
@@ -105,6 +106,12 @@ pub record IsLess (old new : Entries) : Type 0 where
   pub postings : (w : List ℕ) → (queue_in new w).postings ≡ (queue_in old w).postings
   pub last : (w : List ℕ) → (queue_in new w).last ≤ (queue_in old w).last
 
+-- the word with this number was let go of, if it has no document, and no other
+pub record LetsGo (number : ℕ) (old new : Entries) : Type 0 where
+  pub less : IsLess old new
+  pub room : (w : List ℕ) → (queue_in new w).room ≤ (queue_in old w).room
+  pub others : (w : List ℕ) → number_in old w ≢ Some number → queue_in new w ≡ queue_in old w
+
 -- no queue takes an id only above this one
 abbrev pub EndBy : ℕ → Entries → Type 0
 EndBy last entries = (w : List ℕ) → (queue_in entries w).last ≤ last
@@ -141,6 +148,12 @@ AreNumbersOf entries (v ∷ vs) [] = ⊥
 -- the number is one of these
 abbrev pub has_number : ℕ → List ℕ → Bool
 has_number n numbers = list_any (nat_eq n) numbers
+
+-- the room of w, where that of the words with these numbers was given up
+pub record GivesUp (numbers : List ℕ) (old new : Entries) (w : List ℕ) : Type 0 where
+  pub given : (n : ℕ) → number_in old w ≡ Some n → has_number n numbers ≡ true → (queue_in new w).room ≡ 0
+  pub kept : ((n : ℕ) → number_in old w ≡ Some n → has_number n numbers ≡ false)
+      → (queue_in new w).room ≡ (queue_in old w).room
 
 -- the documents up to an id
 abbrev pub postings_until : ℕ → List Posting → List Posting

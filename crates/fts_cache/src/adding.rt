@@ -4,7 +4,8 @@ ghost use Rattle.std.specs.Prelude.{OnOk, Some, false};
 ghost use Rattle.fts_ilist.specs.Queue.{postings_behind};
 ghost use Rattle.fts_cache.specs.Document.{bytes_in, bytes_of};
 ghost use Rattle.fts_cache.specs.Words.{number_in, queue_in, has_number, AreNumbersOf, Grows};
-ghost use Rattle.fts_cache.specs.Words.{IsLess, IsAdded, KeepsNumbers};
+ghost use Rattle.fts_cache.specs.Words.{IsLess, IsAdded, KeepsNumbers, GivesUp};
+ghost use Rattle.std.specs.List.{concat};
 ghost use Rattle.fts_cache.specs.Cache.{AreNumbers};
 
 use crate::document::DocWords;
@@ -78,7 +79,8 @@ pub(crate) fn reserve_documents(
 
 /// Gives up the room of the words with these numbers, and lets go of those without a document.
 fn release_words(words: &mut Words, numbers: &[u32])
-    ensures { IsLess words.old words.new }
+    ensures less { IsLess words.old words.new }
+    ensures room { (w : List ℕ) → GivesUp numbers.now words.old words.new w }
 {
     for number in numbers {
         words.release(*number);
@@ -87,7 +89,9 @@ fn release_words(words: &mut Words, numbers: &[u32])
 
 /// Gives up the room that was promised and not used.
 pub(crate) fn release_promised(words: &mut Words, promised: &mut VecDeque<Vec<u32>>)
-    ensures words { IsLess words.old words.new }
+    ensures less { IsLess words.old words.new }
+    ensures room { (w : List ℕ) → GivesUp (concat (map (λ n. n.items) promised.old.items)) words.old
+        words.new w }
     ensures promised { map (λ n. n.items) promised.new.items ≡ [] }
 {
     while let Some(numbers) = promised.pop_front() {

@@ -8,7 +8,7 @@ ghost use Rattle.fts_cache.specs.Document.{Document, document_size, document_pos
 ghost use Rattle.fts_cache.specs.Document.{bytes_of};
 ghost use Rattle.fts_cache.specs.Cache.{CacheState, CachedDocument, postings_of, cache_size};
 ghost use Rattle.fts_cache.specs.Cache.{cached, cached_behind, SameContents, HasRoom, BeginsAbove};
-ghost use Rattle.fts_cache.specs.Cache.{IdsAscend};
+ghost use Rattle.fts_cache.specs.Cache.{IdsAscend, room_of, room_left};
 ghost use Rattle.fts_cache.specs.Words.{queue_in, postings_until};
 ghost use Rattle.fts_cache.specs.Kept.{kept, NoteWords, NotesUntil};
 ghost use Rattle.fts_cache.specs.Sorted.{IsAmong, AscendByBytes};
@@ -188,6 +188,8 @@ impl Cache {
     /// is entered without a document, and counts as absent.
     pub fn reserve(&mut self, documents: &[DocWords]) -> Result<(), AllocError>
         ensures room { OnOk result (HasRoom self.new documents.now) }
+        ensures held { OnOk result ((w : List ℕ)
+            → room_of self.new w ≡ room_left self.old w + bytes_of w documents.now) }
         ensures contents { SameContents self.old self.new }
     {
         // A size past 64 bits is one that no memory holds.

@@ -11,6 +11,7 @@ ghost use Rattle.fts_ilist.specs.Spelling.{ArePositions, ArePostings};
 ghost use Rattle.fts_ilist.specs.Queue.{Queue, bytes_for, postings_behind};
 ghost use Rattle.fts_cache.specs.Words.{Entries, slot_in, number_in, queue_at, queue_in, IsTable};
 ghost use Rattle.fts_cache.specs.Words.{Alters, CanTake, Enters, Changes, Stays, IsLess};
+ghost use Rattle.fts_cache.specs.Words.{LetsGo, GivesUp};
 ghost use Rattle.fts_cache.specs.Words.{IsDropped, with_more_room, without_room, with_posting};
 ghost use Rattle.fts_cache.specs.Words.{without, postings_until, has_number, leaves};
 ghost use Rattle.fts_cache.specs.Words.{leaving_word, leaving_words, shows, words_by};
@@ -107,7 +108,7 @@ fn is_unused(slots: &Slab<CachedWord>, number: u32) -> bool
 fn let_go(numbers: &mut IndexMap<Vec<u8>, u32>, slots: &mut Slab<CachedWord>, number: u32)
     requires { IsTable (record { numbers = numbers.old.entries; slots = slots.old.slots }) }
     ensures table { IsTable (record { numbers = numbers.new.entries; slots = slots.new.slots }) }
-    ensures less { IsLess
+    ensures less { LetsGo number
         (record { numbers = numbers.old.entries; slots = slots.old.slots })
         (record { numbers = numbers.new.entries; slots = slots.new.slots }) }
 {
@@ -300,7 +301,8 @@ impl Words {
     /// Gives up the room of the word with this number, and lets go of the word where it has no
     /// document.
     pub fn release(&mut self, number: u32)
-        ensures { IsLess self.old self.new }
+        ensures less { IsLess self.old self.new }
+        ensures room { (w : List ℕ) → GivesUp (number ∷ []) self.old self.new w }
     {
         clear_at(&mut self.slots, number);
         let_go(&mut self.numbers, &mut self.slots, number);
