@@ -1,12 +1,11 @@
 -- The words of documents, one after another.
-use Rattle.std.proofs.Common.{◌≡◌, ◌≢◌, inl, inr, ⊎_elim, ◌↔◌, ℕ, ◌+◌, ◌-◌, ◌*◌, ◌^◌, ◌<◌, ◌≤◌, Bool, true, false, cond, IsTrue, nat_lt, List, [], ◌∷◌, ◌++◌, length, map, sum_by, drop, get_or, refl, sym, ap, subst, ◌∙◌, append_assoc, zero-add, add-zero, slice_get, Option, Some, zero, suc, max, arith}
+use Rattle.std.proofs.Common.{◌≡◌, ◌≢◌, inl, inr, ⊎_elim, ◌↔◌, ℕ, ◌+◌, ◌*◌, ◌^◌, ◌<◌, ◌≤◌, Bool, true, false, cond, IsTrue, nat_lt, List, [], ◌∷◌, ◌++◌, length, map, sum_by, drop, take, refl, sym, ap, subst, ◌∙◌, append_assoc, zero-add, add-zero, slice_get, Option, Some, zero, suc, arith}
 use Rattle.std.proofs.lemmas.Bool.{lt-ltb, le-ltb, cases_lt}
 use Rattle.std.proofs.lemmas.Cmp.{nat_list_cmp_total}
-use Rattle.std.proofs.lemmas.List.{append-nil, drop_more}
+use Rattle.std.proofs.lemmas.List.{append-nil, drop_more, take_more}
 use Rattle.std.proofs.lemmas.Option.{slice_get_within, unwrap_or-slice_get}
 use Rattle.std.specs.Option.{unwrap_or}
 use Rattle.fts_ilist.proofs.Queues.{few_positions}
-use Rattle.std.proofs.lemmas.List.Elements.{filter-append}
 use Rattle.std.proofs.lemmas.List.Sums.{sum_by_push, sum_by-cons}
 use Rattle.std.specs.Str.{bytes_eq}
 use Rattle.std.specs.Cmp.Lexicographic.{slice_cmp}
@@ -16,9 +15,8 @@ use Rattle.std.specs.declared.cmp.Ordering.{Ordering}
 use Rattle.std.specs.declared.cmp.Ordering.TheVariants.{Less, Equal, Greater}
 use Rattle.fts_ilist.specs.Spelling.{Posting, ArePositions}
 use Rattle.fts_ilist.specs.Queue.{Queue, bytes_for, postings_behind}
-use Rattle.fts_cache.specs.declared.document.WordPlaces.{WordPlaces}
 use Rattle.fts_cache.specs.Document.{WordPositions, Document, IsDocument, document_size, words_size, found_words, postings_from, bytes_in, IsBefore, BeginsBefore, EndsBefore, AreWords}
-use Rattle.fts_cache.specs.Words.{Entries, queue_in, Changes, StaysButRoom, Pushes, IsAdded, IsPartlyAdded}
+use Rattle.fts_cache.specs.Words.{Entries, queue_in, Changes, Grows, KeepsNumbers, with_posting, IsAdded, IsPartlyAdded}
 use Rattle.fts_cache.proofs.Queues.{which_word, is_same}
 
 -- ---- one more word
@@ -85,26 +83,6 @@ behind_again a b (p ∷ ps) le =
           ∙ sym (ap (λ (t : Bool). cond t (p ∷ postings_behind a ps) (postings_behind a ps)) (le-ltb a p.id (omega arith)))
     ]
 
-pub behind_lower : (a b : ℕ) (ps : List Posting) → b ≤ a → postings_behind b (postings_behind a ps) ≡ postings_behind a ps
-behind_lower a b [] le = refl
-behind_lower a b (p ∷ ps) le =
-    let rest = behind_lower a b ps le in
-    elim (cases_lt a p.id) [
-      | inl lt ↦ ap (λ (t : Bool). postings_behind b (cond t (p ∷ postings_behind a ps) (postings_behind a ps))) (lt-ltb a p.id lt)
-          ∙ ap (λ (t : Bool). cond t (p ∷ postings_behind b (postings_behind a ps)) (postings_behind b (postings_behind a ps))) (lt-ltb b p.id (omega arith))
-          ∙ ap (λ (w : List Posting). p ∷ w) rest
-          ∙ sym (ap (λ (t : Bool). cond t (p ∷ postings_behind a ps) (postings_behind a ps)) (lt-ltb a p.id lt))
-      | inr low ↦ ap (λ (t : Bool). postings_behind b (cond t (p ∷ postings_behind a ps) (postings_behind a ps))) (le-ltb a p.id low)
-          ∙ rest
-          ∙ sym (ap (λ (t : Bool). cond t (p ∷ postings_behind a ps) (postings_behind a ps)) (le-ltb a p.id low))
-    ]
-
-pub behind_push : (through : ℕ) (ps : List Posting) (p : Posting) → through < p.id → postings_behind through (postings_behind through ps ++ p ∷ []) ≡ postings_behind through ps ++ p ∷ []
-behind_push through ps p lt =
-    filter-append (λ (q : Posting). nat_lt through q.id) (postings_behind through ps) (p ∷ [])
-    ∙ ap (λ (w : List Posting). w ++ postings_behind through (p ∷ [])) (behind_again through through ps (omega arith))
-    ∙ ap (λ (t : Bool). postings_behind through ps ++ cond t (p ∷ []) []) (lt-ltb through p.id lt)
-
 -- ---- one word after another
 
 pub found_here : (w : List ℕ) (v : WordPositions) (vs : List WordPositions) → bytes_eq w v.word ≡ true → found_words w (v ∷ vs) ≡ v ∷ found_words w vs
@@ -140,10 +118,10 @@ words_at ws i v e =
     let within = slice_get_within ws i v e in
     drop_more ws i v within ∙ ap (λ (x : WordPositions). x ∷ drop (i + 1) ws) (sym (unwrap_or-slice_get ws i v) ∙ ap (λ (o : Option WordPositions). unwrap_or o v) e)
 
-pub mapped_at : {A B : Type 0} (f : A → B) (xs : List A) (i : ℕ) (x : A) → i < length (map f xs) → x ≡ get_or xs i x → slice_get (map f xs) i ≡ Some (f x)
-mapped_at f [] i x lt e = absurd (omega (arith, lt))
-mapped_at f (y ∷ ys) zero x lt e = ap (λ z. Some (f z)) (sym e)
-mapped_at f (y ∷ ys) (suc i) x lt e = mapped_at f ys i x (omega (arith, lt)) e
+pub words_until : (ws : List WordPositions) (i : ℕ) (v : WordPositions) → slice_get ws i ≡ Some v → take (i + 1) ws ≡ take i ws ++ v ∷ []
+words_until ws i v e =
+    let within = slice_get_within ws i v e in
+    take_more ws i v within ∙ ap (λ (x : WordPositions). take i ws ++ x ∷ []) (sym (unwrap_or-slice_get ws i v) ∙ ap (λ (o : Option WordPositions). unwrap_or o v) e)
 
 words_drop : (i : ℕ) (ws : List WordPositions) → AreWords ws → AreWords (drop i ws)
 words_drop zero ws h = h
@@ -159,56 +137,56 @@ positions_of_word ws i v h e =
     let are = (words_from ws i v h e).0 in
     (are, omega (arith, few_positions 0 v.positions (omega arith) are.1))
 
-pub begin_adding : (through : ℕ) (d : Document) (old : Entries) → ((w : List ℕ) → (queue_in old w).last < d.id) → (w : List ℕ) → IsPartlyAdded through d d.words old old w
-begin_adding through d old above w = record { postings = refl; last = omega (arith, above w); below = λ some. above w; room = refl }
+pub begin_adding : (d : Document) (old : Entries) → ((w : List ℕ) → (queue_in old w).last < d.id) → (w : List ℕ) → IsPartlyAdded d d.words old old w
+begin_adding d old above w = record { postings = refl; last = omega (arith, above w); below = λ some. above w; room = refl }
 
-pub end_adding : (through : ℕ) (d : Document) (old new : Entries) (w : List ℕ) → IsPartlyAdded through d [] old new w → IsAdded through d old new w
-end_adding through d old new w p = record {
-  postings = sym (append-nil (postings_behind through (queue_in new w).postings)) ∙ p.postings;
+pub end_adding : (d : Document) (old new : Entries) (w : List ℕ) → IsPartlyAdded d [] old new w → IsAdded d old new w
+end_adding d old new w p = record {
+  postings = sym (append-nil (queue_in new w).postings) ∙ p.postings;
   last = p.last;
   room = p.room ∙ add-zero (queue_in old w).room;
 }
 
-pub add_one : (through : ℕ) (d : Document) (v : WordPositions) (vs : List WordPositions) (old now new : Entries) (w : List ℕ) → through < d.id → BeginsBefore v.word vs
-    → IsPartlyAdded through d (v ∷ vs) old now w → Pushes through d.id v.word v.positions now new w → IsPartlyAdded through d vs old new w
-add_one through d v vs old now new w lt first p h =
+pub add_one : (d : Document) (v : WordPositions) (vs : List WordPositions) (old now new : Entries) (w : List ℕ) → BeginsBefore v.word vs
+    → IsPartlyAdded d (v ∷ vs) old now w → Changes now v.word (with_posting d.id v.positions (queue_in now v.word)) new → bytes_for (length v.positions) ≤ (queue_in now v.word).room → IsPartlyAdded d vs old new w
+add_one d v vs old now new w first p h fits =
     let bytes = first_bytes w v vs in
     let shown : Posting = record { id = d.id; positions = v.positions } in
     ⊎_elim
     (λ (e : (bytes_eq w v.word ≡ true) × (w ≡ v.word)).
-    let here : (queue_in new w).postings ≡ postings_behind through (queue_in now w).postings ++ shown ∷ []
-    = h.postings ∙ ap (λ (b : Bool). cond b (postings_behind through (queue_in now w).postings ++ shown ∷ []) (queue_in now w).postings) e.0 in
+    let here : queue_in new w ≡ with_posting d.id v.positions (queue_in now w)
+    = h w ∙ ap (λ (b : Bool). cond b (with_posting d.id v.positions (queue_in now v.word)) (queue_in now w)) e.0
+    ∙ ap (λ (x : List ℕ). with_posting d.id v.positions (queue_in now x)) (sym e.1) in
     let none : bytes_in w vs ≡ 0 = ap (λ (x : List WordPositions). sum_by (λ (y : WordPositions). bytes_for (length y.positions)) x) (ap (λ (x : List ℕ). found_words x vs) e.1 ∙ not_among v.word vs first) in
-    let last : (queue_in new w).last ≡ d.id = h.last ∙ ap (λ (b : Bool). cond b d.id (queue_in now w).last) e.0 in
+    let more : bytes_in w (v ∷ vs) ≡ bytes_for (length v.positions) + bytes_in w vs = bytes ∙ ap (λ (b : Bool). cond b (bytes_for (length v.positions)) 0 + bytes_in w vs) e.0 in
+    let room : bytes_for (length v.positions) ≤ (queue_in now w).room = subst (λ (x : List ℕ). bytes_for (length v.positions) ≤ (queue_in now x).room) (sym e.1) fits in
     record {
-      postings = ap (λ (x : List Posting). postings_behind through x ++ postings_from d.id w vs) here
-          ∙ ap (λ (x : List Posting). x ++ postings_from d.id w vs) (behind_push through (queue_in now w).postings shown lt)
-          ∙ append_assoc (postings_behind through (queue_in now w).postings) (shown ∷ []) (postings_from d.id w vs)
-          ∙ ap (λ (x : List Posting). postings_behind through (queue_in now w).postings ++ x) (sym (first_posting d.id w v vs e.1))
+      postings = ap (λ (q : Queue). q.postings ++ postings_from d.id w vs) here
+          ∙ append_assoc (queue_in now w).postings (shown ∷ []) (postings_from d.id w vs)
+          ∙ ap (λ (x : List Posting). (queue_in now w).postings ++ x) (sym (first_posting d.id w v vs e.1))
           ∙ p.postings;
-      last = omega (arith, last);
+      last = omega (arith, ap (λ (q : Queue). q.last) here);
       below = λ some. absurd (omega (arith, some, none));
-      room = omega (arith, h.room, bytes, p.room);
+      room = omega (arith, ap (λ (q : Queue). q.room) here, room, more, p.room);
     })
     (λ (e : (bytes_eq w v.word ≡ false) × (w ≢ v.word)).
-    let here : (queue_in new w).postings ≡ (queue_in now w).postings
-    = h.postings ∙ ap (λ (b : Bool). cond b (postings_behind through (queue_in now w).postings ++ shown ∷ []) (queue_in now w).postings) e.0 in
-    let last : (queue_in new w).last ≡ (queue_in now w).last = h.last ∙ ap (λ (b : Bool). cond b d.id (queue_in now w).last) e.0 in
+    let here : queue_in new w ≡ queue_in now w
+    = h w ∙ ap (λ (b : Bool). cond b (with_posting d.id v.positions (queue_in now v.word)) (queue_in now w)) e.0 in
     let same : bytes_in w (v ∷ vs) ≡ bytes_in w vs = ap (λ (x : List WordPositions). sum_by (λ (y : WordPositions). bytes_for (length y.positions)) x) (found_later w v vs e.0) in
     record {
-      postings = ap (λ (x : List Posting). postings_behind through x ++ postings_from d.id w vs) here
-          ∙ ap (λ (x : List WordPositions). postings_behind through (queue_in now w).postings ++ map (λ (y : WordPositions). let q : Posting = record { id = d.id; positions = y.positions } in q) x) (sym (found_later w v vs e.0))
+      postings = ap (λ (q : Queue). q.postings ++ postings_from d.id w vs) here
+          ∙ ap (λ (x : List WordPositions). (queue_in now w).postings ++ map (λ (y : WordPositions). let q : Posting = record { id = d.id; positions = y.positions } in q) x) (sym (found_later w v vs e.0))
           ∙ p.postings;
-      last = omega (arith, last, p.last);
-      below = λ some. omega (arith, last, p.below (omega (arith, some, same)));
-      room = omega (arith, h.room, bytes, p.room);
+      last = omega (arith, ap (λ (q : Queue). q.last) here, p.last);
+      below = λ some. omega (arith, ap (λ (q : Queue). q.last) here, p.below (omega (arith, some, same)));
+      room = omega (arith, ap (λ (q : Queue). q.room) here, same, p.room);
     })
     (which_word w v.word)
 
 -- what a word needs of its queue
-pub word_room : (through : ℕ) (d : Document) (v : WordPositions) (vs : List WordPositions) (old now : Entries) → bytes_in v.word d.words ≤ (queue_in old v.word).room → IsPartlyAdded through d (v ∷ vs) old now v.word
+pub word_room : (d : Document) (v : WordPositions) (vs : List WordPositions) (old now : Entries) → bytes_in v.word d.words ≤ (queue_in old v.word).room → IsPartlyAdded d (v ∷ vs) old now v.word
     → ((queue_in now v.word).last < d.id) × (bytes_for (length v.positions) ≤ (queue_in now v.word).room)
-word_room through d v vs old now room p =
+word_room d v vs old now room p =
     let bytes : bytes_in v.word (v ∷ vs) ≡ bytes_for (length v.positions) + bytes_in v.word vs
     = first_bytes v.word v vs ∙ ap (λ (b : Bool). cond b (bytes_for (length v.positions)) 0 + bytes_in v.word vs) (is_same v.word) in
     (p.below (omega (arith, bytes)), omega (arith, bytes, p.room, room))
@@ -231,8 +209,9 @@ reserved_one v vs now new want h room w =
     omega (arith, here, more))
     (which_word w v.word)
 
-pub still_stays : (word : List ℕ) (old now new : Entries) (want : Queue) → Changes now word want new → want.postings ≡ (queue_in now word).postings → want.last ≡ (queue_in now word).last → StaysButRoom old now → StaysButRoom old new
-still_stays word old now new want h postings last s = record {
+pub still_stays : (word : List ℕ) (old now new : Entries) (want : Queue) → Changes now word want new → want.postings ≡ (queue_in now word).postings → want.last ≡ (queue_in now word).last → Grows old now → KeepsNumbers now new → Grows old new
+still_stays word old now new want h postings last s keeps = record {
+  numbers = λ w n e. keeps w n (s.numbers w n e);
   postings = λ w. ⊎_elim
       (λ (e : (bytes_eq w word ≡ true) × (w ≡ word)).
       ap (λ (q : Queue). q.postings) (h w ∙ ap (λ (b : Bool). cond b want (queue_in now w)) e.0) ∙ postings ∙ ap (λ (x : List ℕ). (queue_in now x).postings) (sym e.1) ∙ s.postings w)
@@ -245,40 +224,29 @@ still_stays word old now new want h postings last s = record {
       (which_word w word);
 }
 
--- the documents behind two ids are those behind the larger
-pub behind_both : (a b c : ℕ) (ps : List Posting) → c ≡ max a b → postings_behind c ps ≡ postings_behind b (postings_behind a ps)
-behind_both a b c ps e =
-    elim (cases_lt a b) [
-      | inl lt ↦ let same : c ≡ b = omega arith in ap (λ (n : ℕ). postings_behind n ps) same ∙ sym (behind_again b a ps (omega arith))
-      | inr le ↦ let same : c ≡ a = omega arith in ap (λ (n : ℕ). postings_behind n ps) same ∙ sym (behind_lower a b ps le)
-    ]
-
 -- ---- the last word
 
-abbrev pub shown_word : WordPlaces → WordPositions
-shown_word p = record { word = p.word.items; positions = p.positions.items }
-
-pub ends_at : (word : List ℕ) (ps : List WordPlaces) (i : ℕ) (x : WordPlaces) → i + 1 ≡ length ps → x ≡ get_or ps i x → EndsBefore (map shown_word ps) word ↔ IsBefore x.word.items word
+ends_at : (word : List ℕ) (ws : List WordPositions) (i : ℕ) (x : WordPositions) → i + 1 ≡ length ws → slice_get ws i ≡ Some x → EndsBefore ws word ↔ IsBefore x.word word
 ends_at word [] i x e at = absurd (omega (arith, e))
-ends_at word (p ∷ []) zero x e at = (λ h. subst (λ (y : WordPlaces). IsBefore y.word.items word) (sym at) h, λ h. subst (λ (y : WordPlaces). IsBefore y.word.items word) at h)
-ends_at word (p ∷ []) (suc i) x e at = absurd (omega (arith, e))
-ends_at word (p ∷ (q ∷ qs)) zero x e at = absurd (omega (arith, e))
-ends_at word (p ∷ (q ∷ qs)) (suc i) x e at = ends_at word (q ∷ qs) i x (omega (arith, e)) at
+ends_at word (w ∷ []) zero x e at =
+    let same : w ≡ x = ap (λ (o : Option WordPositions). unwrap_or o x) at in
+    (λ h. subst (λ (y : WordPositions). IsBefore y.word word) same h, λ h. subst (λ (y : WordPositions). IsBefore y.word word) (sym same) h)
+ends_at word (w ∷ []) (suc i) x e at = absurd (omega (arith, e))
+ends_at word (w ∷ (v ∷ vs)) zero x e at = absurd (omega (arith, e))
+ends_at word (w ∷ (v ∷ vs)) (suc i) x e at = ends_at word (v ∷ vs) i x (omega (arith, e)) at
 
-pub ends_nowhere : (word : List ℕ) (ps : List WordPlaces) → length ps ≡ 0 → EndsBefore (map shown_word ps) word
+pub ends_nowhere : (word : List ℕ) (ws : List WordPositions) → length ws ≡ 0 → EndsBefore ws word
 ends_nowhere word [] e = tt
-ends_nowhere word (p ∷ ps) e = absurd (omega (arith, e))
+ends_nowhere word (w ∷ ws) e = absurd (omega (arith, e))
 
 below : (o : Ordering) → (is_lt o ≡ true) ↔ (o ≡ Less)
 below Less = (λ e. refl, λ e. refl)
 below Equal = (λ e. absurd cc, λ e. absurd cc)
 below Greater = (λ e. absurd cc, λ e. absurd cc)
 
-pub behind_last : (word : List ℕ) (ps : List WordPlaces) (x : WordPlaces) (o : Ordering) (b : Bool) → Some x ≡ slice_get ps (length ps - 1) → o ≡ slice_cmp nat_cmp x.word.items word → b ≡ is_lt o
-    → IsTrue b ↔ EndsBefore (map shown_word ps) word
-behind_last word ps x o b at order test =
-    let within = slice_get_within ps (length ps - 1) x (sym at) in
-    let same : x ≡ get_or ps (length ps - 1) x = ap (λ (y : Option WordPlaces). unwrap_or y x) at ∙ unwrap_or-slice_get ps (length ps - 1) x in
-    let e = ends_at word ps (length ps - 1) x (omega arith) same in
+pub behind_last : (word : List ℕ) (ws : List WordPositions) (i : ℕ) (x : WordPositions) (o : Ordering) (b : Bool) → i + 1 ≡ length ws → slice_get ws i ≡ Some x → o ≡ slice_cmp nat_cmp x.word word → b ≡ is_lt o
+    → IsTrue b ↔ EndsBefore ws word
+behind_last word ws i x o b e at order test =
+    let h = ends_at word ws i x e at in
     let l = below o in
-    (λ t. e.1 (sym order ∙ l.0 (sym test ∙ t)), λ h. test ∙ l.1 (order ∙ e.0 h))
+    (λ t. h.1 (sym order ∙ l.0 (sym test ∙ t)), λ f. test ∙ l.1 (order ∙ h.0 f))

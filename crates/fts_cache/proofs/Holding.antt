@@ -1,14 +1,16 @@
 -- A cache of documents, as the calls change it.
-use Rattle.std.proofs.Common.{◌≡◌, ℕ, ◌<◌, ◌≤◌, Bool, cond, nat_lt, List, [], ◌∷◌, ◌++◌, map, refl, sym, ap, ◌∙◌, inl, inr}
+use Rattle.std.proofs.Common.{◌≡◌, ℕ, ◌<◌, ◌≤◌, Bool, cond, nat_lt, List, [], ◌∷◌, ◌++◌, map, refl, sym, ap, ◌∙◌, inl, inr, arith}
 use Rattle.std.specs.List.{flat_map}
 use Rattle.std.proofs.lemmas.Bool.{cases_lt, lt-ltb, le-ltb}
 use Rattle.std.proofs.lemmas.List.{append-nil, map-append}
 use Rattle.std.proofs.lemmas.List.Elements.{filter-append}
 use Rattle.std.proofs.lemmas.Grind.{flat_map-append}
+use Rattle.std.proofs.lemmas.List.Sums.{sum_by-cons}
+use Rattle.fts_cache.specs.Words.{Entries}
 use Rattle.fts_ilist.specs.Spelling.{Posting}
 use Rattle.fts_ilist.specs.Queue.{postings_behind}
-use Rattle.fts_cache.specs.Document.{WordPositions, Document, document_postings}
-use Rattle.fts_cache.specs.Cache.{CacheState, CachedDocument, cached, cached_behind, postings_of}
+use Rattle.fts_cache.specs.Document.{WordPositions, Document, document_postings, document_size, bytes_in}
+use Rattle.fts_cache.specs.Cache.{CacheState, CachedDocument, cached, cached_behind, postings_of, HasRoom, AreNumbers}
 use Rattle.fts_cache.specs.Holds.{Holds, documents_behind}
 
 pub holds_more : (c n : CacheState) (d : Document) → n.documents ≡ c.documents ++ cached d ∷ [] → ((w : List ℕ) → postings_of n w ≡ postings_of c w ++ document_postings w d)
@@ -66,4 +68,17 @@ pub holds_less : (c n : CacheState) (doc : ℕ) → n.documents ≡ cached_behin
 holds_less c n doc documents postings ds h = record {
   documents = documents ∙ ap (cached_behind doc) h.documents ∙ documents_left doc ds;
   postings = λ w. postings w ∙ ap (postings_behind doc) (h.postings w) ∙ postings_left doc w ds;
+}
+
+first_numbers : (words : Entries) (d : Document) (ds : List Document) (ps : List (List ℕ)) → AreNumbers words (d ∷ ds) ps → AreNumbers words (d ∷ []) ps
+first_numbers words d ds [] h = h
+first_numbers words d ds (n ∷ ns) h = (h.0, tt)
+
+-- where there is room for some documents, there is room for the first
+pub first_room : (c : CacheState) (d : Document) (ds : List Document) → HasRoom c (d ∷ ds) → HasRoom c (d ∷ [])
+first_room c d ds h = record {
+  room = λ w. omega (arith, h.room w, sum_by-cons (λ (x : Document). bytes_in w x.words) d ds, sum_by-cons (λ (x : Document). bytes_in w x.words) d []);
+  numbers = first_numbers c.words d ds c.promised h.numbers;
+  documents = omega (arith, h.documents);
+  size = omega (arith, h.size, sum_by-cons document_size d ds, sum_by-cons document_size d []);
 }

@@ -1,7 +1,13 @@
 pub mod Queues
+pub mod Table
 pub mod Documents
+pub mod Arena
 pub mod Ids
-pub mod Sweeps
+pub mod Notes
+pub mod Leaving
+pub mod Rooms
+pub mod Promises
 pub mod Shown
+pub mod Numbers
 pub mod Holding
 pub mod Rows

@@ -1,12 +1,12 @@
--- The words that begin so: which they are, and that they ascend once they are sorted.
-use Rattle.std.proofs.Common.{◌≡◌, ◌≢◌, ⊎_elim, ◌↔◌, ℕ, suc, ◌+◌, ◌<◌, ◌≤◌, Bool, true, false, cond, ◌&&◌, ◌||◌, IsTrue, nat_eq, nat_le, nat_lt, List, [], ◌∷◌, ◌++◌, length, map, filter, take, get_or, slice_get, Option, Some, refl, sym, ap, subst, ◌∙◌, arith}
+-- The words that a call gives: which they are, and that they ascend once they are sorted.
+use Rattle.std.proofs.Common.{◌≡◌, ◌≢◌, ◌⊎◌, inl, inr, ⊎_elim, ◌↔◌, ℕ, suc, ◌+◌, ◌<◌, ◌≤◌, Bool, true, false, cond, ◌&&◌, ◌||◌, IsTrue, nat_eq, nat_le, nat_lt, List, [], ◌∷◌, ◌++◌, length, map, filter, take, get_or, slice_get, Option, Some, None, option_map, refl, sym, ap, subst, ◌∙◌, arith}
 use Rattle.std.specs.Borrow.{Bor}
 use Rattle.std.specs.Global.{Vec}
 use Rattle.std.specs.Cmp.Lexicographic.{slice_cmp}
-use Rattle.std.specs.List.{IsDistinct, list_any, starts_with, AllByRecursion}
+use Rattle.std.specs.List.{IsDistinct, cons_option, list_any, starts_with, AllByRecursion}
 use Rattle.std.specs.List.Sorted.{IsSortedBy, IsStrictlySortedBy, IsPermutation}
-use Rattle.std.specs.Map.{keys_of}
-use Rattle.std.specs.Option.{unwrap_or}
+use Rattle.std.specs.Map.{keys_of, lookup}
+use Rattle.std.specs.Option.{unwrap_or, option_to_list}
 use Rattle.std.specs.Ordering.{nat_cmp, is_lt, is_eq, ordering_reverse}
 use Rattle.std.specs.declared.cmp.Ordering.{Ordering}
 use Rattle.std.specs.declared.cmp.Ordering.TheVariants.{Less, Equal, Greater}
@@ -21,62 +21,76 @@ use Rattle.std.proofs.lemmas.Map.Made.{IsDistinct-keys_filter}
 use Rattle.std.proofs.lemmas.Map.Text.{is_eq-slice_cmp}
 use Rattle.std.proofs.lemmas.Option.{slice_get_within, unwrap_or-slice_get}
 use Rattle.fts_ilist.specs.Spelling.{Posting, PostingsAfter, HasFirstId}
-use Rattle.fts_ilist.specs.Queue.{Queue, postings_behind}
-use Rattle.fts_cache.specs.Words.{Entries, queue_in, no_queue, postings_until, words_by, shows, leaves}
+use Rattle.fts_ilist.specs.Queue.{Queue}
+use Rattle.fts_cache.specs.declared.words.CachedWord.{CachedWord}
+use Rattle.fts_cache.specs.Words.{Entries, Slots, slot_in, number_in, queue_at, queue_in, no_queue, IsTable, has_number, postings_until, words_by, shows, leaves, leaving_word, leaving_words}
 use Rattle.fts_cache.specs.Sorted.{IsAmong, AscendByBytes}
-use Rattle.fts_cache.proofs.Queues.{which_word, is_same, first_queue}
-use Rattle.fts_cache.proofs.Sweeps.{key_absent, distinct_rest}
+use Rattle.fts_cache.proofs.Queues.{which_word, is_same}
+use Rattle.fts_cache.proofs.Table.{which_number, some_is, none_is_not, queue_of_number, queue_of_none}
+
+abbrev Numbers : Type 0
+Numbers = List (Vec ℕ × ℕ)
 
 -- ---- one entry after another
 
-pub shown_more : (test : List ℕ → Queue → Bool) (es : Entries) (i : ℕ) (e : Vec ℕ × Queue) → slice_get es i ≡ Some e
+pub shown_more : (test : List ℕ → ℕ → Bool) (es : Numbers) (i : ℕ) (e : Vec ℕ × ℕ) → slice_get es i ≡ Some e
     → words_by test (take (i + 1) es) ≡ words_by test (take i es) ++ (cond (test e.0.items e.1) (e.0.items ∷ []) [])
 shown_more test es i e at =
-    let tests : Vec ℕ × Queue → Bool = λ x. test x.0.items x.1 in
-    let word : Vec ℕ × Queue → List ℕ = λ x. x.0.items in
-    let same : get_or es i e ≡ e = sym (unwrap_or-slice_get es i e) ∙ ap (λ (o : Option (Vec ℕ × Queue)). unwrap_or o e) at in
+    let tests : Vec ℕ × ℕ → Bool = λ x. test x.0.items x.1 in
+    let word : Vec ℕ × ℕ → List ℕ = λ x. x.0.items in
+    let same : get_or es i e ≡ e = sym (unwrap_or-slice_get es i e) ∙ ap (λ (o : Option (Vec ℕ × ℕ)). unwrap_or o e) at in
     ap (map word) (filter_more tests es i e (slice_get_within es i e at))
-    ∙ ap (λ (x : Vec ℕ × Queue). map word (filter tests (take i es) ++ cond (tests x) (x ∷ []) [])) same
+    ∙ ap (λ (x : Vec ℕ × ℕ). map word (filter tests (take i es) ++ cond (tests x) (x ∷ []) [])) same
     ∙ map-append word (filter tests (take i es)) (cond (tests e) (e ∷ []) [])
     ∙ ap (λ (ws : List (List ℕ)). words_by test (take i es) ++ ws) (by (tests e))
   where
-    by : (b : Bool) → map (λ (x : Vec ℕ × Queue). x.0.items) (cond b (e ∷ []) []) ≡ cond b (e.0.items ∷ []) []
+    by : (b : Bool) → map (λ (x : Vec ℕ × ℕ). x.0.items) (cond b (e ∷ []) []) ≡ cond b (e.0.items ∷ []) []
     by true = refl
     by false = refl
 
 -- ---- which words show
 
-never_and : (b : Bool) → (b && false) ≡ false
-never_and true = refl
-never_and false = refl
+-- no later entry has the key of the first
+key_absent : (k : Vec ℕ) (es : Numbers) (w : List ℕ) → IsDistinct (λ (x y : Vec ℕ). bytes_eq x.items y.items) (k ∷ keys_of es) → w ≡ k.items → lookup (λ x. bytes_eq w x.items) es ≡ None
+unfolding IsDistinct
+key_absent k [] w u e = refl
+key_absent k (f ∷ fs) w u e =
+    ap (λ (b : Bool). cond b (Some f.1) (lookup (λ x. bytes_eq w x.items) fs)) (ap (λ (x : List ℕ). bytes_eq x f.0.items) e ∙ u.0.0)
+    ∙ key_absent k fs w (u.0.1, u.1.1) e
 
-pub among_shown : (test : List ℕ → Queue → Bool) (es : Entries) → ((w : List ℕ) → test w no_queue ≡ false) → IsDistinct (λ (x y : Vec ℕ). bytes_eq x.items y.items) (keys_of es)
-    → (w : List ℕ) → list_any (bytes_eq w) (words_by test es) ≡ test w (queue_in es w)
-among_shown test [] never u w = sym (never w)
-among_shown test (e ∷ es) never u w =
-    let rest = among_shown test es never (distinct_rest e.0 es u) w in
-    let queue = first_queue e es w in
+distinct_rest : (k : Vec ℕ) (es : Numbers) → IsDistinct (λ (x y : Vec ℕ). bytes_eq x.items y.items) (k ∷ keys_of es) → IsDistinct (λ (x y : Vec ℕ). bytes_eq x.items y.items) (keys_of es)
+unfolding IsDistinct
+distinct_rest k es u = u.1
+
+-- whether a word with this number passes
+abbrev pub passes : (List ℕ → ℕ → Bool) → List ℕ → Option ℕ → Bool
+passes test w None = false
+passes test w (Some n) = test w n
+
+among_shown : (test : List ℕ → ℕ → Bool) (es : Numbers) → IsDistinct (λ (x y : Vec ℕ). bytes_eq x.items y.items) (keys_of es)
+    → (w : List ℕ) → list_any (bytes_eq w) (words_by test es) ≡ passes test w (lookup (λ k. bytes_eq w k.items) es)
+among_shown test [] u w = refl
+among_shown test (e ∷ es) u w =
+    let rest = among_shown test es (distinct_rest e.0 es u) w in
     ⊎_elim
     (λ (m : (bytes_eq w e.0.items ≡ true) × (w ≡ e.0.items)).
-    let here : queue_in (e ∷ es) w ≡ e.1 = queue ∙ ap (λ (b : Bool). cond b e.1 (queue_in es w)) m.0 in
-    let none : list_any (bytes_eq w) (words_by test es) ≡ false
-    = rest ∙ ap (test w) (key_absent e.0 es w u m.1) ∙ never w in
+    let none : list_any (bytes_eq w) (words_by test es) ≡ false = rest ∙ ap (passes test w) (key_absent e.0 es w u m.1) in
     first (test e.0.items e.1) m.0 none
     ∙ ap (λ (x : List ℕ). test x e.1) (sym m.1)
-    ∙ ap (test w) (sym here))
+    ∙ ap (λ (b : Bool). passes test w (cond b (Some e.1) (lookup (λ k. bytes_eq w k.items) es))) (sym m.0))
     (λ (m : (bytes_eq w e.0.items ≡ false) × (w ≢ e.0.items)).
     later (test e.0.items e.1) m.0
     ∙ rest
-    ∙ ap (test w) (sym (queue ∙ ap (λ (b : Bool). cond b e.1 (queue_in es w)) m.0)))
+    ∙ ap (λ (b : Bool). passes test w (cond b (Some e.1) (lookup (λ k. bytes_eq w k.items) es))) (sym m.0))
     (which_word w e.0.items)
   where
     first : (b : Bool) → bytes_eq w e.0.items ≡ true → list_any (bytes_eq w) (words_by test es) ≡ false
-        → list_any (bytes_eq w) (map (λ (x : Vec ℕ × Queue). x.0.items) (cond b (e ∷ filter (λ (x : Vec ℕ × Queue). test x.0.items x.1) es) (filter (λ (x : Vec ℕ × Queue). test x.0.items x.1) es))) ≡ b
+        → list_any (bytes_eq w) (map (λ (x : Vec ℕ × ℕ). x.0.items) (cond b (e ∷ filter (λ (x : Vec ℕ × ℕ). test x.0.items x.1) es) (filter (λ (x : Vec ℕ × ℕ). test x.0.items x.1) es))) ≡ b
     first true same none = ap (λ (b : Bool). b || list_any (bytes_eq w) (words_by test es)) same
     first false same none = none
 
     later : (b : Bool) → bytes_eq w e.0.items ≡ false
-        → list_any (bytes_eq w) (map (λ (x : Vec ℕ × Queue). x.0.items) (cond b (e ∷ filter (λ (x : Vec ℕ × Queue). test x.0.items x.1) es) (filter (λ (x : Vec ℕ × Queue). test x.0.items x.1) es)))
+        → list_any (bytes_eq w) (map (λ (x : Vec ℕ × ℕ). x.0.items) (cond b (e ∷ filter (λ (x : Vec ℕ × ℕ). test x.0.items x.1) es) (filter (λ (x : Vec ℕ × ℕ). test x.0.items x.1) es)))
         ≡ list_any (bytes_eq w) (words_by test es)
     later true other = ap (λ (b : Bool). b || list_any (bytes_eq w) (words_by test es)) other
     later false other = refl
@@ -97,38 +111,43 @@ some_posting : (ps : List Posting) → ps ≢ [] → nat_lt 0 (length ps) ≡ tr
 some_posting [] h = absurd (h refl)
 some_posting (p ∷ ps) h = lt-ltb 0 (length (p ∷ ps)) (omega arith)
 
+some_from : (ps : List Posting) → nat_lt 0 (length ps) ≡ true → ps ≢ []
+some_from ps e none = absurd (omega (arith, ap length none, ltb-true 0 (length ps) e))
+
 both : (a b : Bool) → (a && b) ≡ true → (a ≡ true) × (b ≡ true)
 both true true e = (refl, refl)
 both true false e = (refl, e)
 both false b e = (e, absurd cc)
 
-pub shows_word : (through : ℕ) (prefix w : List ℕ) (q : Queue) → (shows through prefix w q ≡ true) ↔ (IsTrue (starts_with nat_eq w prefix) × (postings_behind through q.postings ≢ []))
-shows_word through prefix w q = (
-  λ e. let h = both (starts_with nat_eq w prefix) (nat_lt 0 (length (postings_behind through q.postings))) e in
-      (h.0, λ (none : postings_behind through q.postings ≡ []). absurd (omega (arith, ap length none, ltb-true 0 (length (postings_behind through q.postings)) h.1))),
-  λ h. ap (λ (b : Bool). b && nat_lt 0 (length (postings_behind through q.postings))) h.0 ∙ some_posting (postings_behind through q.postings) h.1,
-)
-
-pub never_shows : (through : ℕ) (prefix w : List ℕ) → shows through prefix w no_queue ≡ false
-never_shows through prefix w = never_and (starts_with nat_eq w prefix)
-
-pub leaves_word : (through doc : ℕ) (w : List ℕ) (q : Queue) → (leaves through doc w q ≡ true) ↔ (postings_until doc (postings_behind through q.postings) ≢ [])
-leaves_word through doc w q = (
-  λ e none. absurd (omega (arith, ap length none, ltb-true 0 (length (postings_until doc (postings_behind through q.postings))) e)),
-  λ h. some_posting (postings_until doc (postings_behind through q.postings)) h,
-)
-
-pub never_leaves : (through doc : ℕ) (w : List ℕ) → leaves through doc w no_queue ≡ false
-never_leaves through doc w = refl
+number_shows : (es : Entries) (prefix w : List ℕ) → passes (shows es.slots prefix) w (number_in es w) ≡ true ↔ (IsTrue (starts_with nat_eq w prefix) × ((queue_in es w).postings ≢ []))
+number_shows es prefix w = by (number_in es w) refl
+  where
+    by : (o : Option ℕ) → number_in es w ≡ o → passes (shows es.slots prefix) w o ≡ true ↔ (IsTrue (starts_with nat_eq w prefix) × ((queue_in es w).postings ≢ []))
+    by None e = (
+      λ t. absurd cc,
+      λ h. absurd (h.1 (ap (λ (q : Queue). q.postings) (queue_of_none es w e))),
+    )
+    by (Some n) e =
+        let queue : queue_in es w ≡ queue_at es.slots n = ap (λ (o : Option ℕ). queue_by o) e in (
+          λ t. let h = both (starts_with nat_eq w prefix) (nat_lt 0 (length (queue_at es.slots n).postings)) t in
+              (h.0, λ none. some_from (queue_at es.slots n).postings h.1 (sym (ap (λ (q : Queue). q.postings) queue) ∙ none)),
+          λ h. ap (λ (b : Bool). b && nat_lt 0 (length (queue_at es.slots n).postings)) h.0 ∙ some_posting (queue_at es.slots n).postings (λ none. h.1 (ap (λ (q : Queue). q.postings) queue ∙ none)),
+        )
+      where
+        queue_by : Option ℕ → Queue
+        queue_by o = unwrap_or (option_map (queue_at es.slots) o) no_queue
 
 -- whether documents that begin with this id have one up to doc
-pub leaves_by_first : (doc id : ℕ) (ps : List Posting) → PostingsAfter 0 ps → HasFirstId ps id → nat_le id doc ≡ nat_lt 0 (length (postings_until doc ps))
-leaves_by_first doc id [] after has = absurd has
-leaves_by_first doc id (p ∷ ps) after has = ap (λ (i : ℕ). nat_le i doc) (sym has) ∙ by (nat_le p.id doc) refl
+pub leaves_by_first : (doc id : ℕ) (q : Queue) → PostingsAfter 0 q.postings → HasFirstId q.postings id → nat_le id doc ≡ leaves doc q
+leaves_by_first doc id q after has = by q.postings after has
   where
-    by : (b : Bool) → nat_le p.id doc ≡ b → b ≡ nat_lt 0 (length (cond b (p ∷ postings_until doc ps) (postings_until doc ps)))
-    by true e = sym (lt-ltb 0 (length (p ∷ postings_until doc ps)) (omega arith))
-    by false e = sym (ap (λ (w : List Posting). nat_lt 0 (length w)) (none_until doc p.id ps after.3 (omega (arith, above p.id doc e))))
+    step : (p : Posting) (ps : List Posting) → PostingsAfter p.id ps → (b : Bool) → nat_le p.id doc ≡ b → b ≡ nat_lt 0 (length (cond b (p ∷ postings_until doc ps) (postings_until doc ps)))
+    step p ps rest true e = sym (lt-ltb 0 (length (p ∷ postings_until doc ps)) (omega arith))
+    step p ps rest false e = sym (ap (λ (w : List Posting). nat_lt 0 (length w)) (none_until doc p.id ps rest (omega (arith, above p.id doc e))))
+
+    by : (ps : List Posting) → PostingsAfter 0 ps → HasFirstId ps id → nat_le id doc ≡ nat_lt 0 (length (postings_until doc ps))
+    by [] a h = absurd h
+    by (p ∷ ps) a h = ap (λ (i : ℕ). nat_le i doc) (sym h) ∙ step p ps a.3 (nat_le p.id doc) refl
 
 -- ---- in their order
 
@@ -157,12 +176,12 @@ all_strict (w ∷ ws) far u =
     (head_strict w.now ws (λ j d lt. far 0 (suc j) d (omega arith) (omega (arith, lt))) u.0, all_strict ws (λ i j d le lt. far (suc i) (suc j) d (omega (arith, le)) (omega (arith, lt))) u.1)
 
 -- the words differ, as the keys do
-keys_differ : (es : Entries) → IsDistinct (λ (x y : Vec ℕ). bytes_eq x.items y.items) (keys_of es) → IsDistinct bytes_eq (map (λ (e : Vec ℕ × Queue). e.0.items) es)
+keys_differ : (es : Numbers) → IsDistinct (λ (x y : Vec ℕ). bytes_eq x.items y.items) (keys_of es) → IsDistinct bytes_eq (map (λ (e : Vec ℕ × ℕ). e.0.items) es)
 unfolding IsDistinct
 keys_differ [] u = tt
 keys_differ (e ∷ es) u = (others es u.0, keys_differ es u.1)
   where
-    others : (fs : Entries) → AllByRecursion (λ (y : Vec ℕ). bytes_eq e.0.items y.items ≡ false) (keys_of fs) → AllByRecursion (λ (y : List ℕ). bytes_eq e.0.items y ≡ false) (map (λ (f : Vec ℕ × Queue). f.0.items) fs)
+    others : (fs : Numbers) → AllByRecursion (λ (y : Vec ℕ). bytes_eq e.0.items y.items ≡ false) (keys_of fs) → AllByRecursion (λ (y : List ℕ). bytes_eq e.0.items y ≡ false) (map (λ (f : Vec ℕ × ℕ). f.0.items) fs)
     others [] h = tt
     others (f ∷ fs) h = (h.0, others fs h.1)
 
@@ -177,21 +196,168 @@ flips x y =
     (which_word y x))
     (which_word x y)
 
-pub sorted_words : (test : List ℕ → Queue → Bool) (es : Entries) (found sorted : List (Bor (List ℕ))) → IsDistinct (λ (x y : Vec ℕ). bytes_eq x.items y.items) (keys_of es)
-    → map (λ (w : Bor (List ℕ)). w.now) found ≡ words_by test es → IsPermutation found sorted → IsSortedBy (λ (x y : Bor (List ℕ)). is_lt (slice_cmp nat_cmp x.now y.now)) sorted → AscendByBytes sorted
-sorted_words test es found sorted u is moved up =
+pub sorted_words : (found sorted : List (Bor (List ℕ))) → IsDistinct bytes_eq (map (λ (w : Bor (List ℕ)). w.now) found)
+    → IsPermutation found sorted → IsSortedBy (λ (x y : Bor (List ℕ)). is_lt (slice_cmp nat_cmp x.now y.now)) sorted → AscendByBytes sorted
+sorted_words found sorted differ moved up =
     let word : Bor (List ℕ) → List ℕ = λ w. w.now in
-    let differ : IsDistinct bytes_eq (words_by test es)
-    = keys_differ (filter (λ e. test e.0.items e.1) es) (IsDistinct-keys_filter (λ (x y : Vec ℕ). bytes_eq x.items y.items) (λ e. test e.0.items e.1) es u) in
     all_strict sorted
     (λ i j d le lt. sorted_far (λ (x y : Bor (List ℕ)). is_lt (slice_cmp nat_cmp x.now y.now)) (ranks_by nat_list_cmp_total word) sorted up i j d le lt)
-    (IsDistinct-IsPermutation bytes_eq flips (map word found) (map word sorted) (IsPermutation-map word found sorted moved) (subst (IsDistinct bytes_eq) (sym is) differ))
+    (IsDistinct-IsPermutation bytes_eq flips (map word found) (map word sorted) (IsPermutation-map word found sorted moved) differ)
 
-pub among_sorted : (test : List ℕ → Queue → Bool) (es : Entries) (found sorted : List (Bor (List ℕ))) → ((w : List ℕ) → test w no_queue ≡ false) → IsDistinct (λ (x y : Vec ℕ). bytes_eq x.items y.items) (keys_of es)
-    → map (λ (w : Bor (List ℕ)). w.now) found ≡ words_by test es → IsPermutation found sorted
-    → (w : List ℕ) → IsAmong w sorted ↔ (test w (queue_in es w) ≡ true)
-among_sorted test es found sorted never u is moved w =
+among_sorted : (found sorted : List (Bor (List ℕ))) → IsPermutation found sorted → (w : List ℕ) → list_any (bytes_eq w) (map (λ (x : Bor (List ℕ)). x.now) sorted) ≡ list_any (bytes_eq w) (map (λ (x : Bor (List ℕ)). x.now) found)
+among_sorted found sorted moved w =
     let word : Bor (List ℕ) → List ℕ = λ x. x.now in
-    let same : list_any (bytes_eq w) (map word sorted) ≡ test w (queue_in es w)
-    = sym (list_any-IsPermutation (bytes_eq w) (map word found) (map word sorted) (IsPermutation-map word found sorted moved)) ∙ ap (list_any (bytes_eq w)) is ∙ among_shown test es never u w in
-    (λ e. sym same ∙ e, λ h. same ∙ h)
+    sym (list_any-IsPermutation (bytes_eq w) (map word found) (map word sorted) (IsPermutation-map word found sorted moved))
+
+-- ---- the words that begin so
+
+pub shown_differ : (test : List ℕ → ℕ → Bool) (es : Numbers) (found : List (Bor (List ℕ))) → IsDistinct (λ (x y : Vec ℕ). bytes_eq x.items y.items) (keys_of es)
+    → map (λ (w : Bor (List ℕ)). w.now) found ≡ words_by test es → IsDistinct bytes_eq (map (λ (w : Bor (List ℕ)). w.now) found)
+shown_differ test es found u is =
+    subst (IsDistinct bytes_eq) (sym is) (keys_differ (filter (λ e. test e.0.items e.1) es) (IsDistinct-keys_filter (λ (x y : Vec ℕ). bytes_eq x.items y.items) (λ e. test e.0.items e.1) es u))
+
+pub shown_are : (es : Entries) (prefix : List ℕ) (found sorted : List (Bor (List ℕ))) → IsDistinct (λ (x y : Vec ℕ). bytes_eq x.items y.items) (keys_of es.numbers)
+    → map (λ (w : Bor (List ℕ)). w.now) found ≡ words_by (shows es.slots prefix) es.numbers → IsPermutation found sorted
+    → (w : List ℕ) → IsAmong w sorted ↔ (IsTrue (starts_with nat_eq w prefix) × ((queue_in es w).postings ≢ []))
+shown_are es prefix found sorted u is moved w =
+    let same : list_any (bytes_eq w) (map (λ (x : Bor (List ℕ)). x.now) sorted) ≡ passes (shows es.slots prefix) w (number_in es w)
+    = among_sorted found sorted moved w ∙ ap (list_any (bytes_eq w)) is ∙ among_shown (shows es.slots prefix) es.numbers u w in
+    let h = number_shows es prefix w in
+    (λ e. h.0 (sym same ∙ e), λ e. same ∙ h.1 e)
+
+-- ---- the words of the documents that leave
+
+or_left : (a b : Bool) → a ≡ true → (a || b) ≡ true
+or_left true b e = refl
+or_left false b e = absurd cc
+
+or_right : (a b : Bool) → b ≡ true → (a || b) ≡ true
+or_right true b e = refl
+or_right false b e = e
+
+or_rest : (a b : Bool) → (a || b) ≡ true → a ≡ false → b ≡ true
+or_rest true b e f = absurd cc
+or_rest false b e f = e
+
+in_rest : (w : List ℕ) (o : Option (List ℕ)) (rest : List (List ℕ)) → list_any (bytes_eq w) (cons_option o rest) ≡ true → (o ≡ Some w) ⊎ (list_any (bytes_eq w) rest ≡ true)
+in_rest w None rest e = inr e
+in_rest w (Some v) rest e =
+    ⊎_elim
+    (λ (m : (bytes_eq w v ≡ true) × (w ≡ v)). inl (ap Some (sym m.1)))
+    (λ (m : (bytes_eq w v ≡ false) × (w ≢ v)). inr (or_rest (bytes_eq w v) (list_any (bytes_eq w) rest) e m.0))
+    (which_word w v)
+
+still_in : (w : List ℕ) (o : Option (List ℕ)) (rest : List (List ℕ)) → list_any (bytes_eq w) rest ≡ true → list_any (bytes_eq w) (cons_option o rest) ≡ true
+still_in w None rest e = e
+still_in w (Some v) rest e = or_right (bytes_eq w v) (list_any (bytes_eq w) rest) e
+
+pub record IsLeaving (doc : ℕ) (o : Option CachedWord) (w : List ℕ) : Type 0 where
+  pub s : CachedWord
+  pub at : o ≡ Some s
+  pub word : s.word.items ≡ w
+  pub leaves : leaves doc s.queue ≡ true
+
+leaving_some : (doc : ℕ) (o : Option CachedWord) (w : List ℕ) → leaving_word doc o ≡ Some w → IsLeaving doc o w
+leaving_some doc None w e = none_is_not w _ e
+leaving_some doc (Some s) w e = by (leaves doc s.queue) refl e
+  where
+    by : (b : Bool) → leaves doc s.queue ≡ b → cond b (Some s.word.items) None ≡ Some w → IsLeaving doc (Some s) w
+    by true l f = record { s = s; at = refl; word = some_is s.word.items w f; leaves = l }
+    by false l f = none_is_not w _ f
+
+-- a word that leaves has its number among these
+left_from : (es : Entries) (doc : ℕ) (ns : List ℕ) (w : List ℕ) → IsTable es → list_any (bytes_eq w) (leaving_words es.slots doc ns) ≡ true
+    → (n : ℕ) × (number_in es w ≡ Some n) × (has_number n ns ≡ true) × (postings_until doc (queue_in es w).postings ≢ [])
+left_from es doc [] w t e = absurd cc
+left_from es doc (n ∷ ns) w t e =
+    ⊎_elim
+    (λ (f : leaving_word doc (slot_in es.slots n) ≡ Some w).
+    let l = leaving_some doc (slot_in es.slots n) w f in
+    let number : number_in es w ≡ Some n = ap (number_in es) (sym l.word) ∙ t.known n l.s l.at in
+    let queue : queue_in es w ≡ l.s.queue = queue_of_number es w n l.s number l.at in
+    let r : (m : ℕ) × (number_in es w ≡ Some m) × (has_number m (n ∷ ns) ≡ true) × (postings_until doc (queue_in es w).postings ≢ [])
+    = (n, number, or_left (nat_eq n n) (has_number n ns) (same n), λ none. some_from (postings_until doc l.s.queue.postings) l.leaves (ap (λ (q : Queue). postings_until doc q.postings) (sym queue) ∙ none)) in r)
+    (λ (f : list_any (bytes_eq w) (leaving_words es.slots doc ns) ≡ true).
+    let r = left_from es doc ns w t f in
+    let more : (m : ℕ) × (number_in es w ≡ Some m) × (has_number m (n ∷ ns) ≡ true) × (postings_until doc (queue_in es w).postings ≢ [])
+    = (r.0, r.1, or_right (nat_eq r.0 n) (has_number r.0 ns) r.2, r.3) in more)
+    (in_rest w (leaving_word doc (slot_in es.slots n)) (leaving_words es.slots doc ns) e)
+  where
+    same : (m : ℕ) → nat_eq m m ≡ true
+    same m = grind arith
+
+left_to : (es : Entries) (doc : ℕ) (ns : List ℕ) (w : List ℕ) (n : ℕ) → IsTable es → number_in es w ≡ Some n → has_number n ns ≡ true → postings_until doc (queue_in es w).postings ≢ []
+    → list_any (bytes_eq w) (leaving_words es.slots doc ns) ≡ true
+left_to es doc [] w n t e h some = absurd cc
+left_to es doc (m ∷ ms) w n t e h some =
+    ⊎_elim
+    (λ (x : (nat_eq n m ≡ true) × (n ≡ m)).
+    let f = t.found w n e in
+    let at : slot_in es.slots m ≡ Some f.0 = ap (slot_in es.slots) (sym x.1) ∙ f.1 in
+    let some_left : leaves doc f.0.queue ≡ true
+    = some_posting (postings_until doc f.0.queue.postings) (λ none. some (ap (λ (q : Queue). postings_until doc q.postings) (queue_of_number es w n f.0 e f.1) ∙ none)) in
+    let word : leaving_word doc (slot_in es.slots m) ≡ Some w
+    = ap (leaving_word doc) at ∙ ap (λ (b : Bool). cond b (Some f.0.word.items) None) some_left ∙ ap Some f.2 in
+    ap (λ (o : Option (List ℕ)). list_any (bytes_eq w) (cons_option o (leaving_words es.slots doc ms))) word
+    ∙ or_left (bytes_eq w w) (list_any (bytes_eq w) (leaving_words es.slots doc ms)) (is_same w))
+    (λ (x : (nat_eq n m ≡ false) × (n ≢ m)).
+    still_in w (leaving_word doc (slot_in es.slots m)) (leaving_words es.slots doc ms) (left_to es doc ms w n t e (or_rest (nat_eq n m) (has_number n ms) h x.0) some))
+    (which_number n m)
+
+-- a word with another number than these is none of them
+apart : (es : Entries) (doc : ℕ) (ns : List ℕ) (v : List ℕ) (n : ℕ) → IsTable es → number_in es v ≡ Some n → AllByRecursion (λ (y : ℕ). nat_eq n y ≡ false) ns → AllByRecursion (λ (y : List ℕ). bytes_eq v y ≡ false) (leaving_words es.slots doc ns)
+apart es doc [] v n t e h = tt
+apart es doc (m ∷ ms) v n t e h = by (leaving_word doc (slot_in es.slots m)) refl (apart es doc ms v n t e h.1)
+  where
+    reflexive : (k : ℕ) → nat_eq k k ≡ true
+    reflexive k = grind arith
+
+    differs : n ≢ m
+    differs same = absurd (
+        let never : true ≡ false = sym (reflexive n) ∙ ap (nat_eq n) same ∙ h.0 in
+        cc)
+
+    by : (o : Option (List ℕ)) → leaving_word doc (slot_in es.slots m) ≡ o → AllByRecursion (λ (y : List ℕ). bytes_eq v y ≡ false) (leaving_words es.slots doc ms) → AllByRecursion (λ (y : List ℕ). bytes_eq v y ≡ false) (cons_option (leaving_word doc (slot_in es.slots m)) (leaving_words es.slots doc ms))
+    by None f rest = subst (λ (o : Option (List ℕ)). AllByRecursion (λ (y : List ℕ). bytes_eq v y ≡ false) (cons_option o (leaving_words es.slots doc ms))) (sym f) rest
+    by (Some u) f rest =
+        let l = leaving_some doc (slot_in es.slots m) u f in
+        let number : number_in es u ≡ Some m = ap (number_in es) (sym l.word) ∙ t.known m l.s l.at in
+        subst (λ (o : Option (List ℕ)). AllByRecursion (λ (y : List ℕ). bytes_eq v y ≡ false) (cons_option o (leaving_words es.slots doc ms))) (sym f) (
+          ⊎_elim
+              (λ (x : (bytes_eq v u ≡ true) × (v ≡ u)). absurd (differs (some_is n m (sym e ∙ ap (number_in es) x.1 ∙ number))))
+              (λ (x : (bytes_eq v u ≡ false) × (v ≢ u)). x.0)
+              (which_word v u),
+          rest,
+        )
+
+pub left_differ : (es : Entries) (doc : ℕ) (ns : List ℕ) → IsTable es → IsDistinct nat_eq ns → IsDistinct bytes_eq (leaving_words es.slots doc ns)
+unfolding IsDistinct
+left_differ es doc [] t u = tt
+left_differ es doc (n ∷ ns) t u = by (leaving_word doc (slot_in es.slots n)) refl (left_differ es doc ns t u.1)
+  where
+    by : (o : Option (List ℕ)) → leaving_word doc (slot_in es.slots n) ≡ o → IsDistinct bytes_eq (leaving_words es.slots doc ns) → IsDistinct bytes_eq (cons_option (leaving_word doc (slot_in es.slots n)) (leaving_words es.slots doc ns))
+    by None f rest = subst (λ (o : Option (List ℕ)). IsDistinct bytes_eq (cons_option o (leaving_words es.slots doc ns))) (sym f) rest
+    by (Some v) f rest =
+        let l = leaving_some doc (slot_in es.slots n) v f in
+        let number : number_in es v ≡ Some n = ap (number_in es) (sym l.word) ∙ t.known n l.s l.at in
+        subst (λ (o : Option (List ℕ)). IsDistinct bytes_eq (cons_option o (leaving_words es.slots doc ns))) (sym f) (apart es doc ns v n t number u.0, rest)
+
+pub left_are : (es : Entries) (doc : ℕ) (ns : List ℕ) (found sorted : List (Bor (List ℕ))) → IsTable es → map (λ (w : Bor (List ℕ)). w.now) found ≡ leaving_words es.slots doc ns → IsPermutation found sorted
+    → (w : List ℕ) → IsAmong w sorted ↔ ((n : ℕ) × (number_in es w ≡ Some n) × (has_number n ns ≡ true) × (postings_until doc (queue_in es w).postings ≢ []))
+left_are es doc ns found sorted t is moved w =
+    let same : list_any (bytes_eq w) (map (λ (x : Bor (List ℕ)). x.now) sorted) ≡ list_any (bytes_eq w) (leaving_words es.slots doc ns)
+    = among_sorted found sorted moved w ∙ ap (list_any (bytes_eq w)) is in
+    (λ e. left_from es doc ns w t (sym same ∙ e), λ h. same ∙ left_to es doc ns w h.0 t h.1 h.2 h.3)
+
+pub left_more : (slots : Slots) (doc : ℕ) (ns : List ℕ) (n : ℕ) → leaving_words slots doc (ns ++ n ∷ []) ≡ leaving_words slots doc ns ++ option_to_list (leaving_word doc (slot_in slots n))
+left_more slots doc [] n = by (leaving_word doc (slot_in slots n))
+  where
+    by : (o : Option (List ℕ)) → cons_option o [] ≡ option_to_list o
+    by None = refl
+    by (Some v) = refl
+left_more slots doc (m ∷ ms) n = by (leaving_word doc (slot_in slots m)) (left_more slots doc ms n)
+  where
+    by : (o : Option (List ℕ)) → leaving_words slots doc (ms ++ n ∷ []) ≡ leaving_words slots doc ms ++ option_to_list (leaving_word doc (slot_in slots n))
+        → cons_option o (leaving_words slots doc (ms ++ n ∷ [])) ≡ cons_option o (leaving_words slots doc ms) ++ option_to_list (leaving_word doc (slot_in slots n))
+    by None e = e
+    by (Some v) e = ap (λ (ws : List (List ℕ)). v ∷ ws) e

@@ -1,9 +1,11 @@
 -- What contracts see of a cache.
 use Rattle.std.specs.Prelude.{◌≡◌, ℕ, ◌+◌, ◌^◌, ◌<◌, ◌≤◌, List, [], ◌∷◌, length, filter, sum_by, nat_lt}
+use Rattle.std.specs.Prelude.{Bool, false, if◌then◌else◌}
+use Rattle.std.specs.List.{concat}
+use Rattle.std.specs.Option.{option_map_or}
 use Rattle.fts_ilist.specs.Spelling.{Posting}
-use Rattle.fts_ilist.specs.Queue.{postings_behind}
 use Rattle.fts_cache.specs.Document.{Document, document_size, bytes_of}
-use Rattle.fts_cache.specs.Words.{Entries, queue_in, EndBy}
+use Rattle.fts_cache.specs.Words.{Entries, queue_in, number_in, has_number, AreNumbersOf}
 
 -- a document in the cache
 pub record CachedDocument : Type 0 where
@@ -18,17 +20,18 @@ pub record CacheState : Type 0 where
   pub last : ℕ
   -- for how many more documents there is room
   pub spare : ℕ
-  -- the queues of the words that were entered, and the id of the last document that left
-  pub queues : Entries
-  pub through : ℕ
+  -- the words, each by its number, with their queues
+  pub words : Entries
+  -- the numbers of the words of documents for which there is room
+  pub promised : List (List ℕ)
 
 -- the documents that have the word, by ascending ids, with their positions
 abbrev pub postings_of : CacheState → List ℕ → List Posting
-postings_of c word = postings_behind c.through (queue_in c.queues word).postings
+postings_of c word = (queue_in c.words word).postings
 
 -- for how many bytes of documents there is room in the list of a word
 abbrev pub room_of : CacheState → List ℕ → ℕ
-room_of c word = (queue_in c.queues word).room
+room_of c word = (queue_in c.words word).room
 
 -- the size of the cache: the sum of its documents' sizes
 abbrev pub cache_size : CacheState → ℕ
@@ -48,9 +51,24 @@ pub record SameContents (old new : CacheState) : Type 0 where
   pub postings : (w : List ℕ) → postings_of new w ≡ postings_of old w
   pub last : new.last ≡ old.last
 
+-- whether room was promised for the word and not used
+abbrev pub is_promised : CacheState → List ℕ → Bool
+is_promised c word = option_map_or (λ n. has_number n (concat c.promised)) (number_in c.words word) false
+
+-- the room of the word without what was promised and not used
+abbrev pub room_left : CacheState → List ℕ → ℕ
+room_left c word = if is_promised c word then 0 else room_of c word
+
+-- the numbers that were promised begin with those of the words of these documents
+abbrev pub AreNumbers : Entries → List Document → List (List ℕ) → Type 0
+AreNumbers words [] numbers = Unit {0}
+AreNumbers words (d ∷ ds) [] = ⊥
+AreNumbers words (d ∷ ds) (n ∷ ns) = AreNumbersOf words d.words n × AreNumbers words ds ns
+
 -- these documents can be added, one after another, without memory
 pub record HasRoom (c : CacheState) (ds : List Document) : Type 0 where
-  pub words : (w : List ℕ) → bytes_of w ds ≤ room_of c w
+  pub room : (w : List ℕ) → bytes_of w ds ≤ room_of c w
+  pub numbers : AreNumbers c.words ds c.promised
   pub documents : length ds ≤ c.spare
   pub size : cache_size c + sum_by document_size ds < 2 ^ 64
 
@@ -66,10 +84,3 @@ IdsAscend ds = (last : ℕ) × Ids 0 last ds
 abbrev pub BeginsAbove : ℕ → List CachedDocument → Type 0
 BeginsAbove doc [] = Unit {0}
 BeginsAbove doc (d ∷ ds) = doc < d.id
-
--- the fields of a cache
-pub record IsCache (entries : Entries) (ds : List CachedDocument) (through last size : ℕ) : Type 0 where
-  pub ends : EndBy last entries
-  pub ids : Ids 0 last ds
-  pub left : through ≤ last
-  pub size_is : size ≡ sum_by (λ d. d.size) ds

@@ -1,4 +1,5 @@
 pub mod Document
+pub mod Arena
 pub mod Words
 pub mod Cache
 pub mod Kept

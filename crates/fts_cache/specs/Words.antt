@@ -1,25 +1,81 @@
--- The queues of the cached words.
-use Rattle.std.specs.Prelude.{◌≡◌, ◌≢◌, ◌↔◌, ℕ, ◌+◌, ◌<◌, ◌≤◌, Bool, ◌&&◌, IsTrue, nat_eq, nat_le, nat_lt, map, filter}
+-- The cached words, each by its number, and their queues.
+use Rattle.std.specs.Prelude.{◌≡◌, ◌≢◌, ℕ, ◌+◌, ◌-◌, ◌^◌, ◌<◌, ◌≤◌, Bool, ◌&&◌, nat_eq, nat_le, nat_lt, map, filter}
 use Rattle.std.specs.Prelude.{List, [], ◌∷◌, ◌++◌, length, if◌then◌else◌}
+use Rattle.std.specs.Prelude.{Option, Some, None, slice_index_or, filter_map, true, false}
 use Rattle.std.specs.Global.{Vec}
-use Rattle.std.specs.List.{starts_with}
+use Rattle.std.specs.List.{starts_with, list_any}
 use Rattle.std.specs.Map.{lookup}
-use Rattle.std.specs.Option.{unwrap_or}
+use Rattle.std.specs.Option.{unwrap_or, option_map}
 use Rattle.std.specs.Str.{bytes_eq}
-use Rattle.fts_ilist.specs.Spelling.{Posting}
+use Rattle.fts_ilist.specs.Spelling.{Posting, ArePositions}
 use Rattle.fts_ilist.specs.Queue.{Queue, bytes_for, postings_behind}
 use Rattle.fts_cache.specs.Document.{WordPositions, Document, postings_from, document_postings, bytes_in}
+use Rattle.fts_cache.specs.declared.words.CachedWord.{CachedWord}
 
-abbrev pub Entries : Type 0
-Entries = List (Vec ℕ × Queue)
+-- the words by their numbers
+abbrev pub Slots : Type 0
+Slots = List (Option CachedWord)
+
+-- the number of each word, and the words by their numbers
+pub record Entries : Type 0 where
+  pub numbers : List (Vec ℕ × ℕ)
+  pub slots : Slots
+
+abbrev pub slot_in : Slots → ℕ → Option CachedWord
+slot_in slots number = slice_index_or slots number None
+
+-- the number of a word
+abbrev pub number_in : Entries → List ℕ → Option ℕ
+number_in entries word = lookup (λ k. bytes_eq word k.items) entries.numbers
 
 -- what stands for a word that was not entered
 abbrev pub no_queue : Queue
 no_queue = record { postings = []; last = 0; room = 0 }
 
+abbrev pub queue_at : Slots → ℕ → Queue
+queue_at slots number = unwrap_or (option_map (λ s. s.queue) (slot_in slots number)) no_queue
+
 -- the queue of a word
 abbrev pub queue_in : Entries → List ℕ → Queue
-queue_in entries word = unwrap_or (lookup (λ k. bytes_eq word k.items) entries) no_queue
+queue_in entries word = unwrap_or (option_map (queue_at entries.slots) (number_in entries word)) no_queue
+
+-- each word is found by its number, and each number is that of its word
+pub record IsTable (entries : Entries) : Type 0 where
+  pub found : (w : List ℕ) (n : ℕ) → number_in entries w ≡ Some n
+      → (s : CachedWord) × (slot_in entries.slots n ≡ Some s) × (s.word.items ≡ w)
+  pub known : (n : ℕ) (s : CachedWord) → slot_in entries.slots n ≡ Some s → number_in entries s.word.items ≡ Some n
+
+-- the word with its queue changed so
+abbrev pub with_queue : (Queue → Queue) → CachedWord → CachedWord
+with_queue change s = record s { queue = change s.queue }
+
+-- the queue with this number is changed so, and no other
+abbrev pub Alters : ℕ → (Queue → Queue) → Slots → Slots → Type 0
+Alters n change old new =
+    (m : ℕ) → slot_in new m ≡ (if nat_eq m n then option_map (with_queue change) (slot_in old m) else slot_in old m)
+
+abbrev pub with_more_room : ℕ → Queue → Queue
+with_more_room positions q = record q { room = q.room + bytes_for positions }
+
+abbrev pub without_room : Queue → Queue
+without_room q = record q { room = 0 }
+
+abbrev pub with_posting : ℕ → List ℕ → Queue → Queue
+with_posting id positions q = record {
+  postings = q.postings ++ record { id = id; positions = positions } ∷ [];
+  last = id;
+  room = q.room - bytes_for (length positions);
+}
+
+abbrev pub without : ℕ → Queue → Queue
+without doc q = record q { postings = postings_behind doc q.postings }
+
+-- the queue can take a document, within its room
+pub record CanTake (q : Queue) (doc : ℕ) (positions : List ℕ) : Type 0 where
+  pub above : q.last < doc
+  pub limit : doc < 2 ^ 63
+  pub are_positions : ArePositions positions
+  pub room : bytes_for (length positions) ≤ q.room
 
 -- the word's queue is this one now, and no other has changed
 abbrev pub Changes : Entries → List ℕ → Queue → Entries → Type 0
@@ -29,63 +85,97 @@ Changes old word queue new = (w : List ℕ) → queue_in new w ≡ (if bytes_eq 
 abbrev pub Stays : Entries → Entries → Type 0
 Stays old new = (w : List ℕ) → queue_in new w ≡ queue_in old w
 
--- no queue has changed but in its room
-pub record StaysButRoom (old new : Entries) : Type 0 where
+-- the words keep their numbers
+abbrev pub KeepsNumbers : Entries → Entries → Type 0
+KeepsNumbers old new = (w : List ℕ) (n : ℕ) → number_in old w ≡ Some n → number_in new w ≡ Some n
+
+-- words were entered, without documents
+pub record Enters (old new : Entries) : Type 0 where
+  pub numbers : KeepsNumbers old new
+  pub queues : Stays old new
+
+-- words were entered, and queues have more room
+pub record Grows (old new : Entries) : Type 0 where
+  pub numbers : KeepsNumbers old new
   pub postings : (w : List ℕ) → (queue_in new w).postings ≡ (queue_in old w).postings
   pub last : (w : List ℕ) → (queue_in new w).last ≡ (queue_in old w).last
+
+-- words without documents were let go of, and room was given up
+pub record IsLess (old new : Entries) : Type 0 where
+  pub numbers : KeepsNumbers new old
+  pub postings : (w : List ℕ) → (queue_in new w).postings ≡ (queue_in old w).postings
+  pub last : (w : List ℕ) → (queue_in new w).last ≤ (queue_in old w).last
+
+-- the word with this number was let go of, if it has no document, and no other
+pub record LetsGo (number : ℕ) (old new : Entries) : Type 0 where
+  pub less : IsLess old new
+  pub room : (w : List ℕ) → (queue_in new w).room ≤ (queue_in old w).room
+  pub others : (w : List ℕ) → number_in old w ≢ Some number → queue_in new w ≡ queue_in old w
 
 -- no queue takes an id only above this one
 abbrev pub EndBy : ℕ → Entries → Type 0
 EndBy last entries = (w : List ℕ) → (queue_in entries w).last ≤ last
 
--- the queue of w, where that of the word took a document in and those up to `through` were let out of it
-pub record Pushes (through id : ℕ) (word positions : List ℕ) (old new : Entries) (w : List ℕ) : Type 0 where
-  pub postings : (queue_in new w).postings
-      ≡ (if bytes_eq w word then postings_behind through (queue_in old w).postings ++ record
-      { id = id; positions = positions } ∷ [] else (queue_in old w).postings)
-  pub last : (queue_in new w).last ≡ (if bytes_eq w word then id else (queue_in old w).last)
-  pub room : (queue_in new w).room + (if bytes_eq w word then bytes_for (length positions) else 0)
-      ≡ (queue_in old w).room
+-- the queue of w, where the documents up to doc were taken out of the queue with a number
+pub record IsDropped (number doc : ℕ) (old new : Entries) (w : List ℕ) : Type 0 where
+  pub numbers : (m : ℕ) → number_in new w ≡ Some m → number_in old w ≡ Some m
+  pub here : number_in old w ≡ Some number
+      → (queue_in new w).postings ≡ postings_behind doc (queue_in old w).postings
+  pub others : number_in old w ≢ Some number → (queue_in new w).postings ≡ (queue_in old w).postings
+  pub last : (queue_in new w).last ≤ (queue_in old w).last
 
--- the queue of w, where a document was put into the queues of its words: it shows the document's posting last
-pub record IsAdded (through : ℕ) (d : Document) (old new : Entries) (w : List ℕ) : Type 0 where
-  pub postings : postings_behind through (queue_in new w).postings
-      ≡ postings_behind through (queue_in old w).postings ++ document_postings w d
+-- the queue of w, where a document was put into the queues of its words
+pub record IsAdded (d : Document) (old new : Entries) (w : List ℕ) : Type 0 where
+  pub postings : (queue_in new w).postings ≡ (queue_in old w).postings ++ document_postings w d
   pub last : (queue_in new w).last ≤ d.id
   pub room : (queue_in new w).room + bytes_in w d.words ≡ (queue_in old w).room
 
 -- the same in the middle, with these words of the document left to be put in
-pub record IsPartlyAdded (through : ℕ) (d : Document) (left : List WordPositions) (old new : Entries) (w : List ℕ)
-    : Type 0 where
-  pub postings : postings_behind through (queue_in new w).postings ++ postings_from d.id w left
-      ≡ postings_behind through (queue_in old w).postings ++ document_postings w d
+pub record IsPartlyAdded (d : Document) (left : List WordPositions) (old new : Entries) (w : List ℕ) : Type 0 where
+  pub postings : (queue_in new w).postings ++ postings_from d.id w left
+      ≡ (queue_in old w).postings ++ document_postings w d
   pub last : (queue_in new w).last ≤ d.id
   pub below : 0 < bytes_in w left → (queue_in new w).last < d.id
   pub room : (queue_in new w).room + bytes_in w d.words ≡ (queue_in old w).room + bytes_in w left
 
--- what a sweep does to a queue, and whether it keeps the word
-abbrev pub Sweeps : ℕ → Queue → Queue → Bool → Type 0
-Sweeps through old new keeps = (new ≡ record old { postings = postings_behind through old.postings })
-    × (IsTrue keeps ↔ (postings_behind through new.postings ≢ []))
+-- these are the numbers of the words, in their order
+abbrev pub AreNumbersOf : Entries → List WordPositions → List ℕ → Type 0
+AreNumbersOf entries [] [] = Unit {0}
+AreNumbersOf entries (v ∷ vs) (n ∷ ns) = (number_in entries v.word ≡ Some n) × AreNumbersOf entries vs ns
+AreNumbersOf entries [] (n ∷ ns) = ⊥
+AreNumbersOf entries (v ∷ vs) [] = ⊥
 
--- the queue of w, where the documents up to `through` were taken out of all queues
-pub record IsSwept (through : ℕ) (old new : Entries) (w : List ℕ) : Type 0 where
-  pub postings : postings_behind through (queue_in new w).postings ≡ postings_behind through (queue_in old w).postings
-  pub last : (queue_in new w).last ≤ (queue_in old w).last
+-- the number is one of these
+abbrev pub has_number : ℕ → List ℕ → Bool
+has_number n numbers = list_any (nat_eq n) numbers
+
+-- the room of w, where that of the words with these numbers was given up
+pub record GivesUp (numbers : List ℕ) (old new : Entries) (w : List ℕ) : Type 0 where
+  pub given : (n : ℕ) → number_in old w ≡ Some n → has_number n numbers ≡ true → (queue_in new w).room ≡ 0
+  pub kept : ((n : ℕ) → number_in old w ≡ Some n → has_number n numbers ≡ false)
+      → (queue_in new w).room ≡ (queue_in old w).room
 
 -- the documents up to an id
 abbrev pub postings_until : ℕ → List Posting → List Posting
 postings_until id ps = filter (λ p. nat_le p.id id) ps
 
--- whether a word begins so and its queue has a document behind `through`
-abbrev pub shows : ℕ → List ℕ → List ℕ → Queue → Bool
-shows through prefix word queue = starts_with nat_eq word prefix && nat_lt 0
-    (length (postings_behind through queue.postings))
+-- whether the queue has a document up to this id
+abbrev pub leaves : ℕ → Queue → Bool
+leaves doc queue = nat_lt 0 (length (postings_until doc queue.postings))
 
--- whether its queue has a document behind `through` and up to doc
-abbrev pub leaves : ℕ → ℕ → List ℕ → Queue → Bool
-leaves through doc word queue = nat_lt 0 (length (postings_until doc (postings_behind through queue.postings)))
+-- the word, where it has a document up to this id
+abbrev pub leaving_word : ℕ → Option CachedWord → Option (List ℕ)
+leaving_word doc None = None
+leaving_word doc (Some s) = if leaves doc s.queue then Some s.word.items else None
 
--- the words that pass a test with their queues, as they were entered
-abbrev pub words_by : (List ℕ → Queue → Bool) → Entries → List (List ℕ)
-words_by test entries = map (λ e. e.0.items) (filter (λ e. test e.0.items e.1) entries)
+-- those of these words that have a document up to this id
+abbrev pub leaving_words : Slots → ℕ → List ℕ → List (List ℕ)
+leaving_words slots doc numbers = filter_map (λ n. leaving_word doc (slot_in slots n)) numbers
+
+-- whether a word begins so and has a document
+abbrev pub shows : Slots → List ℕ → List ℕ → ℕ → Bool
+shows slots prefix word number = starts_with nat_eq word prefix && nat_lt 0 (length (queue_at slots number).postings)
+
+-- the words that pass a test with their numbers, as they were entered
+abbrev pub words_by : (List ℕ → ℕ → Bool) → List (Vec ℕ × ℕ) → List (List ℕ)
+words_by test numbers = map (λ e. e.0.items) (filter (λ e. test e.0.items e.1) numbers)

@@ -1,61 +1,56 @@
 //! The cache and its calls.
 ghost use Rattle.std.specs.Prelude.{◌≡◌, ◌≢◌, ℕ, ◌+◌, ◌^◌, ◌<◌, ◌≤◌, ◌↔◌, ◌++◌, List, [], ◌∷◌};
 ghost use Rattle.std.specs.Prelude.{length, max, map, filter, sum_by, nat_eq, IfOk, IfSome, IfNone};
-ghost use Rattle.std.specs.Prelude.{OnOk, OnErr, IsTrue};
+ghost use Rattle.std.specs.Prelude.{OnOk, OnErr, IsTrue, Some};
 ghost use Rattle.fts_ilist.specs.Spelling.{ArePostings};
 ghost use Rattle.fts_ilist.specs.Queue.{postings_behind};
 ghost use Rattle.fts_cache.specs.Document.{Document, document_size, document_postings, bytes_in};
 ghost use Rattle.fts_cache.specs.Document.{bytes_of};
 ghost use Rattle.fts_cache.specs.Cache.{CacheState, CachedDocument, postings_of, cache_size};
 ghost use Rattle.fts_cache.specs.Cache.{cached, cached_behind, SameContents, HasRoom, BeginsAbove};
-ghost use Rattle.fts_cache.specs.Cache.{IdsAscend};
-ghost use Rattle.fts_cache.specs.Words.{postings_until};
-ghost use Rattle.fts_cache.specs.Kept.{kept};
+ghost use Rattle.fts_cache.specs.Cache.{IdsAscend, room_of, room_left};
+ghost use Rattle.fts_cache.specs.Words.{queue_in, postings_until};
+ghost use Rattle.fts_cache.specs.Kept.{kept, NoteWords, NotesUntil};
 ghost use Rattle.fts_cache.specs.Sorted.{IsAmong, AscendByBytes};
-ghost use Rattle.std.specs.List.{starts_with};
+ghost use Rattle.std.specs.List.{starts_with, IsDistinct};
 
+use crate::adding::{add_document, drop_words, release_promised, reserve_documents};
 use crate::document::DocWords;
-use crate::words::{
-    WordQueues, add_document, leaving_words, reserve_documents, shown_words, sweep_if_due,
-};
+use crate::words::Words;
 use fts_ilist::Cursor;
-use indexmap::IndexMap;
 use std::alloc::{AllocError, Global};
 use std::collections::VecDeque;
 use std::marker::Model;
 
 /// A document in the cache.
-#[derive(Debug, Clone, Copy)]
+#[derive(Debug, Drop)]
 pub(crate) struct Cached {
     id: u64,
     size: u32,
-    // How many words it has.
-    words: usize,
+    // Those of its words.
+    numbers: Vec<u32>,
 }
 
 /// The words of documents that are not yet flushed, each word with its documents and their
 /// positions.
 #[derive(Drop)]
 pub struct Cache {
-    queues: WordQueues,
+    words: Words,
     // By ascending ids.
     documents: VecDeque<Cached>,
-    // Documents up to this id have left. Their postings are still in the queues that nothing was
-    // put in since.
-    through: u64,
+    // The numbers of the words of the documents that room was made for.
+    promised: VecDeque<Vec<u32>>,
     // No document up to this id can come in.
     last: u64,
     // The sum of the documents' sizes.
     size: u64,
-    // How many postings left since the queues were swept.
-    stale: usize,
 }
 
 impl Model for Cache {
-    ghost use Rattle.std.specs.Prelude.{◌-◌};
+    ghost use Rattle.std.specs.Prelude.{◌-◌, map};
     ghost use Rattle.std.specs.VecDeque.{deque_len, deque_capacity};
-    ghost use Rattle.fts_cache.specs.Cache.{CacheState, IsCache};
-    ghost use Rattle.fts_cache.specs.Kept.{kept};
+    ghost use Rattle.fts_cache.specs.Cache.{CacheState};
+    ghost use Rattle.fts_cache.specs.Kept.{kept, IsCache};
 
     ghost Value = { CacheState };
 
@@ -63,12 +58,11 @@ impl Model for Cache {
       documents = kept c.documents.items;
       last = c.last;
       spare = deque_capacity c.documents - deque_len c.documents;
-      queues = c.queues.entries;
-      through = c.through;
+      words = c.words;
+      promised = map (λ n. n.items) c.promised.items;
     } };
 
-    ghost invariant = { λ c. IsCache c.queues.entries (kept c.documents.items) c.through c.last
-        c.size };
+    ghost invariant = { λ c. IsCache c.words c.documents.items c.last c.size };
 }
 
 /// The sum of a size and those of the documents, where it fits.
@@ -95,22 +89,79 @@ fn pop_until(documents: &mut VecDeque<Cached>, doc: u64) -> Option<Cached>
     }
 }
 
-/// Takes the documents up to `doc` out, and returns the sum of their sizes and how many postings
-/// they have.
-fn drop_documents(documents: &mut VecDeque<Cached>, doc: u64) -> (u64, usize)
+/// Takes the documents up to `doc` out, and out of the queues of their words. Returns the sum of
+/// their sizes.
+fn drop_documents(words: &mut Words, documents: &mut VecDeque<Cached>, doc: u64) -> u64
     requires ascend { IdsAscend (kept documents.old.items) }
     requires fits { sum_by (λ d. d.size) (kept documents.old.items) < 2 ^ 64 }
+    requires noted { NoteWords words.old documents.old.items }
     ensures documents { kept documents.new.items ≡ cached_behind doc (kept documents.old.items) }
-    ensures size { result.0 + sum_by (λ d. d.size) (kept documents.new.items)
+    ensures size { result + sum_by (λ d. d.size) (kept documents.new.items)
         ≡ sum_by (λ d. d.size) (kept documents.old.items) }
+    ensures postings { (w : List ℕ) → (queue_in words.new w).postings
+        ≡ postings_behind doc (queue_in words.old w).postings }
+    ensures last { (w : List ℕ) → (queue_in words.new w).last ≤ (queue_in words.old w).last }
+    ensures noted { NoteWords words.new documents.new.items }
 {
     let mut size = 0;
-    let mut postings: usize = 0;
     while let Some(first) = pop_until(documents, doc) {
         size += u64::from(first.size);
-        postings = postings.saturating_add(first.words);
+        drop_words(words, &first.numbers, first.id);
     }
-    (size, postings)
+    size
+}
+
+/// Notes the numbers of a document's words behind the others.
+fn note(numbers: &mut Vec<u32>, document: &Cached) -> Result<(), AllocError>
+    ensures { OnOk result (numbers.new.items
+        ≡ numbers.old.items ++ document.now.numbers.items) }
+{
+    numbers.extend_from_slice(&document.numbers)
+}
+
+/// The numbers of the words of the documents up to `doc`.
+fn noted_until(
+    alloc: Global,
+    documents: &VecDeque<Cached>,
+    doc: u64,
+) -> Result<Vec<u32>, AllocError>
+    requires { IdsAscend (kept documents.now.items) }
+    ensures { IfOk result (λ numbers. NotesUntil doc documents.now.items numbers.items) }
+{
+    let mut numbers = Vec::new(alloc);
+    for place in 0..documents.len() {
+        let document = &documents[place];
+        if document.id > doc {
+            return Ok(numbers);
+        }
+        note(&mut numbers, document)?;
+    }
+    Ok(numbers)
+}
+
+/// The numbers of the words of the documents up to `doc`, each once.
+fn leaving_numbers(
+    alloc: Global,
+    documents: &VecDeque<Cached>,
+    doc: u64,
+) -> Result<Vec<u32>, AllocError>
+    requires { IdsAscend (kept documents.now.items) }
+    ensures noted { IfOk result (λ numbers. NotesUntil doc documents.now.items numbers.items) }
+    ensures distinct { IfOk result (λ numbers. IsDistinct nat_eq numbers.items) }
+{
+    let mut numbers = noted_until(alloc, documents, doc)?;
+    numbers.sort_unstable();
+    numbers.dedup();
+    Ok(numbers)
+}
+
+/// Takes the numbers out that were promised first.
+fn take_promise(promised: &mut VecDeque<Vec<u32>>) -> Vec<u32>
+    requires { map (λ n. n.items) promised.old.items ≢ [] }
+    ensures { map (λ n. n.items) promised.old.items
+        ≡ result.items ∷ map (λ n. n.items) promised.new.items }
+{
+    promised.pop_front().unwrap()
 }
 
 impl Cache {
@@ -121,22 +172,24 @@ impl Cache {
         ensures last { result.last ≡ 0 }
     {
         Cache {
-            queues: IndexMap::new(alloc),
+            words: Words::new(alloc),
             documents: VecDeque::new(alloc),
-            through: 0,
+            promised: VecDeque::new(alloc),
             last: 0,
             size: 0,
-            stale: 0,
         }
     }
 
     /// Makes room for the documents, so that `add` can take them, one after another, without
-    /// memory. Room that an earlier call made for words of these documents, and that nobody used,
-    /// is given up. Where there is no memory, the contents stay as they were.
+    /// memory. Room that an earlier call made and that nobody used is given up. Where there is no
+    /// memory, the contents stay as they were.
     ///
-    /// A word that the cache hasn't yet is entered without a document, and counts as absent.
+    /// It looks each word up once, and notes its number for `add`. A word that the cache hasn't yet
+    /// is entered without a document, and counts as absent.
     pub fn reserve(&mut self, documents: &[DocWords]) -> Result<(), AllocError>
         ensures room { OnOk result (HasRoom self.new documents.now) }
+        ensures held { OnOk result ((w : List ℕ)
+            → room_of self.new w ≡ room_left self.old w + bytes_of w documents.now) }
         ensures contents { SameContents self.old self.new }
     {
         // A size past 64 bits is one that no memory holds.
@@ -144,12 +197,13 @@ impl Cache {
             return Err(AllocError);
         };
         self.documents.reserve(documents.len())?;
-        reserve_documents(&mut self.queues, documents)
+        release_promised(&mut self.words, &mut self.promised);
+        self.promised.reserve(documents.len())?;
+        reserve_documents(&mut self.words, &mut self.promised, documents)
     }
 
     /// Adds a document behind the last, within the room that `reserve` made. It takes no memory,
-    /// and for each word and occurrence constant time, once what the queues let go of is counted to
-    /// the documents that left.
+    /// and for each word and occurrence constant time, without a look-up.
     pub fn add(&mut self, document: &DocWords)
         requires above { self.old.last < document.now.id }
         requires room { HasRoom self.old (document.now ∷ []) }
@@ -161,80 +215,62 @@ impl Cache {
             → HasRoom self.new more }
     {
         let (id, size) = (document.id(), document.size());
-        add_document(&mut self.queues, document, self.through);
-        let words = document.len();
+        let numbers = take_promise(&mut self.promised);
+        add_document(&mut self.words, document, &numbers);
         self.documents
-            .push_back(Cached { id, size, words })
+            .push_back(Cached { id, size, numbers })
             .unwrap();
         self.last = id;
         self.size += u64::from(size);
     }
 
     /// The documents that have the word, by ascending ids, with their positions. They are read in
-    /// place.
-    ///
-    /// The word is found in constant time. Of its documents those that left since the queues were
-    /// swept last are passed over: at most one for each document that left since, and of all words
-    /// together fewer than the cache has words. So a look-up costs the more the fewer words a
-    /// document has: of 50,000 words and documents of 200, 250 passed documents at most. A note of
-    /// each document's words would spare that, for as many bytes as the lists take.
+    /// place. The word is found in constant time.
     pub fn postings(&self, word: &[u8]) -> Cursor<'_>
         ensures documents { result ≡ postings_of self.now word.now }
         ensures are { ArePostings result }
     {
-        match self.queues.get(word) {
-            Some(queue) => queue.docs_behind(self.through),
-            None => Cursor::none(),
-        }
+        self.words.docs(word)
     }
 
     /// The words that begin so and that a document has, in the order of their bytes, each once.
     /// They lie in the cache's allocator.
     ///
-    /// It goes over all words that were entered, which the setting of the cache's size bounds.
+    /// It goes over all cached words, which the setting of the cache's size bounds.
     pub fn prefix(&self, prefix: &[u8]) -> Result<Vec<&[u8]>, AllocError>
         ensures words { IfOk result
             (λ words. (w : List ℕ) → IsAmong w words.items
             ↔ (IsTrue (starts_with nat_eq w prefix.now) × (postings_of self.now w ≢ []))) }
         ensures ascending { IfOk result (λ words. AscendByBytes words.items) }
     {
-        let mut words = shown_words(&self.queues, self.through, prefix)?;
-        words.sort_unstable();
-        Ok(words)
+        self.words.prefix(prefix)
     }
 
     /// The words of the documents up to `doc`, in the order of their bytes, each once. They lie in
     /// the cache's allocator. Of such a word the first of its `postings` are those up to `doc`.
     ///
-    /// It looks at the first document of each word that was entered, and sorts the words that it
-    /// gives.
+    /// It costs those documents' words, and a sort of them.
     pub fn words_until(&self, doc: u64) -> Result<Vec<&[u8]>, AllocError>
         ensures words { IfOk result
             (λ words. (w : List ℕ) → IsAmong w words.items
             ↔ (postings_until doc (postings_of self.now w) ≢ [])) }
         ensures ascending { IfOk result (λ words. AscendByBytes words.items) }
     {
-        let mut words = leaving_words(&self.queues, self.through, doc)?;
-        words.sort_unstable();
-        Ok(words)
+        let numbers = leaving_numbers(self.words.allocator(), &self.documents, doc)?;
+        self.words.leaving(&numbers, doc)
     }
 
-    /// Takes the documents up to `doc` out, with their words.
-    ///
-    /// Each document and each of its words takes constant time. The queues are swept once as many
-    /// postings left as there are words, so that a sweep is paid by what left before.
+    /// Takes the documents up to `doc` out, with their words. Each document and each of its words
+    /// takes constant time. A word that no document has any more is let go of.
     pub fn drop_until(&mut self, doc: u64)
         ensures documents { self.new.documents ≡ cached_behind doc self.old.documents }
         ensures postings { (w : List ℕ)
             → postings_of self.new w ≡ postings_behind doc (postings_of self.old w) }
         ensures last { self.new.last ≡ max self.old.last doc }
     {
-        let (size, postings) = drop_documents(&mut self.documents, doc);
+        let size = drop_documents(&mut self.words, &mut self.documents, doc);
         self.size -= size;
-        self.through = self.through.max(doc);
         self.last = self.last.max(doc);
-        let stale = self.stale.saturating_add(postings);
-        self.stale = sweep_if_due(&mut self.queues, self.through, stale);
     }
 
     /// The cache's size, in the bytes that the setting counts: for each document 16, and for each
@@ -250,6 +286,13 @@ impl Cache {
         ensures { result ≡ self.now.last }
     {
         self.last
+    }
+
+    /// How many words it holds: those of its documents, and those that room was made for.
+    pub fn words_len(&self) -> usize
+        ensures { result ≡ length self.now.words.numbers }
+    {
+        self.words.len()
     }
 
     /// How many documents it has.

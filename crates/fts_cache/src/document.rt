@@ -1,19 +1,20 @@
 //! One document's words.
-ghost use Rattle.std.specs.Prelude.{◌≡◌, ◌+◌, ◌*◌, ◌^◌, ◌<◌, ◌≤◌, ◌==◌, ◌++◌, [], ◌∷◌, length, map};
-ghost use Rattle.std.specs.Prelude.{slice_get, Some, IsTrue, ◌↔◌, OnOk, OnErr};
+ghost use Rattle.std.specs.Prelude.{◌≡◌, ◌+◌, ◌*◌, ◌^◌, ◌<◌, ◌≤◌, ◌==◌, ◌++◌, [], ◌∷◌, length};
+ghost use Rattle.std.specs.Prelude.{slice_get, slice_range, Some, IsTrue, ◌↔◌, OnOk, OnErr};
 ghost use Rattle.fts_ilist.specs.Spelling.{ArePositions};
 ghost use Rattle.fts_cache.specs.Document.{Document, WordPositions, document_size, EndsBefore};
 ghost use Rattle.fts_cache.specs.Document.{CanPush, IsDocument};
+ghost use Rattle.fts_cache.specs.Arena.{end_before, no_end};
 
 use fts_ilist::LAST_POSITION;
 use std::alloc::{AllocError, Global};
 use std::marker::Model;
 
-/// A word of a document, and the places at which it has it.
-#[derive(Debug, Drop)]
-struct WordPlaces {
-    word: Vec<u8>,
-    positions: Vec<u32>,
+/// Where a word's bytes end among those of all words, and its positions among all positions.
+#[derive(Debug, Clone, Copy)]
+struct WordEnd {
+    word: usize,
+    positions: usize,
 }
 
 /// One document's words, in the order of their bytes, each with its positions, and the document's
@@ -21,41 +22,68 @@ struct WordPlaces {
 #[derive(Debug, Drop)]
 pub struct DocWords {
     id: u64,
-    words: Vec<WordPlaces>,
+    // The bytes of all words, one word behind another.
+    bytes: Vec<u8>,
+    // The positions of all words, in the same order.
+    positions: Vec<u32>,
+    // For each word where its bytes and its positions end.
+    ends: Vec<WordEnd>,
     // In the cache, by `document_size`.
     size: u32,
 }
 
 impl Model for DocWords {
-    ghost use Rattle.std.specs.Prelude.{◌≡◌, map};
-    ghost use Rattle.fts_cache.specs.Document.{Document, document_size, IsDocument};
+    ghost use Rattle.fts_cache.specs.Document.{Document};
+    ghost use Rattle.fts_cache.specs.Arena.{document_in, IsArena};
 
     ghost Value = { Document };
 
-    ghost view = { λ d. record {
-      id = d.id;
-      words = map
-          (λ w. record { word = w.word.items; positions = w.positions.items }) d.words.items;
-    } };
+    ghost view = { λ d. document_in d.id d.ends.items d.bytes.items d.positions.items };
 
-    ghost invariant = { λ d. (let shown : Document = record {
-      id = d.id;
-      words = map (λ w. record
-          { word = w.word.items; positions = w.positions.items }) d.words.items;
-    } in IsDocument shown
-        × (d.size ≡ document_size shown)) };
+    ghost invariant = { λ d. IsArena d.id d.size d.ends.items d.bytes.items d.positions.items };
 }
 
-/// Whether a word comes behind the last of these, if any.
-fn is_behind(words: &[WordPlaces], word: &[u8]) -> bool
-    ensures { IsTrue result ↔ EndsBefore
-        (map (λ w. record { word = w.word.items; positions = w.positions.items }) words.now)
-        word.now }
+/// Where the words before a place end.
+fn before(ends: &[WordEnd], place: usize) -> WordEnd
+    requires { place ≤ length ends.now }
+    ensures { result ≡ end_before no_end ends.now place }
 {
-    match words.last() {
-        Some(places) => places.word.as_slice().cmp(&word).is_lt(),
-        None => true,
+    match place.checked_sub(1) {
+        Some(last) => ends[last],
+        None => WordEnd {
+            word: 0,
+            positions: 0,
+        },
     }
+}
+
+/// The bytes between two places.
+fn bytes_between(bytes: &[u8], start: usize, end: usize) -> &[u8]
+    requires order { start ≤ end }
+    requires within { end ≤ length bytes.now }
+    ensures { result.now ≡ slice_range bytes.now start end }
+{
+    &bytes[start..end]
+}
+
+/// The positions between two places.
+fn positions_between(positions: &[u32], start: usize, end: usize) -> &[u32]
+    requires order { start ≤ end }
+    requires within { end ≤ length positions.now }
+    ensures { result.now ≡ slice_range positions.now start end }
+{
+    &positions[start..end]
+}
+
+/// Whether a word comes behind the last of the document's, if any.
+fn is_behind(document: &DocWords, word: &[u8]) -> bool
+    ensures { IsTrue result ↔ EndsBefore document.now.words word.now }
+{
+    let Some(last) = document.len().checked_sub(1) else {
+        return true;
+    };
+    let (before, _) = document.word_at(last);
+    before.cmp(&word).is_lt()
 }
 
 /// Whether these are positions of one word: at least one, ascending, at most 131,071.
@@ -92,7 +120,9 @@ impl DocWords {
     {
         DocWords {
             id,
-            words: Vec::new(alloc),
+            bytes: Vec::new(alloc),
+            positions: Vec::new(alloc),
+            ends: Vec::new(alloc),
             size: 16,
         }
     }
@@ -113,17 +143,19 @@ impl DocWords {
     }
 
     /// How many words it has.
+    #[tactic(auto, using(crate::proofs::Arena::words_length))]
     pub fn len(&self) -> usize
         ensures { result ≡ length self.now.words }
     {
-        self.words.len()
+        self.ends.len()
     }
 
     /// Whether it has none.
+    #[tactic(auto, using(crate::proofs::Arena::words_length))]
     pub fn is_empty(&self) -> bool
         ensures { result ≡ (length self.now.words == 0) }
     {
-        self.words.is_empty()
+        self.ends.is_empty()
     }
 
     /// A word, by its place from 0, and its positions.
@@ -134,8 +166,12 @@ impl DocWords {
         ensures positions { ArePositions result.1.now }
         ensures few { length result.1.now ≤ 131072 }
     {
-        let places = &self.words[place];
-        (&places.word, &places.positions)
+        let start = before(&self.ends, place);
+        let end = self.ends[place];
+        (
+            bytes_between(&self.bytes, start.word, end.word),
+            positions_between(&self.positions, start.positions, end.positions),
+        )
     }
 
     /// Whether a word with these positions can be added behind the last: it comes behind the last
@@ -144,7 +180,7 @@ impl DocWords {
     pub fn can_push(&self, word: &[u8], positions: &[u32]) -> bool
         ensures { IsTrue result ↔ CanPush self.now word.now positions.now }
     {
-        if !is_behind(&self.words, word) {
+        if !is_behind(self, word) {
             return false;
         }
         if !are_positions(positions) {
@@ -154,17 +190,27 @@ impl DocWords {
     }
 
     /// Adds a word behind the last. Where there is no memory for it, the document stays as it was.
-    pub fn push(&mut self, word: Vec<u8>, positions: Vec<u32>) -> Result<(), AllocError>
-        requires { CanPush self.old word.items positions.items }
+    pub fn push(&mut self, word: &[u8], positions: &[u32]) -> Result<(), AllocError>
+        requires { CanPush self.old word.now positions.now }
         ensures ok { OnOk result (self.new
             ≡ record self.old {
               words = self.old.words ++ record
-                  { word = word.items; positions = positions.items } ∷ [];
+                  { word = word.now; positions = positions.now } ∷ [];
             }) }
         ensures err { OnErr result (self.new ≡ self.old) }
     {
+        self.bytes.reserve(word.len())?;
+        self.positions.reserve(positions.len())?;
+        self.ends.reserve(1)?;
         let size = positions.len() as u32 * (word.len() as u32 + 8);
-        self.words.push(WordPlaces { word, positions })?;
+        self.bytes.extend_from_slice(word).unwrap();
+        self.positions.extend_from_slice(positions).unwrap();
+        self.ends
+            .push(WordEnd {
+                word: self.bytes.len(),
+                positions: self.positions.len(),
+            })
+            .unwrap();
         self.size += size;
         Ok(())
     }

@@ -2,6 +2,7 @@
 //! full-text index cache).
 #![tactic(auto)]
 
+mod adding;
 mod cache;
 mod document;
 mod words;

@@ -18,9 +18,7 @@ fn document(
 {
     let mut made = DocWords::new(alloc, id);
     for (word, positions) in words {
-        let word = Vec::from_slice(alloc, word)?;
-        let positions = Vec::from_slice(alloc, positions)?;
-        assert!(rt; made.can_push(&word, &positions));
+        assert!(rt; made.can_push(word, positions));
         made.push(word, positions)?;
     }
     Ok(made)
@@ -181,10 +179,8 @@ fn letters(
     let mut made = DocWords::new(alloc, id);
     for letter in b'a'..=b'y' {
         if (id % 7 * u64::from(letter)) % 7 < 3 {
-            let word = Vec::from_slice(alloc, &[letter])?;
-            let positions = Vec::from_slice(alloc, &[5, 6])?;
-            assert!(rt; made.can_push(&word, &positions));
-            made.push(word, positions)?;
+            assert!(rt; made.can_push(&[letter], &[5, 6]));
+            made.push(&[letter], &[5, 6])?;
             noted.push((id, letter))?;
         }
     }
@@ -221,5 +217,43 @@ fn the_cache_is_as_a_plain_list(rt: HostRuntime) -> Result<(), Fail> {
     for letter in b'a'..=b'y' {
         has_noted(&rt, &cache, letter, &noted, dropped);
     }
+    Ok(())
+}
+
+// A document of a word of its own, and one that all of them have.
+fn row(rt: &impl Abort, alloc: Global, id: u64) -> Result<DocWords, Fail>
+    requires positive { 0 < id }
+    requires limit { id < 2 ^ 63 }
+{
+    document(rt, alloc, id, &[(&id.to_be_bytes(), &[7]), (b"pear", &[0])])
+}
+
+#[test]
+fn the_cache_holds_no_more_than_its_words(rt: HostRuntime) -> Result<(), Fail> {
+    let alloc = rt.alloc();
+    let mut cache = Cache::new(alloc);
+    for id in 1..401_u64 {
+        let made = row(&rt, alloc, id)?;
+        add_all(&rt, &mut cache, &[made])?;
+        cache.drop_until(id.saturating_sub(9));
+        assert!(rt; cache.words_len() <= 11);
+    }
+    cache.drop_until(400);
+    assert_eq!(rt; cache.words_len(), 0);
+    Ok(())
+}
+
+#[test]
+fn words_of_a_refused_plan_are_let_go_of(rt: HostRuntime) -> Result<(), Fail> {
+    let alloc = rt.alloc();
+    let mut cache = filled(&rt, alloc)?;
+    make_room(
+        &rt,
+        &mut cache,
+        &[row(&rt, alloc, 902)?, row(&rt, alloc, 903)?],
+    )?;
+    assert_eq!(rt; cache.words_len(), 6);
+    make_room(&rt, &mut cache, &[])?;
+    assert_eq!(rt; cache.words_len(), 4);
     Ok(())
 }

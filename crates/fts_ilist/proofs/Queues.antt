@@ -1,7 +1,7 @@
 -- Documents that come in at the back and leave at the front.
-use Rattle.std.proofs.Common.{◌≡◌, ◌≢◌, ℕ, ◌+◌, ◌-◌, ◌^◌, ◌<◌, ◌≤◌, List, [], ◌∷◌, ◌++◌, length, take, drop, get_or, append_assoc, Bool, cond, refl, sym, ap, subst, ◌∙◌, arith, inl, inr}
-use Rattle.std.proofs.lemmas.Bool.{cases_lt, lt-ltb, le-ltb}
-use Rattle.std.proofs.lemmas.List.{append-nil, length-drop, drop-append-le, drop-drop, drop_more, length-append, nil_from_length}
+use Rattle.std.proofs.Common.{◌≡◌, ◌↔◌, ℕ, ◌+◌, ◌-◌, ◌^◌, ◌<◌, ◌≤◌, List, [], ◌∷◌, ◌++◌, length, take, drop, get_or, append_assoc, Bool, cond, refl, sym, ap, subst, ◌∙◌, arith}
+use Rattle.std.proofs.lemmas.Bool.{lt-ltb, le-ltb}
+use Rattle.std.proofs.lemmas.List.{append-nil, length-drop, drop-append-le, drop-drop, drop_more, length-append}
 use Rattle.fts_ilist.specs.Number.{number_bytes}
 use Rattle.fts_ilist.specs.Spelling.{Posting, items_bytes, position_items, posting_items, postings_items, PositionsFrom, ArePositions, PostingsAfter, id_at_end, HasFirstId}
 use Rattle.fts_ilist.specs.Reading.{postings_in, IsTail}
@@ -14,10 +14,6 @@ use Rattle.fts_ilist.proofs.Reader.{document_bytes}
 use Rattle.fts_ilist.proofs.Tails.{none_left, posting_in, document_step, document_tail}
 
 -- ---- which documents stand behind an id
-
-below_end : (before : ℕ) (ps : List Posting) → PostingsAfter before ps → before ≤ id_at_end before ps
-below_end before [] h = omega arith
-below_end before (p ∷ ps) h = omega (arith, h.0, below_end p.id ps h.3)
 
 -- all of them
 pub all_behind : (doc before : ℕ) (ps : List Posting) → PostingsAfter before ps → doc ≤ before → postings_behind doc ps ≡ ps
@@ -33,29 +29,6 @@ all_from_first doc id before (p ∷ ps) h has lt =
     let above : doc < p.id = omega (arith, has) in
     ap (λ (b : Bool). cond b (p ∷ postings_behind doc ps) (postings_behind doc ps)) (lt-ltb doc p.id above)
     ∙ ap (λ (w : List Posting). p ∷ w) (all_behind doc p.id ps h.3 (omega arith))
-
--- none of them
-pub none_behind : (doc before : ℕ) (ps : List Posting) → PostingsAfter before ps → id_at_end before ps ≤ doc → postings_behind doc ps ≡ []
-none_behind doc before [] h le = refl
-none_behind doc before (p ∷ ps) h le =
-    let not_above : p.id ≤ doc = omega (arith, below_end p.id ps h.3) in
-    ap (λ (b : Bool). cond b (p ∷ postings_behind doc ps) (postings_behind doc ps)) (le-ltb doc p.id not_above)
-    ∙ none_behind doc p.id ps h.3 le
-
-cons_is_not_nil : (p : Posting) (ps : List Posting) → p ∷ ps ≡ [] → ⊥
-cons_is_not_nil p ps e = absurd (omega (arith, ap length e))
-
--- the last of them
-pub some_behind : (doc before : ℕ) (ps : List Posting) → PostingsAfter before ps → 0 < length ps → doc < id_at_end before ps → postings_behind doc ps ≡ [] → ⊥
-some_behind doc before [] h some lt e = absurd (omega (arith, some))
-some_behind doc before (p ∷ []) h some lt e =
-    cons_is_not_nil p [] (sym (ap (λ (b : Bool). cond b (p ∷ []) []) (lt-ltb doc p.id lt)) ∙ e)
-some_behind doc before (p ∷ (q ∷ qs)) h some lt e =
-    let rest = some_behind doc p.id (q ∷ qs) h.3 (omega arith) lt in
-    elim (cases_lt doc p.id) [
-      | inl above ↦ cons_is_not_nil p (postings_behind doc (q ∷ qs)) (sym (ap (λ (b : Bool). cond b (p ∷ postings_behind doc (q ∷ qs)) (postings_behind doc (q ∷ qs))) (lt-ltb doc p.id above)) ∙ e)
-      | inr below ↦ rest (sym (ap (λ (b : Bool). cond b (p ∷ postings_behind doc (q ∷ qs)) (postings_behind doc (q ∷ qs))) (le-ltb doc p.id below)) ∙ e)
-    ]
 
 -- ---- past the first document
 
@@ -199,31 +172,12 @@ queue_pushed bytes capacity start before last room d new more left q above limit
       view = p.view;
     }
 
-pub has_some : (bytes : List ℕ) (capacity start before last room doc : ℕ) → IsQueue bytes capacity start before last room
-    → start < length bytes → doc < last → postings_behind doc (postings_in before (drop start bytes)) ≢ []
-has_some bytes capacity start before last room doc q some above =
-    let t = q.stands.tail in
-    let ps = postings_in before (drop start bytes) in
-    let many : 0 < length ps
-    = elim (cases_lt 0 (length ps)) [
-      | inl lt ↦ lt
-      | inr none ↦ absurd (omega (arith, length-drop start bytes, ap length t.spelled, ap (λ (w : List Posting). length (items_bytes (postings_items before w))) (nil_from_length ps (omega arith))))
-    ] in
-    some_behind doc before ps t.after many (omega (arith, q.last_is))
-
-pub has_none : (bytes : List ℕ) (capacity start before last room doc : ℕ) → IsQueue bytes capacity start before last room
-    → postings_behind doc (postings_in before (drop start bytes)) ≢ [] → (start < length bytes) × (doc < last)
-has_none bytes capacity start before last room doc q some =
-    let t = q.stands.tail in
-    let ps = postings_in before (drop start bytes) in (
-      elim (cases_lt start (length bytes)) [
-        | inl lt ↦ lt
-        | inr le ↦ absurd (some (ap (postings_behind doc) (none_left before (drop start bytes) (omega (arith, length-drop start bytes)))))
-      ],
-      elim (cases_lt doc last) [
-        | inl lt ↦ lt
-        | inr le ↦ absurd (some (none_behind doc before ps t.after (omega (arith, q.last_is))))
-      ],
+-- no bytes are left exactly where there is no document
+pub empty_queue : (bytes : List ℕ) (capacity start before last room : ℕ) → IsQueue bytes capacity start before last room → (start ≡ length bytes) ↔ (postings_in before (drop start bytes) ≡ [])
+empty_queue bytes capacity start before last room q =
+    let t = q.stands.tail in (
+      λ e. none_left before (drop start bytes) (omega (arith, length-drop start bytes)),
+      λ none. omega (arith, q.stands.within, length-drop start bytes, ap length t.spelled, ap (λ (w : List Posting). length (items_bytes (postings_items before w))) none),
     )
 
 pub few_positions : (next : ℕ) (ps : List ℕ) → next ≤ 131072 → PositionsFrom next ps → length ps + next ≤ 131072

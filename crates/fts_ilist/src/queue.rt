@@ -1,5 +1,5 @@
 //! Documents that come in at the back, in room that was made for them, and leave at the front.
-ghost use Rattle.std.specs.Prelude.{◌≡◌, ◌≢◌, ◌+◌, ◌*◌, ◌^◌, ◌<◌, ◌≤◌, ◌++◌, ◌↔◌, [], ◌∷◌, length};
+ghost use Rattle.std.specs.Prelude.{◌≡◌, ◌+◌, ◌*◌, ◌^◌, ◌<◌, ◌≤◌, ◌++◌, ◌↔◌, [], ◌∷◌, length};
 ghost use Rattle.std.specs.Prelude.{drop, IsTrue, IfSome, IfNone, OnOk, OnErr, vec_len};
 ghost use Rattle.std.specs.Prelude.{vec_capacity};
 ghost use Rattle.fts_ilist.specs.Number.{number_bytes};
@@ -107,20 +107,19 @@ impl PostingQueue {
         }
     }
 
-    /// Whether it has a document above `doc`. It takes constant time.
-    pub fn has_behind(&self, doc: u64) -> bool
-        ensures { IsTrue result ↔ (postings_behind doc self.now.postings ≢ []) }
+    /// Whether it has no document. It takes constant time.
+    pub fn is_empty(&self) -> bool
+        ensures { IsTrue result ↔ (self.now.postings ≡ []) }
     {
-        self.start < self.bytes.len() && doc < self.last
+        self.start == self.bytes.len()
     }
 
-    /// The documents above `doc`, by ascending ids. They are read in place, and no memory is taken.
-    pub fn docs_behind(&self, doc: u64) -> Cursor<'_>
-        ensures documents { result ≡ postings_behind doc self.now.postings }
+    /// The documents, by ascending ids. They are read in place, and no memory is taken.
+    pub fn docs(&self) -> Cursor<'_>
+        ensures documents { result ≡ self.now.postings }
         ensures are { ArePostings result }
     {
-        let (start, last) = place_behind(&self.bytes, self.start, self.before, doc);
-        Cursor::new(last, &self.bytes[start..])
+        Cursor::new(self.before, &self.bytes[self.start..])
     }
 
     /// Gives the room up that was made and not used.

@@ -249,13 +249,13 @@ fn documents_are_copied(rt: HostRuntime) -> Result<(), Fail> {
     Ok(())
 }
 
-fn ids_of(rt: &impl Abort, queue: &PostingQueue, above: u64, expected: &[u64]) {
+fn ids_of(rt: &impl Abort, queue: &PostingQueue, expected: &[u64]) {
     let mut left = expected.iter().copied();
-    for document in queue.docs_behind(above) {
+    for document in queue.docs() {
         assert_eq!(rt; left.next(), Some(document.id()));
     }
     assert_eq!(rt; left.next(), None);
-    assert_eq!(rt; queue.has_behind(above), !expected.is_empty());
+    assert_eq!(rt; queue.is_empty(), expected.is_empty());
 }
 
 #[test]
@@ -269,16 +269,14 @@ fn a_queue_gives_what_it_took(rt: HostRuntime) -> Result<(), Fail> {
     queue.push(500, &[7, 131_071]);
     queue.reserve(2)?;
     queue.push(501, &[0, 1]);
-    ids_of(&rt, &queue, 0, &[3, 4, 500, 501]);
-    ids_of(&rt, &queue, 3, &[4, 500, 501]);
+    ids_of(&rt, &queue, &[3, 4, 500, 501]);
     queue.drop_until(4);
-    ids_of(&rt, &queue, 0, &[500, 501]);
-    ids_of(&rt, &queue, 501, &[]);
+    ids_of(&rt, &queue, &[500, 501]);
     queue.drop_until(500);
     queue.reserve(2)?;
     queue.push(9_000, &[0, 1]);
-    ids_of(&rt, &queue, 0, &[501, 9_000]);
+    ids_of(&rt, &queue, &[501, 9_000]);
     queue.drop_until(9_000);
-    ids_of(&rt, &queue, 0, &[]);
+    ids_of(&rt, &queue, &[]);
     Ok(())
 }

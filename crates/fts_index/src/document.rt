@@ -52,7 +52,8 @@ pub(crate) fn document_words(
     let mut rest = all.as_slice();
     while let Some(first) = rest.first() {
         let (run, behind) = rest.split_at(run_len(first.word, rest));
-        document.push(first.word.to_vec(alloc)?, positions(alloc, run)?)?;
+        let places = positions(alloc, run)?;
+        document.push(first.word, &places)?;
         rest = behind;
     }
     Ok(document)
