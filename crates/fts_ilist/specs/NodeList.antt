@@ -34,8 +34,7 @@ nodes_at bytes rows = map (row_docs bytes) rows
 abbrev pub nodes_size : List Docs → ℕ
 nodes_size ns = sum_by node_size ns
 
--- what contracts see of a list of nodes: the nodes, and for how many more nodes and bytes there is room, which was asked
--- for and not yet used
+-- what contracts see of a list of nodes: the nodes, and the room that was asked for and is left, in nodes and in bytes
 pub record NodeState : Type 0 where
   pub nodes : List Docs
   pub node_room : ℕ
