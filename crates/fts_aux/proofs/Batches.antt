@@ -1,20 +1,22 @@
 -- A step of the install of a batch.
-use Rattle.std.proofs.Common.{◌≡◌, ◌≢◌, ℕ, ◌≤◌, cond, List, [], ◌∷◌, ◌++◌, length, sym, ap, subst, ◌∙◌, ⊎_elim, append_assoc, arith}
-use Rattle.std.specs.List.{AllByRecursion}
+use Rattle.std.proofs.Common.{◌≡◌, ◌≢◌, ◌⊎◌, ℕ, ◌||◌, Bool, true, false, refl, cond, List, [], ◌∷◌, ◌++◌, sym, ap, subst, ◌∙◌, ⊎_elim, append_assoc}
+use Rattle.std.specs.List.{AllByRecursion, list_any}
 use Rattle.std.specs.Str.{bytes_eq}
 use Rattle.std.specs.Cmp.Lexicographic.{same_text, other_text}
 use Rattle.std.specs.declared.cmp.Ordering.TheVariants.{Less}
 use Rattle.std.specs.Ordering.{is_eq}
 use Rattle.std.proofs.lemmas.Bool.{false≢true, cases_Bool}
 use Rattle.fts_ilist.specs.Node.{Docs, NodesAfter, last_of, byte_order, nodes_for}
-use Rattle.fts_aux.specs.Tables.{Held, nodes, room}
+use Rattle.fts_aux.specs.Tables.{Held, nodes, holds, HasNoOther}
+use Rattle.fts_aux.proofs.Finds.{is_same}
 use Rattle.fts_aux.proofs.Ordered.{AllBehind, equal_itself}
+use Rattle.std.specs.Map.{keys_of}
 
 apart_from : (w q : List ℕ) → byte_order w q ≡ Less → q ≢ w
 apart_from w q less e = false≢true (sym (ap is_eq less) ∙ ap (λ z. is_eq (byte_order w z)) e ∙ equal_itself w)
 
 module _ (held held' : Held) (word : List ℕ) (added : List Docs) (here : nodes held' word ≡ nodes held word ++ added)
-    (others : (q : List ℕ) → q ≢ word → nodes held' q ≡ nodes held q) (rooms : (q : List ℕ) → q ≢ word → room held' q ≡ room held q) where
+    (others : (q : List ℕ) → q ≢ word → nodes held' q ≡ nodes held q) where
   pub nodes_step : (rest : List (List ℕ × List Docs)) (w : List ℕ) → nodes held' w ++ nodes_for w rest ≡ nodes held w ++ nodes_for w ((word, added) ∷ rest)
   nodes_step rest w =
       ⊎_elim
@@ -26,11 +28,27 @@ module _ (held held' : Held) (word : List ℕ) (added : List Docs) (here : nodes
       ∙ sym (ap (λ b. nodes held w ++ (cond b added [] ++ nodes_for w rest)) other))
       (cases_Bool (bytes_eq w word))
 
-  pub room_step : (rest : List (List ℕ × List Docs)) → AllBehind word rest → AllByRecursion (λ g. length g.1 ≤ room held g.0) rest → AllByRecursion (λ g. length g.1 ≤ room held' g.0) rest
-  room_step [] behind h = tt
-  room_step (g ∷ gs) behind h = (omega (arith, h.0, rooms g.0 (apart_from word g.0 behind.0)), room_step gs behind.1 h.1)
-
   pub after_step : (rest : List (List ℕ × List Docs)) → AllBehind word rest → AllByRecursion (λ g. NodesAfter (last_of 0 (nodes held g.0)) g.1) rest → AllByRecursion (λ g. NodesAfter (last_of 0 (nodes held' g.0)) g.1) rest
   after_step [] behind h = tt
   after_step (g ∷ gs) behind h =
       (subst (λ ns. NodesAfter (last_of 0 ns) g.1) (sym (others g.0 (apart_from word g.0 behind.0))) h.0, after_step gs behind.1 h.1)
+
+any_more : (a b : Bool) → b ≡ true → (a || b) ≡ true
+any_more true b e = refl
+any_more false b e = e
+
+-- a word of the rest of a batch is one of the batch
+pub among_more : (rest behind batch : List (List ℕ × List Docs)) (g : List ℕ × List Docs) → rest ≡ g ∷ behind → ((w : List ℕ) → list_any (bytes_eq w) (keys_of rest) ≡ true → list_any (bytes_eq w) (keys_of batch) ≡ true)
+    → (w : List ℕ) → list_any (bytes_eq w) (keys_of behind) ≡ true → list_any (bytes_eq w) (keys_of batch) ≡ true
+among_more rest behind batch g parts among w e = among w (ap (λ (b : List (List ℕ × List Docs)). list_any (bytes_eq w) (keys_of b)) parts ∙ any_more (bytes_eq w g.0) (list_any (bytes_eq w) (keys_of behind)) e)
+
+-- room was made for the first group of the rest
+pub no_other : (held held' : Held) (rest behind batch : List (List ℕ × List Docs)) (g : List ℕ × List Docs) → rest ≡ g ∷ behind
+    → ((w : List ℕ) → list_any (bytes_eq w) (keys_of rest) ≡ true → list_any (bytes_eq w) (keys_of batch) ≡ true)
+    → ((w : List ℕ) → nodes held' w ≡ nodes held w) → ((w : List ℕ) → holds held' w ≡ true → (holds held w ≡ true) ⊎ (w ≡ g.0)) → HasNoOther held batch → HasNoOther held' batch
+no_other held held' rest behind batch g parts among stay are has w k none =
+    ⊎_elim
+    (λ was. has w was (sym (stay w) ∙ none))
+    (λ it. among w (ap (λ (b : List (List ℕ × List Docs)). list_any (bytes_eq w) (keys_of b)) parts
+    ∙ ap (λ b. b || list_any (bytes_eq w) (keys_of behind)) (subst (λ z. bytes_eq w z ≡ true) it (is_same w))))
+    (are w k)

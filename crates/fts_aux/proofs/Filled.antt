@@ -1,6 +1,5 @@
 -- Words with nodes among entries.
 use Rattle.std.proofs.Common.{◌≡◌, ℕ, true, cond, List, [], ◌∷◌, ◌++◌, refl, sym, ap, ◌∙◌, append_assoc}
-use Rattle.std.specs.declared.vec.Vec.{Vec}
 use Rattle.fts_ilist.specs.Node.{Docs}
 use Rattle.fts_aux.specs.Table.{filled, filled_as, begins, front}
 
@@ -9,14 +8,14 @@ filled_as_more w [] rest = refl
 filled_as_more w (n ∷ ns) rest = refl
 
 -- a step of the loop that takes words with a prefix
-pub taken : {Z : Type 0} (p : List ℕ) (before after : List (List ℕ × Vec Docs Z)) (w : List ℕ) (v : Vec Docs Z) (done all : List (List ℕ × List Docs))
+pub taken : (p : List ℕ) (before after : List (List ℕ × List Docs)) (w : List ℕ) (v : List Docs) (done all : List (List ℕ × List Docs))
     → before ≡ (w, v) ∷ after → begins p w ≡ true
     → done ++ filled (front p before) ≡ all
-    → (done ++ filled_as w v.items []) ++ filled (front p after) ≡ all
+    → (done ++ filled_as w v []) ++ filled (front p after) ≡ all
 taken p before after w v done all parts passes so =
     let rest = filled (front p after) in
-    append_assoc done (filled_as w v.items []) rest
-    ∙ ap (λ r. done ++ r) (filled_as_more w v.items rest)
+    append_assoc done (filled_as w v []) rest
+    ∙ ap (λ r. done ++ r) (filled_as_more w v rest)
     ∙ ap (λ b. done ++ filled (cond b ((w, v) ∷ front p after) [])) (sym passes)
     ∙ ap (λ es. done ++ filled (front p es)) (sym parts)
     ∙ so

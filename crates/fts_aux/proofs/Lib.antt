@@ -1,8 +1,12 @@
-mod Ascending
-mod Filled
+mod Finds
+mod Ends
 mod Ordered
+mod Kept
+mod Filled
 mod Prefixed
-mod Changes
+mod Seen
 mod Places
 mod Nexts
 mod Batches
+mod Rooms
+mod Ascending

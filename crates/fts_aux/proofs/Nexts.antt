@@ -1,5 +1,5 @@
 -- The next word over several tables.
-use Rattle.std.proofs.Common.{◌≡◌, ◌≢◌, ℕ, ◌+◌, ◌<◌, ◌≤◌, ◌==◌, suc, zero, slice_index, true, false, cond, ◌&&◌, List, [], ◌∷◌, Option, Some, None, length, map, get_or, drop, nat_eq, refl, sym, ap, subst, ◌∙◌, ⊎_elim, arith}
+use Rattle.std.proofs.Common.{◌≡◌, ◌≢◌, ℕ, ◌+◌, ◌<◌, ◌≤◌, ◌==◌, suc, zero, slice_index, true, false, cond, ◌&&◌, List, [], ◌∷◌, Option, Some, None, length, get_or, drop, nat_eq, refl, sym, ap, subst, ◌∙◌, ⊎_elim, arith}
 use Rattle.std.specs.List.{AllByRecursion}
 use Rattle.std.specs.Option.{IfSome, IfNone}
 use Rattle.std.specs.declared.cmp.Ordering.{Ordering}
@@ -9,12 +9,11 @@ use Rattle.std.specs.Cmp.{nat_cmp_is}
 use Rattle.std.specs.Cmp.Lexicographic.{nat_list_cmp_total}
 use Rattle.std.proofs.lemmas.Bool.{false≢true, cases_Bool, cases_lt, cases_eq, eqb-true, ne_eqb, eq-eqb}
 use Rattle.fts_types.specs.Table.{table_of}
-use Rattle.fts_aux.specs.declared.table.Table.{Table}
 use Rattle.fts_ilist.specs.Node.{Docs, byte_order}
-use Rattle.fts_aux.specs.Table.{nodes_in, begins, IsNext, IsLast, IsListing}
-use Rattle.fts_aux.specs.Tables.{Held, shown, nodes, nodes_from, PlacedFrom, AreTables, IsNextIn, IsLastIn}
+use Rattle.fts_aux.specs.Table.{Entries, nodes_in, begins, IsNext, IsLast, IsListing}
+use Rattle.fts_aux.specs.Tables.{Held, nodes, nodes_from, PlacedFrom, AreTables, IsNextIn, IsLastIn}
 use Rattle.fts_types.proofs.Partition.{first_rises, tables_rise_to_z, high_table}
-use Rattle.fts_aux.proofs.Places.{nodes_seen, own_nodes, placed_at}
+use Rattle.fts_aux.proofs.Places.{own_nodes, placed_at}
 
 -- ---- what an option says
 
@@ -53,7 +52,7 @@ low_of v other = ⊎_elim (λ high. absurd (other (high_table v high))) (λ low.
 
 -- ---- some of the tables
 
-from_below : (k : ℕ) (ts : List Table) (q : List ℕ) → nodes_from k ts q ≢ [] → k ≤ table_of q
+from_below : (k : ℕ) (ts : List Entries) (q : List ℕ) → nodes_from k ts q ≢ [] → k ≤ table_of q
 from_below k [] q some = absurd (some refl)
 from_below k (t ∷ ts) q some =
     ⊎_elim
@@ -61,7 +60,7 @@ from_below k (t ∷ ts) q some =
     (λ there. omega (arith, from_below (suc k) ts q (λ none. some (ap (λ b. cond b (nodes_in t q) (nodes_from (suc k) ts q)) there ∙ none))))
     (cases_Bool (table_of q == k))
 
-from_drop : (k j : ℕ) (ts : List Table) (q : List ℕ) → k + j ≤ table_of q → nodes_from k ts q ≡ nodes_from (k + j) (drop j ts) q
+from_drop : (k j : ℕ) (ts : List Entries) (q : List ℕ) → k + j ≤ table_of q → nodes_from k ts q ≡ nodes_from (k + j) (drop j ts) q
 from_drop k zero ts q le = let same : k ≡ k + 0 = omega arith in ap (λ n. nodes_from n ts q) same
 from_drop k (suc j) [] q le = refl
 from_drop k (suc j) (t ∷ ts) q le =
@@ -69,16 +68,16 @@ from_drop k (suc j) (t ∷ ts) q le =
     ap (λ b. cond b (nodes_in t q) (nodes_from (suc k) ts q)) (ne_eqb (table_of q) k (λ e. omega (arith, e, le)))
     ∙ from_drop (suc k) j ts q (omega (arith, le)) ∙ ap (λ n. nodes_from n (drop j ts) q) same
 
-placed_drop : (k j : ℕ) (ts : List Table) → PlacedFrom k ts → PlacedFrom (k + j) (drop j ts)
+placed_drop : (k j : ℕ) (ts : List Entries) → PlacedFrom k ts → PlacedFrom (k + j) (drop j ts)
 placed_drop k zero ts p = let same : k ≡ k + 0 = omega arith in subst (λ n. PlacedFrom n ts) same p
 placed_drop k (suc j) [] p = tt
 placed_drop k (suc j) (t ∷ ts) p = let same : suc k + j ≡ k + suc j = omega arith in subst (λ n. PlacedFrom n (drop j ts)) same (placed_drop (suc k) j ts p.1)
 
-next_place : (k : ℕ) (ts : List Table) (w n : List ℕ) → PlacedFrom k ts → IsNextIn ts w n → k ≤ table_of n
+next_place : (k : ℕ) (ts : List Entries) (w n : List ℕ) → PlacedFrom k ts → IsNextIn ts w n → k ≤ table_of n
 next_place k [] w n p is = elim is [ ]
 next_place k (t ∷ ts) w n p is = ⊎_elim (λ here. omega (arith, p.0 n here.inside)) (λ there. omega (arith, next_place (suc k) ts w n p.1 there.1)) is
 
-next_inside : (k : ℕ) (ts : List Table) (w n : List ℕ) → PlacedFrom k ts → IsNextIn ts w n → nodes_from k ts n ≢ []
+next_inside : (k : ℕ) (ts : List Entries) (w n : List ℕ) → PlacedFrom k ts → IsNextIn ts w n → nodes_from k ts n ≢ []
 next_inside k [] w n p is = elim is [ ]
 next_inside k (t ∷ ts) w n p is =
     ⊎_elim
@@ -86,11 +85,11 @@ next_inside k (t ∷ ts) w n p is =
     (λ there none. next_inside (suc k) ts w n p.1 there.1 (sym (ap (λ b. cond b (nodes_in t n) (nodes_from (suc k) ts n)) (ne_eqb (table_of n) k (λ e. omega (arith, e, next_place (suc k) ts w n p.1 there.1)))) ∙ none))
     is
 
-next_behind : (ts : List Table) (w n : List ℕ) → IsNextIn ts w n → byte_order w n ≡ Less
+next_behind : (ts : List Entries) (w n : List ℕ) → IsNextIn ts w n → byte_order w n ≡ Less
 next_behind [] w n is = elim is [ ]
 next_behind (t ∷ ts) w n is = ⊎_elim (λ here. here.after) (λ there. next_behind ts w n there.1) is
 
-next_least : (k : ℕ) (ts : List Table) (w n : List ℕ) → PlacedFrom k ts → IsNextIn ts w n → (q : List ℕ) → byte_order w q ≡ Less → table_of q ≤ table_of n → nodes_from k ts q ≢ [] → is_gt (byte_order n q) ≡ false
+next_least : (k : ℕ) (ts : List Entries) (w n : List ℕ) → PlacedFrom k ts → IsNextIn ts w n → (q : List ℕ) → byte_order w q ≡ Less → table_of q ≤ table_of n → nodes_from k ts q ≢ [] → is_gt (byte_order n q) ≡ false
 next_least k [] w n p is q less le some = elim is [ ]
 next_least k (t ∷ ts) w n p is q less le some =
     ⊎_elim
@@ -107,14 +106,14 @@ next_least k (t ∷ ts) w n p is q less le some =
     is)
     (cases_Bool (table_of q == k))
 
-none_in : (k : ℕ) (ts : List Table) (w : List ℕ) → IsLastIn ts w → (q : List ℕ) → byte_order w q ≡ Less → nodes_from k ts q ≡ []
+none_in : (k : ℕ) (ts : List Entries) (w : List ℕ) → IsLastIn ts w → (q : List ℕ) → byte_order w q ≡ Less → nodes_from k ts q ≡ []
 none_in k [] w last q less = refl
 none_in k (t ∷ ts) w last q less =
     elim (table_of q == k) as (λ b. cond b (nodes_in t q) (nodes_from (suc k) ts q) ≡ []) [ true ↦ last.0 q less | false ↦ none_in (suc k) ts w last.1 q less ]
 
 -- ---- over all tables, by the table of the word
 
-module _ (ts : List Table) (held : Held) (seen : map shown ts ≡ held) (are : AreTables ts) (w : List ℕ) (i : ℕ) (few : i < 6) (place : i + 1 ≡ table_of w) (d : Table) where
+module _ (ts : List Entries) (held : Held) (seen : ts ≡ held) (are : AreTables ts) (w : List ℕ) (i : ℕ) (few : i < 6) (place : i + 1 ≡ table_of w) (d : Entries) where
   abbrev own : List ℕ → List Docs
   own q = nodes_in (get_or ts i d) q
 
@@ -165,11 +164,11 @@ module _ (ts : List Table) (held : Held) (seen : map shown ts ≡ held) (are : A
   pub low_past : (n : List ℕ) → 122 < slice_index n 0 → IsNext own w n → NoneLow
   low_past n high is q less low = nothing_left (own q) (λ some. false≢true (sym (is.least q less some) ∙ first_above n q (omega (arith, high, low))))
 
-  abbrev later : List Table
+  abbrev later : List Entries
   later = drop (i + 1) ts
 
   in_later : (q : List ℕ) → 1 + (i + 1) ≤ table_of q → nodes held q ≡ nodes_from (1 + (i + 1)) later q
-  in_later q le = nodes_seen ts held seen q ∙ from_drop 1 (i + 1) ts q le
+  in_later q le = ap (λ h. nodes_from 1 h q) (sym seen) ∙ from_drop 1 (i + 1) ts q le
 
   pub found_later : NoneLow → (n : List ℕ) → IsNextIn later w n → IsNext (nodes held) w n
   found_later none_low n is =
@@ -200,13 +199,13 @@ module _ (ts : List Table) (held : Held) (seen : map shown ts ≡ held) (are : A
       (λ apart. in_later q (omega (arith, apart, from, place)) ∙ none_in (1 + (i + 1)) later w last q less)
       (cases_eq (table_of q) (table_of w))
 
-  abbrev first : Table → List ℕ → List Docs
+  abbrev first : Entries → List ℕ → List Docs
   first e q = nodes_in (get_or ts 0 e) q
 
-  in_first : (e : Table) (q : List ℕ) → table_of q ≡ 1 → nodes held q ≡ first e q
+  in_first : (e : Entries) (q : List ℕ) → table_of q ≡ 1 → nodes held q ≡ first e q
   in_first e q one = own_nodes ts held seen are 0 (omega arith) e q (sym one)
 
-  pub found_first : NoneLow → IsLastIn later w → (e : Table) (n : List ℕ) → IsNext (first e) w n → IsNext (nodes held) w n
+  pub found_first : NoneLow → IsLastIn later w → (e : Entries) (n : List ℕ) → IsNext (first e) w n → IsNext (nodes held) w n
   found_first none_low last e n is = record {
     inside = λ none. is.inside (sym (in_first e n (omega (arith, placed_at 1 0 ts e are.placed (omega (arith, are.six)) n is.inside))) ∙ none);
     after = is.after;
@@ -216,7 +215,7 @@ module _ (ts : List Table) (held : Held) (seen : map shown ts ≡ held) (are : A
         (cases_eq (table_of q) 1);
   }
 
-  pub none_first : NoneLow → IsLastIn later w → (e : Table) → IsLast (first e) w → IsLast (nodes held) w
+  pub none_first : NoneLow → IsLastIn later w → (e : Entries) → IsLast (first e) w → IsLast (nodes held) w
   none_first none_low last e last_first q less =
       ⊎_elim
       (λ one. in_first e q one ∙ last_first q less)
@@ -247,7 +246,7 @@ listing_over p l f g same is =
 
 -- ---- no words
 
-pub nothing_in : (k : ℕ) (ts : List Table) → AllByRecursion (λ t. (w : List ℕ) → nodes_in t w ≡ []) ts → (w : List ℕ) → nodes_from k ts w ≡ []
+pub nothing_in : (k : ℕ) (ts : List Entries) → AllByRecursion (λ t. (w : List ℕ) → nodes_in t w ≡ []) ts → (w : List ℕ) → nodes_from k ts w ≡ []
 nothing_in k [] h w = refl
 nothing_in k (t ∷ ts) h w =
     elim (table_of w == k) as (λ b. cond b (nodes_in t w) (nodes_from (suc k) ts w) ≡ []) [ true ↦ h.0 w | false ↦ nothing_in (suc k) ts h.1 w ]

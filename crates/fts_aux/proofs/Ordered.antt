@@ -9,14 +9,16 @@ use Rattle.std.specs.declared.cmp.Ordering.{Ordering}
 use Rattle.std.specs.declared.cmp.Ordering.TheVariants.{Less, Equal, Greater}
 use Rattle.std.specs.Ordering.{is_eq, is_lt, is_gt}
 use Rattle.std.specs.Cmp.Lexicographic.{texts_ties, nat_list_eq_equiv}
-use Rattle.std.specs.declared.vec.Vec.{Vec}
-use Rattle.std.proofs.lemmas.Bool.{false≢true, cases_Bool}
+use Rattle.std.proofs.lemmas.Bool.{false≢true, true≢false, cases_Bool}
 use Rattle.std.proofs.lemmas.Option.{none-some}
 use Rattle.std.proofs.lemmas.Map.Keys.{sorted_head, sorted_tail}
 use Rattle.std.proofs.lemmas.Map.Entries.{lookup-filter-keys}
 use Rattle.std.proofs.lemmas.Map.Lookups.{exact_bytes}
 use Rattle.fts_ilist.specs.Node.{Docs, byte_order}
-use Rattle.fts_aux.specs.Table.{items_of, filled, filled_as, nodes_at, IsNext, IsLast}
+use Rattle.fts_aux.specs.Table.{filled, filled_as, nodes_at, IsNext, IsLast}
+
+abbrev nodes_or : Option (List Docs) → List Docs
+nodes_or o = unwrap_or o []
 
 module _ {X : Type 0} where
   -- all words are behind w
@@ -81,26 +83,26 @@ same_word w q e = exact_bytes w q (is_Equal (byte_order w q) e)
 
 -- ---- words with nodes
 
-behind-filled : {Z : Type 0} (w : List ℕ) (es : List (List ℕ × Vec Docs Z)) → AllBehind w es → AllBehind w (filled es)
+behind-filled : (w : List ℕ) (es : List (List ℕ × List Docs)) → AllBehind w es → AllBehind w (filled es)
 behind-filled w [] h = tt
 behind-filled w (e ∷ es) h =
-    elim (e.1.items) as (λ ns. AllBehind w (filled_as e.0 ns (filled es))) [
+    elim (e.1) as (λ ns. AllBehind w (filled_as e.0 ns (filled es))) [
       | [] ↦ behind-filled w es h.1
       | n ∷ ns ↦ (h.0, behind-filled w es h.1)
     ]
 
-pub ascends-filled : {Z : Type 0} (es : List (List ℕ × Vec Docs Z)) → Ascends es → Ascends (filled es)
+pub ascends-filled : (es : List (List ℕ × List Docs)) → Ascends es → Ascends (filled es)
 ascends-filled [] h = tt
 ascends-filled (e ∷ es) h =
-    elim (e.1.items) as (λ ns. Ascends (filled_as e.0 ns (filled es))) [
+    elim (e.1) as (λ ns. Ascends (filled_as e.0 ns (filled es))) [
       | [] ↦ ascends-filled es h.1
       | n ∷ ns ↦ (behind-filled e.0 es h.0, ascends-filled es h.1)
     ]
 
-pub all_filled : {Z : Type 0} (es : List (List ℕ × Vec Docs Z)) → AllByRecursion (λ e. e.1 ≢ []) (filled es)
+pub all_filled : (es : List (List ℕ × List Docs)) → AllByRecursion (λ e. e.1 ≢ []) (filled es)
 all_filled [] = tt
 all_filled (e ∷ es) =
-    elim (e.1.items) as (λ ns. AllByRecursion (λ e. e.1 ≢ []) (filled_as e.0 ns (filled es))) [
+    elim (e.1) as (λ ns. AllByRecursion (λ e. e.1 ≢ []) (filled_as e.0 ns (filled es))) [
       | [] ↦ all_filled es
       | n ∷ ns ↦ ((λ none. absurd (cc)), all_filled es)
     ]
@@ -111,11 +113,11 @@ some_picked b v rest e = ap (λ c. unwrap_or (cond c (Some v) rest) []) e
 some_missed : (b : Bool) (v : List Docs) (rest : Option (List Docs)) → b ≡ false → unwrap_or (cond b (Some v) rest) [] ≡ unwrap_or rest []
 some_missed b v rest e = ap (λ c. unwrap_or (cond c (Some v) rest) []) e
 
-items_picked : {Z : Type 0} (b : Bool) (v : Vec Docs Z) (rest : Option (Vec Docs Z)) → b ≡ true → items_of (cond b (Some v) rest) ≡ v.items
-items_picked b v rest e = ap (λ c. items_of (cond c (Some v) rest)) e
+items_picked : (b : Bool) (v : List Docs) (rest : Option (List Docs)) → b ≡ true → nodes_or (cond b (Some v) rest) ≡ v
+items_picked b v rest e = ap (λ c. nodes_or (cond c (Some v) rest)) e
 
-items_missed : {Z : Type 0} (b : Bool) (v : Vec Docs Z) (rest : Option (Vec Docs Z)) → b ≡ false → items_of (cond b (Some v) rest) ≡ items_of rest
-items_missed b v rest e = ap (λ c. items_of (cond c (Some v) rest)) e
+items_missed : (b : Bool) (v : List Docs) (rest : Option (List Docs)) → b ≡ false → nodes_or (cond b (Some v) rest) ≡ nodes_or rest
+items_missed b v rest e = ap (λ c. nodes_or (cond c (Some v) rest)) e
 
 first_filled_as : (q w : List ℕ) (ns : List Docs) (rest : List (List ℕ × List Docs)) → is_eq (byte_order q w) ≡ true → nodes_at q rest ≡ [] → nodes_at q (filled_as w ns rest) ≡ ns
 first_filled_as q w [] rest found none = none
@@ -126,24 +128,24 @@ later_filled_as q w [] rest missed = refl
 later_filled_as q w (m ∷ ms) rest missed = some_missed (is_eq (byte_order q w)) (m ∷ ms) (lookup (is_at (byte_order q)) rest) missed
 
 -- a word's nodes among the words with nodes are those that it has among the entries
-pub nodes_at-filled : {Z : Type 0} (q : List ℕ) (es : List (List ℕ × Vec Docs Z)) → Ascends es → nodes_at q (filled es) ≡ items_of (lookup (is_at (byte_order q)) es)
+pub nodes_at-filled : (q : List ℕ) (es : List (List ℕ × List Docs)) → Ascends es → nodes_at q (filled es) ≡ nodes_or (lookup (is_at (byte_order q)) es)
 nodes_at-filled q [] h = refl
-nodes_at-filled {Z} q (e ∷ es) h =
-    let rest : Option (Vec Docs Z) = lookup (is_at (byte_order q)) es in
+nodes_at-filled q (e ∷ es) h =
+    let rest : Option (List Docs) = lookup (is_at (byte_order q)) es in
     ⊎_elim
-    (λ found. let none : nodes_at q (filled es) ≡ [] = nodes_at-filled q es h.1 ∙ ap items_of (not_behind e.0 q es h.0 (sym (same_word q e.0 found))) in
-    first_filled_as q e.0 e.1.items (filled es) found none ∙ sym (items_picked (is_eq (byte_order q e.0)) e.1 rest found))
-    (λ missed. later_filled_as q e.0 e.1.items (filled es) missed ∙ nodes_at-filled q es h.1 ∙ sym (items_missed (is_eq (byte_order q e.0)) e.1 rest missed))
+    (λ found. let none : nodes_at q (filled es) ≡ [] = nodes_at-filled q es h.1 ∙ ap nodes_or (not_behind e.0 q es h.0 (sym (same_word q e.0 found))) in
+    first_filled_as q e.0 e.1 (filled es) found none ∙ sym (items_picked (is_eq (byte_order q e.0)) e.1 rest found))
+    (λ missed. later_filled_as q e.0 e.1 (filled es) missed ∙ nodes_at-filled q es h.1 ∙ sym (items_missed (is_eq (byte_order q e.0)) e.1 rest missed))
     (cases_Bool (is_eq (byte_order q e.0)))
 
-items_cond : {Z : Type 0} (b : Bool) (o : Option (Vec Docs Z)) → items_of (cond b o None) ≡ cond b (items_of o) []
+items_cond : (b : Bool) (o : Option (List Docs)) → nodes_or (cond b o None) ≡ cond b (nodes_or o) []
 items_cond true o = refl
 items_cond false o = refl
 
 -- what a part of the entries has for a word
-pub items-filter : {Z : Type 0} (p : List ℕ → Bool) (q : List ℕ) (es : List (List ℕ × Vec Docs Z)) → items_of (lookup (is_at (byte_order q)) (filter (λ e. p e.0) es)) ≡ cond (p q) (items_of (lookup (is_at (byte_order q)) es)) []
+pub items-filter : (p : List ℕ → Bool) (q : List ℕ) (es : List (List ℕ × List Docs)) → nodes_or (lookup (is_at (byte_order q)) (filter (λ e. p e.0) es)) ≡ cond (p q) (nodes_or (lookup (is_at (byte_order q)) es)) []
 items-filter p q es =
-    ap items_of (lookup-filter-keys (is_at (byte_order q)) p (p q) (λ k t. ap p (sym (same_word q k t))) es) ∙ items_cond (p q) (lookup (is_at (byte_order q)) es)
+    ap nodes_or (lookup-filter-keys (is_at (byte_order q)) p (p q) (λ k t. ap p (sym (same_word q k t))) es) ∙ items_cond (p q) (lookup (is_at (byte_order q)) es)
 
 -- ---- the next word
 
@@ -179,9 +181,9 @@ cond_true : (b : Bool) (ns : List Docs) → cond b ns [] ≢ [] → b ≡ true
 cond_true true ns some = refl
 cond_true false ns some = absurd (some refl)
 
-module _ {Z : Type 0} (w : List ℕ) (es : List (List ℕ × Vec Docs Z)) (up : Ascends es) where
+module _ (w : List ℕ) (es : List (List ℕ × List Docs)) (up : Ascends es) where
   abbrev nodes : List ℕ → List Docs
-  nodes q = items_of (lookup (is_at (byte_order q)) es)
+  nodes q = nodes_or (lookup (is_at (byte_order q)) es)
 
   abbrev rest : List (List ℕ × List Docs)
   rest = filled (filter (λ e. is_behind w e.0) es)
@@ -216,3 +218,14 @@ module _ {Z : Type 0} (w : List ℕ) (es : List (List ℕ × Vec Docs Z)) (up : 
 
 pub equal_itself : (w : List ℕ) → is_eq (byte_order w w) ≡ true
 equal_itself w = ap is_eq (itself w)
+
+pub apart_in_order : (w q : List ℕ) → q ≢ w → is_eq (byte_order w q) ≡ false
+apart_in_order w q apart = ⊎_elim (λ (same : is_eq (byte_order w q) ≡ true). absurd (apart (sym (same_word w q same)))) (λ (other : is_eq (byte_order w q) ≡ false). other) (cases_Bool (is_eq (byte_order w q)))
+
+-- a fact on what stands at each word holds at w and at the others
+pub everywhere : (w q : List ℕ) (P : List ℕ → Type 0) → P w → (q ≢ w → P q) → P q
+everywhere w q P here others =
+    ⊎_elim
+    (λ same. subst P (same_word w q same) here)
+    (λ other. others (λ e. true≢false (sym (ap (λ z. is_eq (byte_order w z)) e ∙ equal_itself w) ∙ other)))
+    (cases_Bool (is_eq (byte_order w q)))

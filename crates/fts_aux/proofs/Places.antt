@@ -1,24 +1,17 @@
 -- Six tables, each with its own words.
-use Rattle.std.proofs.Common.{◌≡◌, ◌≢◌, ℕ, ◌+◌, ◌-◌, ◌<◌, ◌≤◌, ◌==◌, suc, zero, length-set, Bool, true, false, cond, List, [], ◌∷◌, ◌++◌, Option, Some, length, map, get_or, set, refl, sym, ap, subst, ◌∙◌, arith}
-use Rattle.std.specs.Map.{lookup}
-use Rattle.std.specs.BTreeMap.{is_at}
-use Rattle.std.specs.Ordering.{is_eq}
-use Rattle.std.specs.Vec.{vec_len, vec_capacity}
-use Rattle.std.specs.declared.vec.Vec.{Vec}
+use Rattle.std.proofs.Common.{◌≡◌, ◌≢◌, ℕ, ◌+◌, ◌<◌, ◌≤◌, ◌==◌, suc, zero, length-set, false, cond, List, [], ◌∷◌, ◌++◌, length, get_or, set, refl, sym, ap, subst, ◌∙◌, arith}
 use Rattle.std.proofs.lemmas.Bool.{ne_eqb, eq-eqb}
 use Rattle.fts_types.specs.Table.{table_of}
-use Rattle.fts_aux.specs.declared.table.Table.{Table}
 use Rattle.fts_ilist.specs.Node.{Docs, NodesAfter, last_of}
-use Rattle.fts_ilist.specs.Node.{byte_order}
-use Rattle.fts_aux.specs.Table.{items_of, spare_of, nodes_in, room_in}
-use Rattle.fts_aux.specs.Tables.{Held, shown, entry_from, nodes_or_none, room_or_none, nodes, room, from_table, nodes_from, room_from, PlacedFrom, AreTables}
-use Rattle.fts_aux.proofs.Changes.{everywhere}
+use Rattle.fts_aux.specs.Table.{Entries, nodes_in}
+use Rattle.fts_aux.specs.Tables.{Held, nodes, from_table, nodes_from, PlacedFrom, AreTables}
+use Rattle.fts_aux.proofs.Ordered.{everywhere}
 
-module _ {A : Type 0} (has : Table → List ℕ → A) (none : A) where
-  abbrev from : ℕ → List Table → List ℕ → A
+module _ {A : Type 0} (has : Entries → List ℕ → A) (none : A) where
+  abbrev from : ℕ → List Entries → List ℕ → A
   from k ts w = from_table has none k ts w
 
-  pub at_place : (k i : ℕ) (ts : List Table) (d : Table) (w : List ℕ) → i < length ts → k + i ≡ table_of w → from k ts w ≡ has (get_or ts i d) w
+  pub at_place : (k i : ℕ) (ts : List Entries) (d : Entries) (w : List ℕ) → i < length ts → k + i ≡ table_of w → from k ts w ≡ has (get_or ts i d) w
   at_place k i [] d w lt e = absurd (omega (arith, lt))
   at_place k zero (t ∷ ts) d w lt e =
       ap (λ b. cond b (has t w) (from (suc k) ts w)) (eq-eqb (table_of w) k (omega (arith, e)))
@@ -26,7 +19,7 @@ module _ {A : Type 0} (has : Table → List ℕ → A) (none : A) where
       ap (λ b. cond b (has t w) (from (suc k) ts w)) (ne_eqb (table_of w) k (λ z. omega (arith, e, z)))
       ∙ at_place (suc k) i ts d w (omega (arith, lt)) (omega (arith, e))
 
-  pub at_set : (k i : ℕ) (ts : List Table) (t' : Table) (w : List ℕ) → i < length ts → k + i ≡ table_of w → from k (set ts i t') w ≡ has t' w
+  pub at_set : (k i : ℕ) (ts : List Entries) (t' : Entries) (w : List ℕ) → i < length ts → k + i ≡ table_of w → from k (set ts i t') w ≡ has t' w
   at_set k i [] t' w lt e = absurd (omega (arith, lt))
   at_set k zero (t ∷ ts) t' w lt e =
       ap (λ b. cond b (has t' w) (from (suc k) ts w)) (eq-eqb (table_of w) k (omega (arith, e)))
@@ -34,78 +27,27 @@ module _ {A : Type 0} (has : Table → List ℕ → A) (none : A) where
       ap (λ b. cond b (has t w) (from (suc k) (set ts i t') w)) (ne_eqb (table_of w) k (λ z. omega (arith, e, z)))
       ∙ at_set (suc k) i ts t' w (omega (arith, lt)) (omega (arith, e))
 
-  pub off_set : (k i : ℕ) (ts : List Table) (d t' : Table) (q : List ℕ) → has t' q ≡ has (get_or ts i d) q → from k (set ts i t') q ≡ from k ts q
+  pub off_set : (k i : ℕ) (ts : List Entries) (d t' : Entries) (q : List ℕ) → has t' q ≡ has (get_or ts i d) q → from k (set ts i t') q ≡ from k ts q
   off_set k i [] d t' q e = refl
   off_set k zero (t ∷ ts) d t' q e = ap (λ x. cond (table_of q == k) x (from (suc k) ts q)) e
   off_set k (suc i) (t ∷ ts) d t' q e = ap (λ x. cond (table_of q == k) (has t q) x) (off_set (suc k) i ts d t' q e)
 
-pub placed_at : (k i : ℕ) (ts : List Table) (d : Table) → PlacedFrom k ts → i < length ts → (w : List ℕ) → nodes_in (get_or ts i d) w ≢ [] → table_of w ≡ k + i
+  pub off_table : (k i : ℕ) (ts : List Entries) (t' : Entries) (q : List ℕ) → table_of q ≢ k + i → from k (set ts i t') q ≡ from k ts q
+  off_table k i [] t' q apart = refl
+  off_table k zero (t ∷ ts) t' q apart =
+      let off : (table_of q == k) ≡ false = ne_eqb (table_of q) k (λ e. apart (omega (arith, e))) in
+      ap (λ b. cond b (has t' q) (from (suc k) ts q)) off ∙ sym (ap (λ b. cond b (has t q) (from (suc k) ts q)) off)
+  off_table k (suc i) (t ∷ ts) t' q apart = ap (λ x. cond (table_of q == k) (has t q) x) (off_table (suc k) i ts t' q (λ e. apart (omega (arith, e))))
+
+pub placed_at : (k i : ℕ) (ts : List Entries) (d : Entries) → PlacedFrom k ts → i < length ts → (w : List ℕ) → nodes_in (get_or ts i d) w ≢ [] → table_of w ≡ k + i
 placed_at k i [] d p lt w some = absurd (omega (arith, lt))
 placed_at k zero (t ∷ ts) d p lt w some = omega (arith, p.0 w some)
 placed_at k (suc i) (t ∷ ts) d p lt w some = omega (arith, placed_at (suc k) i ts d p.1 (omega (arith, lt)) w some)
 
-placed_set : (k i : ℕ) (ts : List Table) (t' : Table) → PlacedFrom k ts → ((w : List ℕ) → nodes_in t' w ≢ [] → table_of w ≡ k + i) → PlacedFrom k (set ts i t')
+placed_set : (k i : ℕ) (ts : List Entries) (t' : Entries) → PlacedFrom k ts → ((w : List ℕ) → nodes_in t' w ≢ [] → table_of w ≡ k + i) → PlacedFrom k (set ts i t')
 placed_set k i [] t' p own = tt
 placed_set k zero (t ∷ ts) t' p own = (λ w some. omega (arith, own w some), p.1)
 placed_set k (suc i) (t ∷ ts) t' p own = (p.0, placed_set (suc k) i ts t' p.1 (λ w some. omega (arith, own w some)))
-
--- ---- what contracts see
-
-nodes_cond : (b : Bool) (o r : Option (List Docs × ℕ)) → nodes_or_none (cond b o r) ≡ cond b (nodes_or_none o) (nodes_or_none r)
-nodes_cond true o r = refl
-nodes_cond false o r = refl
-
-room_cond : (b : Bool) (o r : Option (List Docs × ℕ)) → room_or_none (cond b o r) ≡ cond b (room_or_none o) (room_or_none r)
-room_cond true o r = refl
-room_cond false o r = refl
-
-items_cond_more : {Z : Type 0} (b : Bool) (v : Vec Docs Z) (o : Option (Vec Docs Z)) → cond b v.items (items_of o) ≡ items_of (cond b (Some v) o)
-items_cond_more true v o = refl
-items_cond_more false v o = refl
-
-spare_cond_more : {Z : Type 0} (b : Bool) (v : Vec Docs Z) (o : Option (Vec Docs Z)) → cond b (vec_capacity v - vec_len v) (spare_of o) ≡ spare_of (cond b (Some v) o)
-spare_cond_more true v o = refl
-spare_cond_more false v o = refl
-
-module _ {Z : Type 0} where
-  abbrev seen_entries : List (List ℕ × Vec Docs Z) → List (List ℕ × (List Docs × ℕ))
-  seen_entries es = map (λ e. (e.0, (e.1.items, vec_capacity e.1 - vec_len e.1))) es
-
-  nodes_of_entries : (w : List ℕ) (es : List (List ℕ × Vec Docs Z)) → nodes_or_none (lookup (is_at (byte_order w)) (seen_entries es)) ≡ items_of (lookup (is_at (byte_order w)) es)
-  nodes_of_entries w [] = refl
-  nodes_of_entries w (e ∷ es) =
-      let b : Bool = is_eq (byte_order w e.0) in
-      nodes_cond b (Some (e.1.items, vec_capacity e.1 - vec_len e.1)) (lookup (is_at (byte_order w)) (seen_entries es))
-      ∙ ap (λ r. cond b e.1.items r) (nodes_of_entries w es)
-      ∙ items_cond_more b e.1 (lookup (is_at (byte_order w)) es)
-
-  room_of_entries : (w : List ℕ) (es : List (List ℕ × Vec Docs Z)) → room_or_none (lookup (is_at (byte_order w)) (seen_entries es)) ≡ spare_of (lookup (is_at (byte_order w)) es)
-  room_of_entries w [] = refl
-  room_of_entries w (e ∷ es) =
-      let b : Bool = is_eq (byte_order w e.0) in
-      room_cond b (Some (e.1.items, vec_capacity e.1 - vec_len e.1)) (lookup (is_at (byte_order w)) (seen_entries es))
-      ∙ ap (λ r. cond b (vec_capacity e.1 - vec_len e.1) r) (room_of_entries w es)
-      ∙ spare_cond_more b e.1 (lookup (is_at (byte_order w)) es)
-
-nodes_seen_from : (k : ℕ) (ts : List Table) (w : List ℕ) → nodes_or_none (entry_from k (map shown ts) w) ≡ nodes_from k ts w
-nodes_seen_from k [] w = refl
-nodes_seen_from k (t ∷ ts) w =
-    nodes_cond (table_of w == k) (lookup (is_at (byte_order w)) (shown t)) (entry_from (suc k) (map shown ts) w)
-    ∙ ap (λ x. cond (table_of w == k) x (nodes_or_none (entry_from (suc k) (map shown ts) w))) (nodes_of_entries w t.words.entries)
-    ∙ ap (λ x. cond (table_of w == k) (nodes_in t w) x) (nodes_seen_from (suc k) ts w)
-
-room_seen_from : (k : ℕ) (ts : List Table) (w : List ℕ) → room_or_none (entry_from k (map shown ts) w) ≡ room_from k ts w
-room_seen_from k [] w = refl
-room_seen_from k (t ∷ ts) w =
-    room_cond (table_of w == k) (lookup (is_at (byte_order w)) (shown t)) (entry_from (suc k) (map shown ts) w)
-    ∙ ap (λ x. cond (table_of w == k) x (room_or_none (entry_from (suc k) (map shown ts) w))) (room_of_entries w t.words.entries)
-    ∙ ap (λ x. cond (table_of w == k) (room_in t w) x) (room_seen_from (suc k) ts w)
-
-pub nodes_seen : (ts : List Table) (held : Held) → map shown ts ≡ held → (w : List ℕ) → nodes held w ≡ nodes_from 1 ts w
-nodes_seen ts held e w = ap (λ h. nodes h w) (sym e) ∙ nodes_seen_from 1 ts w
-
-pub room_seen : (ts : List Table) (held : Held) → map shown ts ≡ held → (w : List ℕ) → room held w ≡ room_from 1 ts w
-room_seen ts held e w = ap (λ h. room h w) (sym e) ∙ room_seen_from 1 ts w
 
 -- ---- a change of one word
 
@@ -113,7 +55,7 @@ pub NodesAfter-append : (a : ℕ) (ms ns : List Docs) → NodesAfter a ms → No
 NodesAfter-append a [] ns h k = k
 NodesAfter-append a (m ∷ ms) ns h k = (h.0, NodesAfter-append _ ms ns h.1 k)
 
-pub changed : (ts : List Table) (i : ℕ) (d t' : Table) (word : List ℕ) (ns : List Docs) → AreTables ts → i < 6 → i + 1 ≡ table_of word
+pub changed : (ts : List Entries) (i : ℕ) (d t' : Entries) (word : List ℕ) (ns : List Docs) → AreTables ts → i < 6 → i + 1 ≡ table_of word
     → nodes_in t' word ≡ ns → ((q : List ℕ) → q ≢ word → nodes_in t' q ≡ nodes_in (get_or ts i d) q) → NodesAfter 0 ns → AreTables (set ts i t')
 changed ts i d t' word ns are few place here others up =
     let lt : i < length ts = omega (arith, few, are.six) in
@@ -125,42 +67,44 @@ changed ts i d t' word ns are few place here others up =
           (λ apart. subst (NodesAfter 0) (sym (off_set nodes_in [] 1 i ts d t' w (others w apart))) (are.ascending w));
     }
 
-module _ (ts : List Table) (held : Held) (seen : map shown ts ≡ held) (are : AreTables ts) (i : ℕ) (few : i < 6) (d : Table) where
+pub changed_same : (ts : List Entries) (i : ℕ) (d t' : Entries) → AreTables ts → i < 6 → ((q : List ℕ) → nodes_in t' q ≡ nodes_in (get_or ts i d) q) → AreTables (set ts i t')
+changed_same ts i d t' are few same =
+    let lt : i < length ts = omega (arith, few, are.six) in
+    record {
+      six = length-set ts i t' ∙ are.six;
+      placed = placed_set 1 i ts t' are.placed (λ w some. placed_at 1 i ts d are.placed lt w (λ none. some (same w ∙ none)));
+      ascending = λ w. subst (NodesAfter 0) (sym (off_set nodes_in [] 1 i ts d t' w (same w))) (are.ascending w);
+    }
+
+module _ (ts : List Entries) (held : Held) (seen : ts ≡ held) (are : AreTables ts) (i : ℕ) (few : i < 6) (d : Entries) where
   within : i < length ts
   within = omega (arith, few, are.six)
 
-  pub own_nodes : (w : List ℕ) → i + 1 ≡ table_of w → nodes held w ≡ nodes_in (get_or ts i d) w
-  own_nodes w place = nodes_seen ts held seen w ∙ at_place nodes_in [] 1 i ts d w within (omega (arith, place))
+  -- what the table at the place has of a word of its own
+  module _ {A : Type 0} (has : Entries → List ℕ → A) (none : A) where
+    pub own : (w : List ℕ) → i + 1 ≡ table_of w → from_table has none 1 held w ≡ has (get_or ts i d) w
+    own w place = ap (λ h. from_table has none 1 h w) (sym seen) ∙ at_place has none 1 i ts d w within (omega (arith, place))
 
-  pub own_room : (w : List ℕ) → i + 1 ≡ table_of w → room held w ≡ room_in (get_or ts i d) w
-  own_room w place = room_seen ts held seen w ∙ at_place room_in 0 1 i ts d w within (omega (arith, place))
+    -- and of one that is changed there
+    pub here : (t' : Entries) (w : List ℕ) → i + 1 ≡ table_of w → from_table has none 1 (set ts i t') w ≡ has t' w
+    here t' w place = at_set has none 1 i ts t' w within (omega (arith, place))
+
+    pub other : (t' : Entries) (q : List ℕ) → has t' q ≡ has (get_or ts i d) q → from_table has none 1 (set ts i t') q ≡ from_table has none 1 held q
+    other t' q same = off_set has none 1 i ts d t' q same ∙ ap (λ h. from_table has none 1 h q) seen
+
+    -- a word of another table
+    pub elsewhere : (t' : Entries) (q : List ℕ) → table_of q ≢ i + 1 → from_table has none 1 (set ts i t') q ≡ from_table has none 1 held q
+    elsewhere t' q apart = off_table has none 1 i ts t' q (λ e. apart (omega (arith, e))) ∙ ap (λ h. from_table has none 1 h q) seen
+
+  pub own_nodes : (w : List ℕ) → i + 1 ≡ table_of w → nodes held w ≡ nodes_in (get_or ts i d) w
+  own_nodes w place = own nodes_in [] w place
 
   pub own_after : (w : List ℕ) → i + 1 ≡ table_of w → NodesAfter 0 (nodes_in (get_or ts i d) w)
   own_after w place = subst (NodesAfter 0) (at_place nodes_in [] 1 i ts d w within (omega (arith, place))) (are.ascending w)
 
-  module _ (t' : Table) where
-    abbrev later : Held
-    later = map shown (set ts i t')
-
-    pub here_nodes : (w : List ℕ) → i + 1 ≡ table_of w → nodes later w ≡ nodes_in t' w
-    here_nodes w place = nodes_seen (set ts i t') later refl w ∙ at_set nodes_in [] 1 i ts t' w within (omega (arith, place))
-
-    pub here_room : (w : List ℕ) → i + 1 ≡ table_of w → room later w ≡ room_in t' w
-    here_room w place = room_seen (set ts i t') later refl w ∙ at_set room_in 0 1 i ts t' w within (omega (arith, place))
-
-    pub other_nodes : (q : List ℕ) → nodes_in t' q ≡ nodes_in (get_or ts i d) q → nodes later q ≡ nodes held q
-    other_nodes q same = nodes_seen (set ts i t') later refl q ∙ off_set nodes_in [] 1 i ts d t' q same ∙ sym (nodes_seen ts held seen q)
-
-    pub other_room : (q : List ℕ) → room_in t' q ≡ room_in (get_or ts i d) q → room later q ≡ room held q
-    other_room q same = room_seen (set ts i t') later refl q ∙ off_set room_in 0 1 i ts d t' q same ∙ sym (room_seen ts held seen q)
-
-more_room : (k i : ℕ) (ts : List Table) (d t' : Table) (q : List ℕ) → room_in (get_or ts i d) q ≤ room_in t' q → room_from k ts q ≤ room_from k (set ts i t') q
-more_room k i [] d t' q le = omega arith
-more_room k zero (t ∷ ts) d t' q le =
-    elim (table_of q == k) as (λ b. cond b (room_in t q) (room_from (suc k) ts q) ≤ cond b (room_in t' q) (room_from (suc k) ts q)) [ true ↦ le | false ↦ omega arith ]
-more_room k (suc i) (t ∷ ts) d t' q le =
-    elim (table_of q == k) as (λ b. cond b (room_in t q) (room_from (suc k) ts q) ≤ cond b (room_in t q) (room_from (suc k) (set ts i t') q)) [ true ↦ omega arith | false ↦ more_room (suc k) i ts d t' q le ]
-
-pub room_grows : (ts : List Table) (held : Held) → map shown ts ≡ held → (i : ℕ) (d t' : Table) → ((q : List ℕ) → room_in (get_or ts i d) q ≤ room_in t' q) → (q : List ℕ) → room held q ≤ room (map shown (set ts i t')) q
-room_grows ts held seen i d t' le q =
-    omega (arith, room_seen ts held seen q, room_seen (set ts i t') (map shown (set ts i t')) refl q, more_room 1 i ts d t' q (le q))
+-- a word that has no table among these
+pub past_all : {A : Type 0} (has : Entries → List ℕ → A) (none : A) (k : ℕ) (ts : List Entries) (w : List ℕ) → k + length ts ≤ table_of w → from_table has none k ts w ≡ none
+past_all has none k [] w le = refl
+past_all has none k (t ∷ ts) w le =
+    ap (λ b. cond b (has t w) (from_table has none (suc k) ts w)) (ne_eqb (table_of w) k (λ e. omega (arith, e, le)))
+    ∙ past_all has none (suc k) ts w (omega (arith, le))

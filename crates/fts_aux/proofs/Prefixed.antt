@@ -2,17 +2,15 @@
 use Rattle.std.proofs.Common.{◌≡◌, ◌≢◌, ℕ, ◌<◌, Bool, true, false, cond, ◌&&◌, List, [], ◌∷◌, nat_eq, refl, sym, ap, subst, ◌∙◌, ⊎_elim, arith}
 use Rattle.std.specs.List.{filter, All}
 use Rattle.std.specs.List.Sorted.{IsStrictlySortedBy}
-use Rattle.std.specs.Map.{keys_of, lookup}
-use Rattle.std.specs.BTreeMap.{is_at}
+use Rattle.std.specs.Map.{keys_of}
 use Rattle.std.specs.declared.cmp.Ordering.{Ordering}
 use Rattle.std.specs.declared.cmp.Ordering.TheVariants.{Less, Equal, Greater}
 use Rattle.std.specs.Ordering.{is_le, is_gt, ordering_then}
 use Rattle.std.specs.Cmp.{nat_cmp_is}
-use Rattle.std.specs.declared.vec.Vec.{Vec}
 use Rattle.std.proofs.lemmas.Bool.{false≢true, true≢false, cases_Bool, cases_lt, cases_eq, eqb-true, eq-eqb, ne_eqb}
 use Rattle.std.proofs.lemmas.List.Elements.{All-from_recursion}
 use Rattle.fts_ilist.specs.Node.{Docs, byte_order}
-use Rattle.fts_aux.specs.Table.{items_of, filled, begins, front, nodes_at, IsListing}
+use Rattle.fts_aux.specs.Table.{filled, begins, front, nodes_at, IsListing}
 use Rattle.fts_aux.proofs.Ordered.{AllBehind, Ascends, sorted_to, ascends-filter, ascends-filled, all_filled, nodes_at-filled, items-filter}
 
 -- the order of two words by their first bytes and the rest
@@ -120,10 +118,10 @@ cond_both_so : (b c : Bool) (ns : List Docs) → (b ≡ true → c ≡ true) →
 cond_both_so true c ns h = ap (λ d. cond d ns []) (h refl)
 cond_both_so false c ns h = refl
 
-pub listing_is : {Z : Type 0} (p : List ℕ) (es r : List (List ℕ × Vec Docs Z)) (l : List (List ℕ × List Docs)) → Ascends es → r ≡ filter (λ e. is_from p e.0) es → l ≡ filled (front p r)
-    → IsListing (λ q. items_of (lookup (is_at (byte_order q)) es)) p l
-listing_is {Z} p es r l up part is =
-    let q_es : List (List ℕ × Vec Docs Z) = filter (λ e. is_from p e.0) es in
+pub listing_is : (p : List ℕ) (es r : List (List ℕ × List Docs)) (l : List (List ℕ × List Docs)) → Ascends es → r ≡ filter (λ e. is_from p e.0) es → l ≡ filled (front p r)
+    → IsListing (λ q. nodes_at q es) p l
+listing_is p es r l up part is =
+    let q_es : List (List ℕ × List Docs) = filter (λ e. is_from p e.0) es in
     let rest : Ascends q_es = ascends-filter (is_from p) es up in
     let whole : l ≡ filled (filter (λ e. begins p e.0) q_es) = is ∙ ap (λ z. filled (front p z)) part ∙ ap filled (front_is p q_es rest (all_from p es)) in
     let mine : Ascends (filter (λ e. begins p e.0) q_es) = ascends-filter (begins p) q_es rest in
@@ -131,5 +129,16 @@ listing_is {Z} p es r l up part is =
       ascending = subst (λ z. IsStrictlySortedBy byte_order (keys_of z)) (sym whole) (sorted_to (filled (filter (λ e. begins p e.0) q_es)) (ascends-filled (filter (λ e. begins p e.0) q_es) mine));
       filled = subst (All (λ e. e.1 ≢ [])) (sym whole) (All-from_recursion (λ e. e.1 ≢ []) (filled (filter (λ e. begins p e.0) q_es)) (all_filled (filter (λ e. begins p e.0) q_es)));
       exact = λ q. ap (nodes_at q) whole ∙ nodes_at-filled q (filter (λ e. begins p e.0) q_es) mine ∙ items-filter (begins p) q q_es ∙ ap (λ ns. cond (begins p q) ns []) (items-filter (is_from p) q es)
-          ∙ cond_both_so (begins p q) (is_from p q) (items_of (lookup (is_at (byte_order q)) es)) (λ passes. le_from (byte_order p q) (begins_from p q passes));
+          ∙ cond_both_so (begins p q) (is_from p q) (nodes_at q es) (λ passes. le_from (byte_order p q) (begins_from p q passes));
+    }
+
+-- the same of words of a table
+pub listing_of : (p : List ℕ) (r : List (List ℕ × List Docs)) (es : List (List ℕ × List Docs)) (f : List ℕ → List Docs) (l : List (List ℕ × List Docs)) → Ascends es → ((q : List ℕ) → nodes_at q es ≡ f q)
+    → r ≡ filter (λ e. is_from p e.0) es → l ≡ filled (front p r) → IsListing f p l
+listing_of p r es f l up same part is =
+    let mine = listing_is p es r l up part is in
+    record {
+      ascending = mine.ascending;
+      filled = mine.filled;
+      exact = λ q. mine.exact q ∙ ap (λ ns. cond (begins p q) ns []) (same q);
     }

@@ -1,41 +1,84 @@
 -- One table of words.
-use Rattle.std.specs.Prelude.{◌≡◌, ◌≢◌, ℕ, ◌-◌, Bool, false, cond, nat_eq, List, [], ◌∷◌, Option, Some, None}
-use Rattle.std.specs.List.{All, starts_with}
+use Rattle.std.specs.Prelude.{◌≡◌, ◌≢◌, ℕ, ◌+◌, ◌≤◌, Bool, true, false, cond, if◌then◌else◌, nat_eq, List, [], ◌∷◌}
+use Rattle.std.specs.Prelude.{length}
+use Rattle.std.specs.Prelude.{Option, Some, None, is_some}
+use Rattle.std.specs.Global.{Vec}
+use Rattle.std.specs.List.{All, starts_with, list_any, slice_get}
 use Rattle.std.specs.List.Sorted.{IsStrictlySortedBy}
 use Rattle.std.specs.Option.{unwrap_or}
 use Rattle.std.specs.Ordering.{is_gt}
+use Rattle.std.specs.Str.{bytes_eq}
 use Rattle.std.specs.Map.{keys_of, lookup}
+use Rattle.std.specs.BTreeMap.{is_at}
+use Rattle.std.specs.BTreeSet.{BTreeSet, contains}
 use Rattle.std.specs.declared.cmp.Ordering.TheVariants.{Less}
-use Rattle.std.specs.BTreeMap.{get, is_at}
-use Rattle.std.specs.declared.vec.Vec.{Vec}
-use Rattle.std.specs.Vec.{vec_len, vec_capacity}
-use Rattle.fts_aux.specs.declared.table.Table.{Table}
 use Rattle.fts_ilist.specs.Node.{Docs, byte_order}
+use Rattle.fts_ilist.specs.NodeList.{NodeState, nodes_size, with_nodes}
 
-abbrev pub items_of : {Z : Type 0} → Option (Vec Docs Z) → List Docs
-items_of None = []
-items_of (Some nodes) = nodes.items
+-- what contracts see of a table: its words, each with its nodes and the room that is promised for more
+abbrev pub Entries : Type 0
+Entries = List (Vec ℕ × NodeState)
 
-abbrev pub spare_of : {Z : Type 0} → Option (Vec Docs Z) → ℕ
-spare_of None = 0
-spare_of (Some nodes) = vec_capacity nodes - vec_len nodes
+abbrev pub find : List ℕ → Entries → Option NodeState
+find word entries = lookup (λ k. bytes_eq word k.items) entries
 
--- the nodes of a word in a table, none where the word isn't in it
-abbrev pub nodes_in : Table → List ℕ → List Docs
-nodes_in table word = items_of (get byte_order table.words word)
+-- what stands for a word that is not in a table
+abbrev pub no_list : NodeState
+no_list = with_nodes []
 
--- how many more nodes of a word a table can take without memory
-abbrev pub room_in : Table → List ℕ → ℕ
-room_in table word = spare_of (get byte_order table.words word)
+-- the nodes of a word in a table and its room, none where the word isn't in it
+abbrev pub list_in : Entries → List ℕ → NodeState
+list_in table word = unwrap_or (find word table) no_list
 
--- the words with nodes among some entries, with their nodes
+abbrev pub nodes_in : Entries → List ℕ → List Docs
+nodes_in table word = (list_in table word).nodes
+
+-- a word is in a table, if only for its room
+abbrev pub is_key : Entries → List ℕ → Bool
+is_key table word = is_some (find word table)
+
+-- the key with this number is the word
+abbrev pub key_is : Option (Vec ℕ) → List ℕ → Bool
+key_is None word = false
+key_is (Some k) word = bytes_eq word k.items
+
+abbrev pub is_key_at : List (Vec ℕ) → ℕ → List ℕ → Bool
+is_key_at keys number word = key_is (slice_get keys number) word
+
+-- room for so many nodes, of so many bytes in all
+pub record Room : Type 0 where
+  pub nodes : ℕ
+  pub bytes : ℕ
+
+abbrev pub no_room : Room
+no_room = record { nodes = 0; bytes = 0 }
+
+abbrev pub room_of : NodeState → Room
+room_of list = record { nodes = list.node_room; bytes = list.byte_room }
+
+-- the room that nodes need
+abbrev pub needs : List Docs → Room
+needs ns = record { nodes = length ns; bytes = nodes_size ns }
+
+abbrev pub with_room : Room → Room → Room
+with_room r s = record { nodes = r.nodes + s.nodes; bytes = r.bytes + s.bytes }
+
+abbrev pub IsWithin : Room → Room → Type 0
+IsWithin r s = (r.nodes ≤ s.nodes) × (r.bytes ≤ s.bytes)
+
+-- the words with nodes among some words, with their nodes
 abbrev pub filled_as : List ℕ → List Docs → List (List ℕ × List Docs) → List (List ℕ × List Docs)
 filled_as word [] rest = rest
 filled_as word (n ∷ ns) rest = (word, n ∷ ns) ∷ rest
 
-abbrev pub filled : {Z : Type 0} → List (List ℕ × Vec Docs Z) → List (List ℕ × List Docs)
+abbrev pub filled : List (List ℕ × List Docs) → List (List ℕ × List Docs)
 filled [] = []
-filled (e ∷ es) = filled_as e.0 e.1.items (filled es)
+filled (e ∷ es) = filled_as e.0 e.1 (filled es)
+
+-- words with what a table has of them
+abbrev pub seen : Entries → List (List ℕ) → List (List ℕ × List Docs)
+seen table [] = []
+seen table (w ∷ ws) = (w, nodes_in table w) ∷ seen table ws
 
 -- whether a word begins with a prefix
 abbrev pub begins : List ℕ → List ℕ → Bool
@@ -65,3 +108,58 @@ pub record IsNext (nodes : List ℕ → List Docs) (word next : List ℕ) : Type
 -- no word behind this one has nodes
 abbrev pub IsLast : (List ℕ → List Docs) → List ℕ → Type 0
 IsLast nodes word = (other : List ℕ) → byte_order word other ≡ Less → nodes other ≡ []
+
+-- ---- what is kept beside the words
+
+-- the words in byte order have each word of the table
+abbrev pub IsListed : Entries → BTreeSet (List ℕ) → Type 0
+IsListed table order = (word : List ℕ) → is_key table word ≡ true → contains byte_order order word ≡ true
+
+-- a word without nodes is one of the fresh ones, which were entered for their room
+abbrev pub IsFilledBut : Entries → List (List ℕ) → Type 0
+IsFilledBut table fresh = (word : List ℕ) → is_key table word ≡ true → nodes_in table word ≡ []
+    → list_any (bytes_eq word) fresh ≡ true
+
+-- a word with room has a note of its number
+abbrev pub IsNotedBut : Entries → List ℕ → Type 0
+IsNotedBut table notes = (word : List ℕ) → room_of (list_in table word) ≢ no_room
+    → list_any (λ number. is_key_at (keys_of table) number word) notes ≡ true
+
+pub record IsTable (table : Entries) (order : BTreeSet (List ℕ)) (fresh : List (List ℕ)) (notes : List ℕ) : Type 0 where
+  pub listed : IsListed table order
+  pub filled : IsFilledBut table fresh
+  pub noted : IsNotedBut table notes
+
+-- ---- what changes
+
+-- the word has this list now, or is no word of the table, and all else stays
+abbrev pub Becomes : Entries → List ℕ → Option NodeState → Entries → Type 0
+Becomes old word list new = (w : List ℕ) → find w new ≡ (if bytes_eq w word then list else find w old)
+
+-- one more word stands behind the others
+pub record Enters (old new : Entries) (word : List ℕ) (list : NodeState) : Type 0 where
+  pub becomes : Becomes old word (Some list) new
+  pub stay : (number : ℕ) (w : List ℕ) → is_key_at (keys_of old) number w ≡ true
+      → is_key_at (keys_of new) number w ≡ true
+  pub last : is_key_at (keys_of new) (length old) word ≡ true
+
+-- the list of a word is another, and the words keep their numbers
+pub record Writes (old new : Entries) (word : List ℕ) (list : NodeState) : Type 0 where
+  pub becomes : Becomes old word (Some list) new
+  pub keys : keys_of new ≡ keys_of old
+
+-- the word is taken out, if it has no nodes
+pub record Drops (old new : Entries) (word : List ℕ) : Type 0 where
+  pub lists : (w : List ℕ) → list_in new w ≡ list_in old w
+  pub are : (w : List ℕ) → is_key new w ≡ true → is_key old w ≡ true
+  pub gone : is_key new word ≡ true → nodes_in new word ≢ []
+
+-- the words in byte order have one more, and all that they had
+pub record Includes (old new : BTreeSet (List ℕ)) (word : List ℕ) : Type 0 where
+  pub last : contains byte_order new word ≡ true
+  pub others : (w : List ℕ) → contains byte_order old w ≡ true → contains byte_order new w ≡ true
+
+-- the word has so much more room, and no other word has another
+abbrev pub AddsRoom : Entries → Entries → List ℕ → Room → Type 0
+AddsRoom old new word more = (w : List ℕ) → room_of (list_in new w)
+    ≡ with_room (room_of (list_in old w)) (if bytes_eq w word then more else no_room)

@@ -1,34 +1,284 @@
 //! One of the six tables.
 ghost use Rattle.std.specs.Prelude.{◌≡◌, ◌≢◌, ℕ, ◌≤◌, ◌++◌, [], map, List, length, ◌+◌, OnOk, IfOk};
-ghost use Rattle.std.specs.Prelude.{IfSome, IfNone, slice_get};
+ghost use Rattle.std.specs.Prelude.{OnErr, IfSome, IfNone, slice_get, true, false, Some, None, ◌⊎◌};
+ghost use Rattle.std.specs.Prelude.{if◌then◌else◌};
+ghost use Rattle.std.specs.BTreeSet.{contains};
+ghost use Rattle.fts_ilist.specs.Node.{byte_order};
 ghost use Rattle.std.specs.Option.{option_map};
-ghost use Rattle.std.specs.Vec.{vec_len, vec_capacity};
-ghost use Rattle.fts_aux.specs.Table.{nodes_in, room_in, filled, filled_as, front, IsListing};
-ghost use Rattle.fts_aux.specs.Table.{IsNext, IsLast};
+ghost use Rattle.std.specs.Map.{keys_of};
+ghost use Rattle.fts_ilist.specs.NodeList.{with_nodes, nodes_size, Takes};
+ghost use Rattle.fts_aux.specs.Table.{find, list_in, nodes_in, is_key, is_key_at, room_of, no_room};
+ghost use Rattle.fts_aux.specs.Table.{with_room, filled, filled_as, front, seen, IsListing, IsNext};
+ghost use Rattle.fts_aux.specs.Table.{IsLast, IsListed, Becomes, Enters, Writes, no_list, Includes};
+ghost use Rattle.fts_aux.specs.Table.{IsNotedBut, IsFilledBut, Drops, AddsRoom, IsWithin, needs};
 
-use fts_ilist::Node;
+use fts_ilist::{Node, NodeList, NodeSlice};
 use fts_types::Word;
+use indexmap::IndexMap;
 use std::alloc::{AllocError, Global};
-use std::collections::BTreeMap;
-use std::collections::btree_map::Range;
+use std::collections::BTreeSet;
+use std::collections::btree_set::Range;
+use std::marker::Model;
 use std::ops::Bound;
 
-/// Words with their nodes, in byte order. A word without nodes is there for its room alone, and
-/// counts as absent.
+/// Words with their nodes, as they were entered.
+type Words = IndexMap<Vec<u8>, NodeList>;
+
+/// Words with their nodes. A word without nodes is there for its room alone, and counts as absent.
 #[derive(Drop)]
 pub struct Table {
     alloc: Global,
-    words: BTreeMap<Word, Vec<Node>>,
+    words: Words,
+    // The words in byte order. Some of them may have left.
+    order: BTreeSet<Word>,
+    // The words that were entered for their room since room was last given up.
+    fresh: Vec<Word>,
+    // The numbers of the words that room was made for since then, and how many of these an install
+    // has come to. They save look-ups, and are tried before use.
+    notes: Vec<usize>,
+    used: usize,
+}
+
+impl Model for Table {
+    ghost use Rattle.fts_aux.specs.Table.{Entries, IsTable};
+
+    ghost Value = { Entries };
+
+    ghost view = { λ t. t.words.entries };
+
+    ghost invariant = { λ t. IsTable t.words.entries t.order t.fresh.items t.notes.items };
+}
+
+/// Whether the word with this number is this one.
+fn is_word_at(words: &Words, number: usize, word: &[u8]) -> bool
+    ensures { result ≡ is_key_at (keys_of words.now.entries) number word.now }
+{
+    match words.get_index(number) {
+        Some((key, _)) => word == key.as_slice(),
+        None => false,
+    }
+}
+
+/// The number of a word, where it is one of the words.
+fn number_of(words: &Words, word: &[u8]) -> Option<usize>
+    ensures some { IfSome result (λ n. is_key_at (keys_of words.now.entries) n word.now ≡ true) }
+    ensures none { IfNone result (find word.now words.now.entries ≡ None) }
+{
+    match words.get_full(word) {
+        Some((number, _, _)) => Some(number),
+        None => None,
+    }
+}
+
+/// The number of a word as `number_of` gives it, without a look-up where it is the noted one.
+fn noted_number(words: &Words, noted: Option<&usize>, word: &[u8]) -> Option<usize>
+    ensures some { IfSome result (λ n. is_key_at (keys_of words.now.entries) n word.now ≡ true) }
+    ensures none { IfNone result (find word.now words.now.entries ≡ None) }
+{
+    if let Some(number) = noted {
+        if is_word_at(words, *number, word) {
+            return Some(*number);
+        }
+    }
+    number_of(words, word)
+}
+
+/// Makes room for more nodes of the word with this number.
+fn reserve_at(
+    words: &mut Words,
+    number: usize,
+    word: &[u8],
+    nodes: usize,
+    bytes: usize,
+) -> Result<(), AllocError>
+    requires { is_key_at (keys_of words.old.entries) number word.now ≡ true }
+    ensures ok { OnOk result (Writes words.old.entries words.new.entries word.now
+        (record (list_in words.old.entries word.now) {
+          node_room = (list_in words.old.entries word.now).node_room + nodes;
+          byte_room = (list_in words.old.entries word.now).byte_room + bytes;
+        })) }
+    ensures err { OnErr result (Writes words.old.entries words.new.entries word.now
+        (list_in words.old.entries word.now)) }
+{
+    match words.get_index_mut(number) {
+        Some(list) => list.reserve(nodes, bytes),
+        None => unreachable!(),
+    }
+}
+
+/// Gives up the room of the word with this number.
+fn give_up_at(words: &mut Words, number: usize)
+    ensures keys { keys_of words.new.entries ≡ keys_of words.old.entries }
+    ensures lists { (w : List ℕ) → list_in words.new.entries w
+        ≡ (if is_key_at (keys_of words.old.entries) number w
+        then with_nodes (nodes_in words.old.entries w) else list_in words.old.entries w) }
+    ensures are { (w : List ℕ) → is_key words.new.entries w ≡ is_key words.old.entries w }
+{
+    if let Some(list) = words.get_index_mut(number) {
+        list.give_up_room();
+    }
+}
+
+/// Puts nodes behind those of the word with this number.
+fn append_at(words: &mut Words, number: usize, word: &[u8], nodes: &[Node])
+    requires number { is_key_at (keys_of words.old.entries) number word.now ≡ true }
+    requires nodes { length nodes.now ≤ (list_in words.old.entries word.now).node_room }
+    requires bytes { nodes_size nodes.now ≤ (list_in words.old.entries word.now).byte_room }
+    ensures writes { Writes words.old.entries words.new.entries word.now
+        (list_in words.new.entries word.now) }
+    ensures takes { Takes (list_in words.old.entries word.now)
+        (list_in words.new.entries word.now) nodes.now }
+{
+    match words.get_index_mut(number) {
+        Some(list) => list.append(nodes),
+        None => unreachable!(),
+    }
+}
+
+/// Puts nodes behind those of a word that has room for them.
+fn append_to(words: &mut Words, noted: Option<&usize>, word: &[u8], nodes: &[Node])
+    requires { IsWithin (needs nodes.now) (room_of (list_in words.old.entries word.now)) }
+    ensures takes { Takes (list_in words.old.entries word.now)
+        (list_in words.new.entries word.now) nodes.now }
+    ensures others { (w : List ℕ) → w ≢ word.now
+        → list_in words.new.entries w ≡ list_in words.old.entries w }
+    ensures are { (w : List ℕ) → is_key words.new.entries w ≡ is_key words.old.entries w }
+    ensures keys { keys_of words.new.entries ≡ keys_of words.old.entries }
+{
+    match noted_number(words, noted, word) {
+        Some(number) => append_at(words, number, word, nodes),
+        None => {}
+    }
+}
+
+/// Replaces the list of a word that is there.
+fn replace_in(words: &mut Words, word: &[u8], list: NodeList)
+    requires { is_key words.old.entries word.now ≡ true }
+    ensures { Becomes words.old.entries word.now (Some list) words.new.entries }
+{
+    match words.get_mut(word) {
+        Some(held) => *held = list,
+        None => unreachable!(),
+    }
+}
+
+/// Takes a word out.
+fn take_out(words: &mut Words, word: &[u8])
+    ensures { Becomes words.old.entries word.now None words.new.entries }
+{
+    words.swap_remove(word);
+}
+
+/// Takes a word out of those in byte order.
+fn take_out_of(order: &mut BTreeSet<Word>, word: &Word)
+    ensures { (w : List ℕ) → w ≢ word.now → contains byte_order order.old w ≡ true
+        → contains byte_order order.new w ≡ true }
+{
+    order.remove(word);
+}
+
+/// Enters a word with room for nodes.
+fn enter(
+    words: &mut Words,
+    order: &mut BTreeSet<Word>,
+    word: &[u8],
+    nodes: usize,
+    bytes: usize,
+) -> Result<(), AllocError>
+    requires { find word.now words.old.entries ≡ None }
+    ensures ok { OnOk result (Enters words.old.entries words.new.entries word.now
+        (record no_list { node_room = nodes; byte_room = bytes })) }
+    ensures err { OnErr result (words.new.entries ≡ words.old.entries) }
+    ensures order { OnOk result (Includes order.old order.new word.now) }
+    ensures stay { (w : List ℕ) → contains byte_order order.old w ≡ true
+        → contains byte_order order.new w ≡ true }
+{
+    let alloc = *words.allocator();
+    words.reserve(1)?;
+    let mut list = NodeList::new(alloc);
+    list.reserve(nodes, bytes)?;
+    let key = Vec::from_slice(alloc, word)?;
+    let entered = Word::copied(alloc, word)?;
+    order.insert(entered)?;
+    words.insert(key, list)?;
+    Ok(())
+}
+
+/// Gives up the room of the words with these numbers, which are all that have room.
+fn give_up(words: &mut Words, notes: &[usize])
+    requires { IsNotedBut words.old.entries notes.now }
+    ensures nodes { (w : List ℕ) → nodes_in words.new.entries w ≡ nodes_in words.old.entries w }
+    ensures room { (w : List ℕ) → room_of (list_in words.new.entries w) ≡ no_room }
+    ensures are { (w : List ℕ) → is_key words.new.entries w ≡ is_key words.old.entries w }
+{
+    let mut rest = notes;
+    while let [first, behind @ ..] = rest {
+        give_up_at(words, *first);
+        rest = behind;
+    }
+}
+
+/// Takes a word out that has neither nodes nor room.
+fn drop_if_empty(words: &mut Words, order: &mut BTreeSet<Word>, word: &Word)
+    requires { room_of (list_in words.old.entries word.now) ≡ no_room }
+    ensures drops { Drops words.old.entries words.new.entries word.now }
+    ensures listed { IsListed words.old.entries order.old
+        → IsListed words.new.entries order.new }
+{
+    if !is_empty(words, word.as_bytes()) {
+        return;
+    }
+    take_out(words, word.as_bytes());
+    take_out_of(order, word);
+}
+
+/// Whether a word is one of the words and has no nodes.
+fn is_empty(words: &Words, word: &[u8]) -> bool
+    ensures yes { result ≡ true → nodes_in words.now.entries word.now ≡ [] }
+    ensures no { result ≡ false → is_key words.now.entries word.now ≡ true
+        → nodes_in words.now.entries word.now ≢ [] }
+{
+    match words.get(word) {
+        Some(list) => list.is_empty(),
+        None => false,
+    }
+}
+
+/// Takes the words out that have no nodes. They are among the fresh ones, and no word has room.
+fn drop_empty(words: &mut Words, order: &mut BTreeSet<Word>, fresh: &[Word])
+    requires filled { IsFilledBut words.old.entries fresh.now }
+    requires room { (w : List ℕ) → room_of (list_in words.old.entries w) ≡ no_room }
+    requires listed { IsListed words.old.entries order.old }
+    ensures lists { (w : List ℕ) → list_in words.new.entries w ≡ list_in words.old.entries w }
+    ensures filled { IsFilledBut words.new.entries [] }
+    ensures listed { IsListed words.new.entries order.new }
+{
+    let mut rest = fresh;
+    while let Some((first, behind)) = rest.split_first() {
+        drop_if_empty(words, order, first);
+        rest = behind;
+    }
+}
+
+/// The nodes of a word.
+fn nodes_of<'a>(words: &'a Words, word: &[u8]) -> NodeSlice<'a>
+    ensures { result ≡ nodes_in words.now.entries word.now }
+{
+    match words.get(word) {
+        Some(list) => list.as_slice(),
+        None => NodeSlice::empty(),
+    }
 }
 
 /// The first word of the rest that has nodes.
-fn first_filled<'a>(rest: Range<'a, Word, Vec<Node>>) -> Option<(&'a Word, &'a [Node])>
-    ensures { option_map (λ p. (p.0.now, p.1.now)) result ≡ slice_get (filled rest.entry) 0 }
+fn first_filled<'a>(words: &Words, rest: Range<'a, Word>) -> Option<&'a Word>
+    ensures { option_map (λ w. (w.now, nodes_in words.now.entries w.now)) result
+        ≡ slice_get (filled (seen words.now.entries rest.entry)) 0 }
 {
     let mut rest = rest;
-    while let Some((word, nodes)) = rest.next() {
-        if !nodes.is_empty() {
-            return Some((word, nodes));
+    while let Some(word) = rest.next() {
+        if !nodes_of(words, word.as_bytes()).is_empty() {
+            return Some(word);
         }
     }
     None
@@ -36,12 +286,12 @@ fn first_filled<'a>(rest: Range<'a, Word, Vec<Node>>) -> Option<(&'a Word, &'a [
 
 /// Puts a word with its nodes at the end, if it has any.
 fn push_filled<'a>(
-    found: &mut Vec<(&'a Word, &'a [Node])>,
+    found: &mut Vec<(&'a Word, NodeSlice<'a>)>,
     word: &'a Word,
-    nodes: &'a [Node],
+    nodes: NodeSlice<'a>,
 ) -> Result<(), AllocError>
-    ensures { OnOk result (map (λ p. (p.0.now, p.1.now)) found.new.items
-        ≡ map (λ p. (p.0.now, p.1.now)) found.old.items ++ filled_as word.now nodes.now []) }
+    ensures { OnOk result (map (λ p. (p.0.now, p.1)) found.new.items
+        ≡ map (λ p. (p.0.now, p.1)) found.old.items ++ filled_as word.now nodes.entry []) }
 {
     if nodes.is_empty() {
         return Ok(());
@@ -53,57 +303,49 @@ fn push_filled<'a>(
 /// The words at the front of the rest that begin with the prefix and have nodes.
 fn filled_with_prefix<'a>(
     alloc: Global,
-    rest: Range<'a, Word, Vec<Node>>,
+    words: &'a Words,
+    rest: Range<'a, Word>,
     prefix: &[u8],
-) -> Result<Vec<(&'a Word, &'a [Node])>, AllocError>
-    ensures { IfOk result (λ found. map (λ p. (p.0.now, p.1.now)) found.items
-        ≡ filled (front prefix.now rest.entry)) }
+) -> Result<Vec<(&'a Word, NodeSlice<'a>)>, AllocError>
+    ensures { IfOk result (λ found. map (λ p. (p.0.now, p.1)) found.items
+        ≡ filled (front prefix.now (seen words.now.entries rest.entry))) }
 {
     let mut rest = rest;
     let mut found = Vec::new(alloc);
-    while let Some((word, nodes)) = rest.next() {
+    while let Some(word) = rest.next() {
         if !word.as_bytes().starts_with(prefix) {
             return Ok(found);
         }
-        push_filled(&mut found, word, nodes)?;
+        push_filled(&mut found, word, nodes_of(words, word.as_bytes()))?;
     }
     Ok(found)
 }
 
-/// Puts nodes behind those of a list that has room for them.
-fn append(held: &mut Vec<Node>, nodes: Vec<Node>)
-    requires { vec_len held.old + vec_len nodes ≤ vec_capacity held.old }
-    ensures items { held.new.items ≡ held.old.items ++ nodes.items }
-    ensures len { vec_len held.new ≡ vec_len held.old + vec_len nodes }
-    ensures capacity { vec_capacity held.old ≤ vec_capacity held.new }
-{
-    let mut nodes = nodes;
-    match held.append(&mut nodes) {
-        Ok(()) => {}
-        Err(_) => unreachable!(),
-    }
+/// The place of the next note.
+fn next_note(used: usize, notes: &[usize]) -> usize {
+    if used < notes.len() { used + 1 } else { used }
 }
 
 impl Table {
     /// A table without words.
     pub fn new(alloc: Global) -> Self
-        ensures nodes { (word : List ℕ) → nodes_in result word ≡ [] }
-        ensures room { (word : List ℕ) → room_in result word ≡ 0 }
+        ensures { result ≡ [] }
     {
         Table {
             alloc,
-            words: BTreeMap::new(alloc),
+            words: IndexMap::new(alloc),
+            order: BTreeSet::new(alloc),
+            fresh: Vec::new(alloc),
+            notes: Vec::new(alloc),
+            used: 0,
         }
     }
 
     /// The nodes of a word.
-    pub fn nodes_of(&self, word: &Word) -> &[Node]
-        ensures { result.now ≡ nodes_in self.now word.now }
+    pub fn nodes_of(&self, word: &[u8]) -> NodeSlice<'_>
+        ensures { result ≡ nodes_in self.now word.now }
     {
-        match self.words.get(word) {
-            Some(nodes) => nodes,
-            None => &[],
-        }
+        nodes_of(&self.words, word)
     }
 
     /// The least word behind this one that has nodes.
@@ -111,9 +353,9 @@ impl Table {
         ensures found { IfSome result (λ next. IsNext (nodes_in self.now) word.now next.now) }
         ensures none { IfNone result (IsLast (nodes_in self.now) word.now) }
     {
-        let rest = self.words.range((Bound::Excluded(word), Bound::Unbounded));
-        match first_filled(rest) {
-            Some((next, _)) => Some(next),
+        let rest = self.order.range((Bound::Excluded(word), Bound::Unbounded));
+        match first_filled(&self.words, rest) {
+            Some(next) => Some(next),
             None => None,
         }
     }
@@ -122,65 +364,106 @@ impl Table {
     pub fn with_prefix(
         &self,
         alloc: Global,
-        prefix: &Word,
-    ) -> Result<Vec<(&Word, &[Node])>, AllocError>
+        prefix: &[u8],
+    ) -> Result<Vec<(&Word, NodeSlice<'_>)>, AllocError>
         ensures { IfOk result (λ found. IsListing (nodes_in self.now) prefix.now
-            (map (λ p. (p.0.now, p.1.now)) found.items)) }
+            (map (λ p. (p.0.now, p.1)) found.items)) }
     {
+        let first = Word::copied(alloc, prefix)?;
         let rest = self
-            .words
-            .range((Bound::Included(prefix), Bound::Unbounded));
-        filled_with_prefix(alloc, rest, prefix.as_bytes())
+            .order
+            .range((Bound::Included(&first), Bound::Unbounded));
+        filled_with_prefix(alloc, &self.words, rest, prefix)
     }
 
-    /// Makes room for so many more nodes of a word. The nodes stay as they are, with or without
-    /// memory for it.
-    pub fn reserve(&mut self, word: &Word, more: usize) -> Result<(), AllocError>
-        ensures nodes { (other : List ℕ) → nodes_in self.new other ≡ nodes_in self.old other }
-        ensures room { (other : List ℕ) → room_in self.old other ≤ room_in self.new other }
-        ensures ok { OnOk result (more ≤ room_in self.new word.now) }
+    /// Gives up the room of all words, and takes out those without nodes.
+    pub fn give_up_room(&mut self)
+        ensures nodes { (w : List ℕ) → nodes_in self.new w ≡ nodes_in self.old w }
+        ensures room { (w : List ℕ) → room_of (list_in self.new w) ≡ no_room }
+        ensures filled { (w : List ℕ) → is_key self.new w ≡ true → nodes_in self.new w ≢ [] }
     {
-        if let Some(held) = self.words.get_mut(word) {
-            return held.reserve(more);
-        }
-        let key = Word::copied(self.alloc, word.as_bytes())?;
-        let room = Vec::with_capacity(self.alloc, more)?;
-        match self.words.insert(key, room) {
-            Ok(_) => Ok(()),
-            Err(_) => Err(AllocError),
+        give_up(&mut self.words, &self.notes);
+        drop_empty(&mut self.words, &mut self.order, &self.fresh);
+        self.notes.clear();
+        self.used = 0;
+        self.fresh.clear();
+    }
+
+    /// Makes room for so many more nodes and bytes of a word, beside the room that there is.
+    pub fn reserve(&mut self, word: &[u8], nodes: usize, bytes: usize) -> Result<(), AllocError>
+        ensures nodes { (w : List ℕ) → nodes_in self.new w ≡ nodes_in self.old w }
+        ensures room { OnOk result (AddsRoom self.old self.new word.now
+            (record { nodes = nodes; bytes = bytes })) }
+        ensures keys { (w : List ℕ) → is_key self.new w ≡ true
+            → (is_key self.old w ≡ true) ⊎ (w ≡ word.now) }
+    {
+        self.notes.reserve(1)?;
+        match number_of(&self.words, word) {
+            Some(number) => {
+                reserve_at(&mut self.words, number, word, nodes, bytes)?;
+                self.notes.push(number).unwrap();
+                Ok(())
+            }
+            None => self.enter(word, nodes, bytes),
         }
     }
 
-    /// Puts nodes behind those of a word that has room for them. It takes no memory.
-    pub fn append(&mut self, word: &Word, nodes: Vec<Node>)
-        requires { length nodes.items ≤ room_in self.old word.now }
-        ensures nodes { nodes_in self.new word.now ≡ nodes_in self.old word.now ++ nodes.items }
-        ensures others { (other : List ℕ) → other ≢ word.now
-            → nodes_in self.new other ≡ nodes_in self.old other }
-        ensures room { (other : List ℕ) → other ≢ word.now
-            → room_in self.new other ≡ room_in self.old other }
+    /// Enters a word with room for nodes.
+    fn enter(&mut self, word: &[u8], nodes: usize, bytes: usize) -> Result<(), AllocError>
+        requires absent { find word.now self.old ≡ None }
+        ensures nodes { (w : List ℕ) → nodes_in self.new w ≡ nodes_in self.old w }
+        ensures room { OnOk result (AddsRoom self.old self.new word.now
+            (record { nodes = nodes; bytes = bytes })) }
+        ensures keys { (w : List ℕ) → is_key self.new w ≡ true
+            → (is_key self.old w ≡ true) ⊎ (w ≡ word.now) }
     {
-        if let Some(held) = self.words.get_mut(word) {
-            append(held, nodes);
-        }
+        self.notes.reserve(1)?;
+        self.fresh.reserve(1)?;
+        let fresh = Word::copied(self.alloc, word)?;
+        let number = self.words.len();
+        enter(&mut self.words, &mut self.order, word, nodes, bytes)?;
+        self.notes.push(number).unwrap();
+        self.fresh.push(fresh).unwrap();
+        Ok(())
+    }
+
+    /// Puts nodes behind those of a word that has room for them. It takes no memory, and no look-up
+    /// where the words come in the order in which room was made for them.
+    pub fn append(&mut self, word: &[u8], nodes: &[Node])
+        requires { IsWithin (needs nodes.now) (room_of (list_in self.old word.now)) }
+        ensures takes { Takes (list_in self.old word.now) (list_in self.new word.now) nodes.now }
+        ensures others { (w : List ℕ) → w ≢ word.now → list_in self.new w ≡ list_in self.old w }
+    {
+        append_to(&mut self.words, self.notes.get(self.used), word, nodes);
+        self.used = next_note(self.used, &self.notes);
     }
 
     /// Replaces the nodes of a word that has some. Without nodes, the word is taken out. It takes
-    /// no memory.
-    pub fn replace(&mut self, word: &Word, reworked: Vec<Node>)
+    /// no memory, and gives up all room.
+    pub fn replace(&mut self, word: &Word, reworked: NodeList)
         requires { nodes_in self.old word.now ≢ [] }
-        ensures nodes { nodes_in self.new word.now ≡ reworked.items }
-        ensures others { (other : List ℕ) → other ≢ word.now
-            → nodes_in self.new other ≡ nodes_in self.old other }
-        ensures room { (other : List ℕ) → other ≢ word.now
-            → room_in self.new other ≡ room_in self.old other }
+        ensures nodes { nodes_in self.new word.now ≡ reworked.nodes }
+        ensures others { (w : List ℕ) → w ≢ word.now → nodes_in self.new w ≡ nodes_in self.old w }
+        ensures room { (w : List ℕ) → room_of (list_in self.new w) ≡ no_room }
     {
+        self.give_up_room();
+        self.replace_list(word, reworked);
+    }
+
+    /// Replaces the nodes of a word that has some, where no room is promised.
+    fn replace_list(&mut self, word: &Word, reworked: NodeList)
+        requires inside { nodes_in self.old word.now ≢ [] }
+        requires room { (w : List ℕ) → room_of (list_in self.old w) ≡ no_room }
+        ensures list { list_in self.new word.now ≡ with_nodes reworked.nodes }
+        ensures others { (w : List ℕ) → w ≢ word.now → list_in self.new w ≡ list_in self.old w }
+    {
+        let mut reworked = reworked;
+        reworked.give_up_room();
         if reworked.is_empty() {
-            self.words.remove(word);
+            take_out(&mut self.words, word.as_bytes());
+            take_out_of(&mut self.order, word);
             return;
         }
-        if let Some(held) = self.words.get_mut(word) {
-            *held = reworked;
-        }
+        replace_in(&mut self.words, word.as_bytes(), reworked);
     }
 }

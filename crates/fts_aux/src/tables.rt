@@ -1,15 +1,17 @@
 //! The six tables.
-ghost use Rattle.std.specs.Prelude.{◌≡◌, ◌≢◌, ℕ, ◌+◌, ◌<◌, ◌≤◌, ◌↔◌, ◌++◌, [], List, length, map};
+ghost use Rattle.std.specs.Prelude.{◌≡◌, ◌≢◌, ℕ, ◌+◌, ◌<◌, ◌↔◌, ◌++◌, [], List, length, map, true};
 ghost use Rattle.std.specs.Prelude.{slice_index, IsTrue, OnOk, IfOk, IfSome, IfNone};
 ghost use Rattle.std.specs.List.Sorted.{IsStrictlySortedBy};
 ghost use Rattle.std.specs.Map.{keys_of};
 ghost use Rattle.fts_types.specs.Table.{table_of};
 ghost use Rattle.fts_ilist.specs.Node.{NodesAfter, last_of, byte_order, nodes_for};
-ghost use Rattle.fts_aux.specs.Table.{nodes_in, IsListing, IsNext, IsLast};
-ghost use Rattle.fts_aux.specs.Tables.{nodes, room, HasRoom, ComesAfter, IsNextIn, IsLastIn};
+ghost use Rattle.fts_aux.specs.Table.{needs, no_room, with_room, IsWithin, IsListing, IsNext};
+ghost use Rattle.fts_aux.specs.Table.{IsLast};
+ghost use Rattle.fts_aux.specs.Tables.{nodes, room, HasRoom, HasRoomOf, HasNoOther, ComesAfter};
+ghost use Rattle.fts_aux.specs.Tables.{IsNextIn, IsLastIn, IsGivenUp, Stays, GainsRoom, UsesRoom};
 
 use crate::table::Table;
-use fts_ilist::{Node, Nodes, WordNodes};
+use fts_ilist::{Node, NodeList, NodeSlice, WordNodes, bytes_of};
 use fts_types::{Word, partition_of};
 use std::alloc::{AllocError, Global};
 use std::marker::Model;
@@ -25,14 +27,21 @@ pub struct Tables {
 }
 
 impl Model for Tables {
-    ghost use Rattle.std.specs.Prelude.{map};
-    ghost use Rattle.fts_aux.specs.Tables.{Held, shown, AreTables};
+    ghost use Rattle.fts_aux.specs.Tables.{Held, AreTables};
 
     ghost Value = { Held };
 
-    ghost view = { λ s. map shown s.tables };
+    ghost view = { λ s. s.tables };
 
     ghost invariant = { λ s. AreTables s.tables };
+}
+
+/// The place of the table of a word's bytes, from 0.
+fn place_of_bytes(word: &[u8]) -> usize
+    ensures table { result + 1 ≡ table_of word.now }
+    ensures few { result < 6 }
+{
+    usize::from(partition_of(word) - 1)
 }
 
 /// The place of a word's table, from 0.
@@ -40,7 +49,7 @@ fn place_of(word: &Word) -> usize
     ensures table { result + 1 ≡ table_of word.now }
     ensures few { result < 6 }
 {
-    usize::from(partition_of(word.as_bytes()) - 1)
+    place_of_bytes(word.as_bytes())
 }
 
 /// Whether a word begins with a byte behind `z`. Such words stand in the first table, and behind
@@ -86,12 +95,12 @@ impl Tables {
     }
 
     /// The nodes of a word, by ascending ids; none where the word isn't in the tables. It takes
-    /// logarithmic time.
-    pub fn nodes_of(&self, word: &Word) -> &[Node]
-        ensures value { result.now ≡ nodes self.now word.now }
-        ensures ascending { NodesAfter 0 result.now }
+    /// constant time.
+    pub fn nodes_of(&self, word: &[u8]) -> NodeSlice<'_>
+        ensures value { result ≡ nodes self.now word.now }
+        ensures ascending { NodesAfter 0 result }
     {
-        self.tables[place_of(word)].nodes_of(word)
+        self.tables[place_of_bytes(word)].nodes_of(word)
     }
 
     /// The least word behind this one that has nodes, over all tables. It asks the word's own
@@ -123,81 +132,121 @@ impl Tables {
     pub fn with_prefix(
         &self,
         alloc: Global,
-        prefix: &Word,
-    ) -> Result<Vec<(&Word, &[Node])>, AllocError>
+        prefix: &[u8],
+    ) -> Result<Vec<(&Word, NodeSlice<'_>)>, AllocError>
         requires { 0 < length prefix.now }
         ensures { IfOk result (λ found. IsListing (nodes self.now) prefix.now
-            (map (λ p. (p.0.now, p.1.now)) found.items)) }
+            (map (λ p. (p.0.now, p.1)) found.items)) }
     {
-        self.tables[place_of(prefix)].with_prefix(alloc, prefix)
+        self.tables[place_of_bytes(prefix)].with_prefix(alloc, prefix)
     }
 
-    /// Makes room for so many more nodes of a word.
-    fn reserve_word(&mut self, word: &Word, more: usize) -> Result<(), AllocError>
+    /// Gives up the room of the words of one table, and takes those without nodes out of it.
+    fn give_up_table(&mut self, place: usize)
+        requires { place < 6 }
+        ensures own { (word : List ℕ) → table_of word ≡ place + 1
+            → IsGivenUp self.old self.new word }
+        ensures others { (word : List ℕ) → table_of word ≢ place + 1
+            → Stays self.old self.new word }
+    {
+        let table = &mut self.tables[place];
+        table.give_up_room();
+    }
+
+    /// Gives up all room, and takes the words out that were entered for it and got no nodes.
+    fn give_up_room(&mut self)
+        ensures { (word : List ℕ) → IsGivenUp self.old self.new word }
+    {
+        for place in 0..TABLES {
+            self.give_up_table(place);
+        }
+    }
+
+    /// Makes room for so many more nodes and bytes of a word.
+    fn reserve_word(&mut self, word: &[u8], count: usize, bytes: usize) -> Result<(), AllocError>
         ensures nodes { (other : List ℕ) → nodes self.new other ≡ nodes self.old other }
-        ensures room { (other : List ℕ) → room self.old other ≤ room self.new other }
-        ensures ok { OnOk result (more ≤ room self.new word.now) }
+        ensures ok { OnOk result (GainsRoom self.old self.new word.now
+            (record { nodes = count; bytes = bytes })) }
     {
-        let table = &mut self.tables[place_of(word)];
-        table.reserve(word, more)
+        let table = &mut self.tables[place_of_bytes(word)];
+        table.reserve(word, count, bytes)
     }
 
-    /// Makes room for the nodes of a batch. The nodes of each word stay as they are, with or
-    /// without memory for it.
+    /// Makes room for the nodes of a batch, and no other: room that an earlier call made and nobody
+    /// used is given up, and so are the words that were entered for it. The nodes of each word stay
+    /// as they are, with or without memory for it.
     pub fn reserve(&mut self, batch: &[WordNodes]) -> Result<(), AllocError>
         ensures nodes { (word : List ℕ) → nodes self.new word ≡ nodes self.old word }
-        ensures room { (word : List ℕ) → room self.old word ≤ room self.new word }
-        ensures ok { OnOk result (HasRoom self.new batch.now) }
+        ensures room { OnOk result (HasRoomOf self.new batch.now) }
+        ensures words { OnOk result (HasNoOther self.new batch.now) }
     {
-        for group in batch {
-            self.reserve_word(group.word(), group.nodes().len())?;
+        self.give_up_room();
+        let mut rest = batch;
+        while let Some((first, behind)) = rest.split_first() {
+            let bytes = bytes_of(first.nodes()).ok_or(AllocError)?;
+            self.reserve_word(first.word().as_bytes(), first.nodes().len(), bytes)?;
+            rest = behind;
         }
         Ok(())
     }
 
     /// Puts nodes behind those of a word.
-    fn append_word(&mut self, word: &Word, added: Vec<Node>)
-        requires room { length added.items ≤ room self.old word.now }
-        requires after { NodesAfter (last_of 0 (nodes self.old word.now)) added.items }
-        ensures nodes { nodes self.new word.now ≡ nodes self.old word.now ++ added.items }
+    fn append_word(&mut self, word: &[u8], added: &[Node])
+        requires room { IsWithin (needs added.now) (room self.old word.now) }
+        requires after { NodesAfter (last_of 0 (nodes self.old word.now)) added.now }
+        ensures nodes { nodes self.new word.now ≡ nodes self.old word.now ++ added.now }
         ensures others { (other : List ℕ) → other ≢ word.now
             → nodes self.new other ≡ nodes self.old other }
-        ensures room { (other : List ℕ) → other ≢ word.now
-            → room self.new other ≡ room self.old other }
+        ensures room { UsesRoom self.old self.new word.now (needs added.now) }
     {
-        let table = &mut self.tables[place_of(word)];
+        let table = &mut self.tables[place_of_bytes(word)];
         table.append(word, added);
     }
 
     /// Puts the nodes of a batch behind those of their words. The batch has each word once, in byte
-    /// order, and the tables have room for it. It takes no memory, and a look-up for each word of
-    /// the batch.
-    pub fn install_batch(&mut self, batch: Nodes)
-        requires words { IsStrictlySortedBy byte_order (keys_of batch.items) }
-        requires room { HasRoom self.old batch.items }
-        requires after { ComesAfter self.old batch.items }
+    /// order, and the tables have room for it. It takes no memory, and no look-up where the room
+    /// was made for this batch.
+    pub fn install_batch(&mut self, batch: &[WordNodes])
+        requires words { IsStrictlySortedBy byte_order (keys_of batch.now) }
+        requires room { HasRoom self.old batch.now }
+        requires after { ComesAfter self.old batch.now }
         ensures nodes { (word : List ℕ)
-            → nodes self.new word ≡ nodes self.old word ++ nodes_for word batch.items }
+            → nodes self.new word ≡ nodes self.old word ++ nodes_for word batch.now }
+        ensures room { (word : List ℕ) → with_room (room self.new word)
+            (needs (nodes_for word batch.now)) ≡ room self.old word }
     {
-        let mut rest = batch.into_iter();
-        while let Some(group) = rest.next() {
-            let (word, nodes) = group.into_parts();
-            self.append_word(&word, nodes);
+        let mut rest = batch;
+        while let Some((first, behind)) = rest.split_first() {
+            self.append_word(first.word().as_bytes(), first.nodes());
+            rest = behind;
         }
     }
 
-    /// Replaces the nodes of a word of the tables. Without nodes, the word leaves the tables. It
-    /// takes no memory.
-    pub fn install_word(&mut self, word: &Word, reworked: Vec<Node>)
+    /// Replaces the nodes of a word that has some.
+    fn replace_word(&mut self, word: &Word, reworked: NodeList)
         requires inside { nodes self.old word.now ≢ [] }
-        requires ascending { NodesAfter 0 reworked.items }
-        ensures nodes { nodes self.new word.now ≡ reworked.items }
+        requires room { (other : List ℕ) → room self.old other ≡ no_room }
+        requires ascending { NodesAfter 0 reworked.nodes }
+        ensures nodes { nodes self.new word.now ≡ reworked.nodes }
         ensures others { (other : List ℕ) → other ≢ word.now
             → nodes self.new other ≡ nodes self.old other }
-        ensures room { (other : List ℕ) → other ≢ word.now
-            → room self.new other ≡ room self.old other }
+        ensures room { (other : List ℕ) → room self.new other ≡ no_room }
     {
         let table = &mut self.tables[place_of(word)];
         table.replace(word, reworked);
+    }
+
+    /// Replaces the nodes of a word of the tables. Without nodes, the word leaves the tables. It
+    /// takes no memory, and gives up all room.
+    pub fn install_word(&mut self, word: &Word, reworked: NodeList)
+        requires inside { nodes self.old word.now ≢ [] }
+        requires ascending { NodesAfter 0 reworked.nodes }
+        ensures nodes { nodes self.new word.now ≡ reworked.nodes }
+        ensures others { (other : List ℕ) → other ≢ word.now
+            → nodes self.new other ≡ nodes self.old other }
+        ensures room { (other : List ℕ) → room self.new other ≡ no_room }
+    {
+        self.give_up_room();
+        self.replace_word(word, reworked);
     }
 }

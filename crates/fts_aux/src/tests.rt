@@ -5,7 +5,7 @@ mod checks;
 
 use super::*;
 use checks::{are_after, ascend, come_after};
-use fts_ilist::{Ilist, Node, Nodes, WordNodes};
+use fts_ilist::{Ilist, Node, NodeList, NodeSlice, Nodes, WordNodes};
 use fts_types::Word;
 use std::alloc::Global;
 use std::collections::BTreeMap;
@@ -60,20 +60,16 @@ fn a_word_with_room_alone_does_not_show(rt: HostRuntime) -> Result<(), Fail> {
     let nodes = vec![in alloc; node(alloc, 5)?]?;
     let batch = vec![in alloc; WordNodes::new(Word::copied(alloc, b"apple")?, nodes)]?;
     tables.reserve(&batch)?;
-    assert!(rt; tables.nodes_of(&Word::copied(alloc, b"apple")?).is_empty());
+    assert!(rt; tables.nodes_of(b"apple").is_empty());
     assert!(rt; tables.next_after(&Word::copied(alloc, b"")?).is_none());
-    assert!(rt;
-        tables
-            .with_prefix(alloc, &Word::copied(alloc, b"a")?)?
-            .is_empty()
-    );
+    assert!(rt; tables.with_prefix(alloc, b"a")?.is_empty());
     Ok(())
 }
 
 // Nodes begin with these ids.
-fn begin_with(rt: &impl Abort, nodes: &[Node], ids: &[u64]) {
+fn begin_with(rt: &impl Abort, nodes: NodeSlice<'_>, ids: &[u64]) {
     assert_eq!(rt; nodes.len(), ids.len());
-    for (node, id) in nodes.iter().zip(ids) {
+    for (node, id) in nodes.zip(ids) {
         assert_eq!(rt; (node.first(), node.count()), (*id, 1));
     }
 }
@@ -83,7 +79,7 @@ fn holds(rt: &impl Abort, alloc: Global, tables: &Tables, plain: &Plain) -> Resu
     let mut before = Word::copied(alloc, b"")?;
     for (word, ids) in plain {
         assert!(rt; tables.next_after(&before).is_some_and(|next| next == word));
-        begin_with(rt, tables.nodes_of(word), ids);
+        begin_with(rt, tables.nodes_of(word.as_bytes()), ids);
         before = Word::copied(alloc, word.as_bytes())?;
     }
     assert!(rt; tables.next_after(&before).is_none());
@@ -133,7 +129,7 @@ fn batch(alloc: Global, plain: &mut Plain, turn: u32) -> Result<Nodes, Fail> {
 fn counts(alloc: Global, tables: &Tables, batch: &[WordNodes]) -> Result<Vec<usize>, Fail> {
     let mut counts = Vec::new(alloc);
     for group in batch {
-        counts.push(tables.nodes_of(group.word()).len())?;
+        counts.push(tables.nodes_of(group.word().as_bytes()).len())?;
     }
     Ok(counts)
 }
@@ -158,7 +154,7 @@ fn install(rt: &impl Abort, alloc: Global, tables: &mut Tables, batch: Nodes) ->
     make_room(rt, alloc, tables, &batch)?;
     assert!(rt; ascend(&batch));
     assert!(rt; come_after(tables, &batch));
-    tables.install_batch(batch);
+    tables.install_batch(&batch);
     Ok(())
 }
 
@@ -186,7 +182,7 @@ fn a_prefix_finds_the_words_that_have_nodes(rt: HostRuntime) -> Result<(), Fail>
     let alloc = rt.alloc();
     let mut plain = BTreeMap::new(alloc);
     let tables = filled(&rt, alloc, &mut plain)?;
-    let found = tables.with_prefix(alloc, &Word::copied(alloc, b"app")?)?;
+    let found = tables.with_prefix(alloc, b"app")?;
     assert_eq!(rt; found.len(), 2);
     for ((word, nodes), (want, count)) in found.iter().zip([(b"apple", 3), (b"apply", 4)]) {
         assert_eq!(rt; (word.as_bytes(), nodes.len()), (want.as_slice(), count));
@@ -213,7 +209,8 @@ fn rework(
         note(alloc, plain, word, id)?;
     }
     assert!(rt; are_after(0, &nodes));
-    assert!(rt; !tables.nodes_of(&key).is_empty());
+    assert!(rt; !tables.nodes_of(word).is_empty());
+    let nodes = NodeList::of(alloc, &nodes)?;
     tables.install_word(&key, nodes);
     Ok(())
 }

@@ -14,3 +14,4 @@ pub mod Ends
 pub mod Cursors
 pub mod Kept
 pub mod Packs
+mod Arena

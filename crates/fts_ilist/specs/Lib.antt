@@ -9,3 +9,4 @@ pub mod Parsed
 pub mod Queue
 pub mod Node
 pub mod Packing
+pub mod NodeList

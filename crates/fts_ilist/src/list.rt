@@ -61,12 +61,12 @@ impl From<AllocError> for ParseError {
 /// and documents are added behind the last.
 #[derive(Drop)]
 pub struct Ilist {
-    bytes: Vec<u8>,
+    pub(crate) bytes: Vec<u8>,
     // The ids of the first and of the last document, or 0 where there is none.
-    first: u64,
-    last: u64,
+    pub(crate) first: u64,
+    pub(crate) last: u64,
     // The number of documents.
-    count: usize,
+    pub(crate) count: usize,
 }
 
 impl Model for Ilist {

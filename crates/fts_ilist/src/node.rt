@@ -5,6 +5,7 @@ ghost use Rattle.fts_ilist.specs.Node.{body_size, head_size};
 
 use crate::documents::Document;
 use crate::list::Ilist;
+use crate::node_list::NodeRef;
 use fts_types::{DocId, Word};
 use std::marker::Model;
 
@@ -62,6 +63,19 @@ impl Node {
         ensures { result.now ≡ self.now }
     {
         &self.list
+    }
+
+    /// The node, lent.
+    pub fn as_ref(&self) -> NodeRef<'_>
+        ensures { result ≡ self.now }
+    {
+        NodeRef {
+            bytes: &self.list.bytes,
+            first: self.list.first,
+            last: self.list.last,
+            count: self.list.count,
+            head: self.head,
+        }
     }
 
     /// The id of the first document.

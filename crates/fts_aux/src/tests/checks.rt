@@ -8,18 +8,20 @@ ghost use Rattle.fts_ilist.specs.Node.{BeginsAfter, NodesAfter, last_of, byte_or
 ghost use Rattle.fts_aux.specs.Tables.{ComesAfter};
 
 use crate::Tables;
-use fts_ilist::{Node, WordNodes};
+use fts_ilist::{Node, NodeSlice, WordNodes};
 use fts_types::Word;
 use std::cmp::Ordering;
 
 // The last id of nodes, and `before` where there is none.
-fn last_in(before: u64, nodes: &[Node]) -> u64
-    ensures { result ≡ last_of before nodes.now }
+fn last_in(before: u64, nodes: NodeSlice<'_>) -> u64
+    ensures { result ≡ last_of before nodes.entry }
 {
-    match nodes {
-        [] => before,
-        [first, rest @ ..] => last_in(first.last(), rest),
+    let mut last = before;
+    let mut rest = nodes;
+    while let Some(node) = rest.next() {
+        last = node.last();
     }
+    last
 }
 
 // Whether a node's ids are above one.
@@ -51,7 +53,7 @@ pub fn come_after(tables: &Tables, batch: &[WordNodes]) -> bool
     match batch {
         [] => true,
         [first, rest @ ..] => {
-            let last = last_in(0, tables.nodes_of(first.word()));
+            let last = last_in(0, tables.nodes_of(first.word().as_bytes()));
             if !are_after(last, first.nodes()) {
                 return false;
             }

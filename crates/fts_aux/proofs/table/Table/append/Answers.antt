@@ -1,10 +1,9 @@
-use Rattle.std.proofs.Common.{Some, ap, rules}
-use Rattle.fts_aux.specs.Table.{items_of, spare_of}
-use Rattle.fts_aux.proofs.Changes.{others_stay}
+use Rattle.fts_aux.proofs.Kept.{table_appended, none_before, room_before}
 use Rattle.fts_aux.proofs.table.Table.append.Goals as goal
 
-pub returns-in-Some-clause-others : goal.returns-in-Some-clause-others
-returns-in-Some-clause-others c = λ q apart. ap items_of (others_stay c.args.self.now.words (c.get_mut.follows.lender c.append.new.held) c.args.word.now (Some c.append.new.held) ((c.get_mut.follows.holds c.append.new.held).3 (search rules)) q apart)
-
-pub returns-in-Some-clause-room : goal.returns-in-Some-clause-room
-returns-in-Some-clause-room c = λ q apart. ap spare_of (others_stay c.args.self.now.words (c.get_mut.follows.lender c.append.new.held) c.args.word.now (Some c.append.new.held) ((c.get_mut.follows.holds c.append.new.held).3 (search rules)) q apart)
+pub invariant_of-self : goal.invariant_of-self
+invariant_of-self c =
+    let es = c.self.inside.words.entries in
+    let new = c.append_to.new.words.entries in
+    table_appended es new c.self.inside.order c.self.inside.fresh.items c.self.inside.notes.items c.args.word.now c.self.invariant c.append_to.ensures.keys c.append_to.ensures.are c.append_to.ensures.others
+    (none_before _ _ c.args.nodes.now c.append_to.ensures.takes) (room_before _ _ c.args.nodes.now c.append_to.ensures.takes)

@@ -1,12 +1,14 @@
-use Rattle.std.proofs.Common.{ap}
-use Rattle.fts_aux.specs.Table.{filled}
-use Rattle.fts_aux.proofs.Ordered.{ascends_from, next_of, last_of_all}
+use Rattle.std.proofs.Common.{subst}
+use Rattle.fts_aux.specs.Table.{Entries, nodes_in, IsNext, IsLast}
+use Rattle.fts_aux.proofs.Seen.{next_seen, last_seen}
 use Rattle.fts_aux.proofs.table.Table.next_after.Goals as goal
 
 pub returns-in-Some-clause-found : goal.returns-in-Some-clause-found
 returns-in-Some-clause-found c =
-    next_of c.args.word.now c.args.self.now.words.entries (ascends_from c.args.self.now.words.entries c.range-rest.ensures.ordered) (filled c.range-rest.result) (ap filled (c.range-rest.ensures.between tt)) c.in-Some.next.now c.in-Some.field-0-1.now c.in-Some.ensures
+    subst (λ (t : Entries). IsNext (nodes_in t) c.args.word.now c.in-Some.next.now) c.self.view_is
+    (next_seen c.self.inside.words.entries c.self.inside.order c.self.invariant.listed c.range-rest.ensures.ordered c.args.word.now c.range-rest.result (c.range-rest.ensures.between tt) c.in-Some.next.now c.in-Some.ensures)
 
 pub returns-in-None-clause-none : goal.returns-in-None-clause-none
 returns-in-None-clause-none c =
-    last_of_all c.args.word.now c.args.self.now.words.entries (ascends_from c.args.self.now.words.entries c.range-rest.ensures.ordered) (filled c.range-rest.result) (ap filled (c.range-rest.ensures.between tt)) c.in-None.ensures
+    subst (λ (t : Entries). IsLast (nodes_in t) c.args.word.now) c.self.view_is
+    (last_seen c.self.inside.words.entries c.self.inside.order c.self.invariant.listed c.range-rest.ensures.ordered c.args.word.now c.range-rest.result (c.range-rest.ensures.between tt) c.in-None.ensures)

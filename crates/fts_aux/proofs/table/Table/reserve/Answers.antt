@@ -1,23 +1,35 @@
-use Rattle.std.proofs.Common.{◌≡◌, Some, None, ap, ◌∙◌, subst, rules, arith}
-use Rattle.std.specs.BTreeMap.{get, UpdatesBy}
-use Rattle.fts_ilist.specs.Node.{byte_order}
-use Rattle.fts_aux.proofs.Changes.{kept_items, kept_room, new_items, new_room}
+use Rattle.std.proofs.Common.{◌≡◌, ◌++◌, ◌∷◌, [], rules, sym, ap, subst, ◌∙◌, Some}
+use Rattle.fts_ilist.specs.NodeList.{NodeState}
+use Rattle.fts_aux.specs.Table.{list_in, room_of, IsTable}
+use Rattle.fts_aux.proofs.Kept.{table_appended, table_reserved, are_written}
+use Rattle.fts_aux.proofs.Finds.{list_written, list_other}
 use Rattle.fts_aux.proofs.table.Table.reserve.Goals as goal
 
-pub returns-in-Some-clause-nodes : goal.returns-in-Some-clause-nodes
-returns-in-Some-clause-nodes c =
-    kept_items c.args.self.now.words (c.get_mut.follows.lender c.reserve.new.self) c.args.word.now c.reserve.new.self ((c.get_mut.follows.holds c.reserve.new.self).3 (search rules)) c.in-Some.held.now c.in-Some.ensures.value c.reserve.ensures.items
+pub invariant_of-self-in_err-reserve_at-in-Some : goal.invariant_of-self-in_err-reserve_at-in-Some
+invariant_of-self-in_err-reserve_at-in-Some c =
+    let es = c.self.inside.words.entries in
+    let new = c.reserve_at.new.words.entries in
+    let word = c.args.word.now in
+    let l = list_in es word in
+    let same : c.reserve.new.self.items ≡ c.self.inside.notes.items = search rules in
+    let wr = c.in_err-reserve_at-in-Some.ensures.err in
+    let at = c.in-Some.ensures.some in
+    let now : list_in new word ≡ l = list_written es new word l wr.becomes in
+    subst (IsTable new c.self.inside.order c.self.inside.fresh.items) (sym same)
+    (table_appended es new c.self.inside.order c.self.inside.fresh.items c.self.inside.notes.items word c.self.invariant wr.keys
+    (are_written es new word l c.in-Some.number wr.becomes at) (list_other es new word (Some l) wr.becomes)
+    (λ none. ap (λ (x : NodeState). x.nodes) (sym now) ∙ none) (λ none. ap room_of now ∙ none))
 
-pub returns-in-Some-clause-room : goal.returns-in-Some-clause-room
-returns-in-Some-clause-room c =
-    kept_room c.args.self.now.words (c.get_mut.follows.lender c.reserve.new.self) c.args.word.now c.reserve.new.self ((c.get_mut.follows.holds c.reserve.new.self).3 (search rules)) c.in-Some.held.now c.in-Some.ensures.value (omega (arith, c.reserve.ensures.capacity, c.reserve.ensures.len))
-
-pub returns-in-Ok-clause-nodes : goal.returns-in-Ok-clause-nodes
-returns-in-Ok-clause-nodes c =
-    let absent : get byte_order c.args.self.now.words c.args.word.now ≡ None = search rules in
-    new_items c.args.self.now.words c.insert.new.self c.in_ok-key.key c.in_ok-room.room (subst (λ m. UpdatesBy byte_order (byte_order c.in_ok-key.key) m c.insert.new.self (Some c.in_ok-room.room)) c.get_mut.follows.holds-at-none c.in-Ok.ensures.updates) (ap (λ k. get byte_order c.args.self.now.words k) (c.in_ok-key.ensures ∙ c.as_bytes.ensures) ∙ absent) c.in_ok-room.ensures.items
-
-pub returns-in-Ok-clause-room : goal.returns-in-Ok-clause-room
-returns-in-Ok-clause-room c =
-    let absent : get byte_order c.args.self.now.words c.args.word.now ≡ None = search rules in
-    new_room c.args.self.now.words c.insert.new.self c.in_ok-key.key c.in_ok-room.room (subst (λ m. UpdatesBy byte_order (byte_order c.in_ok-key.key) m c.insert.new.self (Some c.in_ok-room.room)) c.get_mut.follows.holds-at-none c.in-Ok.ensures.updates) (ap (λ k. get byte_order c.args.self.now.words k) (c.in_ok-key.ensures ∙ c.as_bytes.ensures) ∙ absent)
+pub invariant_of-self-in-Some : goal.invariant_of-self-in-Some
+invariant_of-self-in-Some c =
+    let es = c.self.inside.words.entries in
+    let new = c.reserve_at.new.words.entries in
+    let word = c.args.word.now in
+    let notes : c.push.new.self.items ≡ c.self.inside.notes.items ++ c.in-Some.number ∷ [] = search rules in
+    let wr = c.in_ok-reserve_at-in-Some.ensures.ok in
+    let at = c.in-Some.ensures.some in
+    let now = list_written es new word _ wr.becomes in
+    subst (IsTable new c.self.inside.order c.self.inside.fresh.items) (sym notes)
+    (table_reserved es new c.self.inside.order c.self.inside.fresh.items c.self.inside.notes.items word c.self.invariant wr.keys
+    (are_written es new word _ c.in-Some.number wr.becomes at) (list_other es new word (Some _) wr.becomes)
+    (λ none. ap (λ (x : NodeState). x.nodes) (sym now) ∙ none) c.in-Some.number at)

@@ -1,36 +1,50 @@
-use Rattle.std.proofs.Common.{◌≡◌, ◌≤◌, ◌++◌, ◌∷◌, length, sym, ap, subst, ◌∙◌}
+use Rattle.std.proofs.Common.{◌≡◌, ◌++◌, ◌∷◌, refl, sym, ap, subst, ◌∙◌}
 use Rattle.std.specs.List.{AllByRecursion}
 use Rattle.std.proofs.lemmas.List.Elements.{recursion_from_All}
 use Rattle.fts_ilist.specs.Node.{NodesAfter, last_of, nodes_for}
-use Rattle.fts_aux.specs.Tables.{nodes, room}
+use Rattle.fts_aux.specs.Table.{needs, with_room, IsWithin}
+use Rattle.fts_aux.specs.Tables.{nodes, room, HasRoom}
 use Rattle.fts_aux.proofs.Ordered.{Ascends, ascends_from}
-use Rattle.fts_aux.proofs.Batches.{nodes_step, room_step, after_step}
+use Rattle.fts_aux.proofs.Rooms.{needs_first, used, used_more, here_needs}
+use Rattle.fts_aux.proofs.Batches.{nodes_step, after_step}
 use Rattle.fts_aux.proofs.tables.Tables.install_batch.Goals as goal
 
-pub loop-group-init : goal.loop-group-init
-loop-group-init c =
-    let same : c.into_iter-rest.result.rest.items ≡ c.args.batch.items = c.into_iter-rest.ensures.rest in (
-      λ w. ap (λ b. nodes c.args.self.now w ++ nodes_for w b) same,
-      subst Ascends (sym same) (ascends_from c.args.batch.items c.requires.words),
-      subst (AllByRecursion (λ g. length g.1 ≤ room c.args.self.now g.0)) (sym same) (recursion_from_All (λ g. length g.1 ≤ room c.args.self.now g.0) c.args.batch.items c.requires.room),
-      subst (AllByRecursion (λ g. NodesAfter (last_of 0 (nodes c.args.self.now g.0)) g.1)) (sym same) (recursion_from_All (λ g. NodesAfter (last_of 0 (nodes c.args.self.now g.0)) g.1) c.args.batch.items c.requires.after),
-    )
+pub loop-first-init : goal.loop-first-init
+loop-first-init c = (
+  λ w. refl,
+  ascends_from c.args.batch.now c.requires.words,
+  c.requires.room,
+  recursion_from_All (λ g. NodesAfter (last_of 0 (nodes c.args.self.now g.0)) g.1) c.args.batch.now c.requires.after,
+  λ w. refl,
+)
 
-pub loop-group-preserved : goal.loop-group-preserved
-loop-group-preserved c =
-    let group = c.in-Some.group in
-    let word = c.into_parts-word.result.0 in
-    let added = c.into_parts-word.result.1.items in
-    let rest = c.next.new.self.rest.items in
-    let held = c.loop-group.self in
+pub append_word-requires-clause-room : goal.append_word-requires-clause-room
+append_word-requires-clause-room c =
+    let word = c.as_bytes.result.now in
+    let added = c.nodes.result.now in
+    let behind = c.in-Some.behind.now in
+    let whole : (word, added) ≡ c.in-Some.first.now = ap (λ w. (w, added)) (c.as_bytes.ensures ∙ c.word.ensures) ∙ ap (λ ns. (c.in-Some.first.now.0, ns)) c.nodes.ensures in
+    let parts : c.loop-first.rest.now ≡ (word, added) ∷ behind = c.in-Some.ensures.cases.0 ∙ ap (λ g. g ∷ behind) (sym whole) in
+    let has : HasRoom c.loop-first.self ((word, added) ∷ behind) = subst (HasRoom c.loop-first.self) parts c.loop-first.invariant.2 in
+    here_needs (room c.loop-first.self word) word added behind (has word)
+
+pub loop-first-preserved : goal.loop-first-preserved
+loop-first-preserved c =
+    let word = c.as_bytes.result.now in
+    let added = c.nodes.result.now in
+    let behind = c.in-Some.behind.now in
+    let held = c.loop-first.self in
     let later = c.append_word.new.self in
-    let whole : (word, added) ≡ group = ap (λ w. (w, added)) c.into_parts-word.ensures.word ∙ ap (λ ns. (group.0, ns)) c.into_parts-word.ensures.nodes in
-    let parts : c.loop-group.rest.rest.items ≡ (word, added) ∷ rest = c.in-Some.ensures.items ∙ ap (λ g. g ∷ rest) (sym whole) in
-    let up : Ascends ((word, added) ∷ rest) = subst Ascends parts c.loop-group.invariant.1 in
-    let rooms : AllByRecursion (λ g. length g.1 ≤ room held g.0) ((word, added) ∷ rest) = subst (AllByRecursion (λ g. length g.1 ≤ room held g.0)) parts c.loop-group.invariant.2 in
-    let afters : AllByRecursion (λ g. NodesAfter (last_of 0 (nodes held g.0)) g.1) ((word, added) ∷ rest) = subst (AllByRecursion (λ g. NodesAfter (last_of 0 (nodes held g.0)) g.1)) parts c.loop-group.invariant.3 in (
-      λ w. nodes_step held later word added c.append_word.ensures.nodes c.append_word.ensures.others c.append_word.ensures.room rest w ∙ ap (λ b. nodes held w ++ nodes_for w b) (sym parts) ∙ c.loop-group.invariant.0 w,
+    let inv = c.loop-first.invariant in
+    let whole : (word, added) ≡ c.in-Some.first.now = ap (λ w. (w, added)) (c.as_bytes.ensures ∙ c.word.ensures) ∙ ap (λ ns. (c.in-Some.first.now.0, ns)) c.nodes.ensures in
+    let parts : c.loop-first.rest.now ≡ (word, added) ∷ behind = c.in-Some.ensures.cases.0 ∙ ap (λ g. g ∷ behind) (sym whole) in
+    let up : Ascends ((word, added) ∷ behind) = subst Ascends parts inv.1 in
+    let has : HasRoom held ((word, added) ∷ behind) = subst (HasRoom held) parts inv.2 in
+    let afters : AllByRecursion (λ g. NodesAfter (last_of 0 (nodes held g.0)) g.1) ((word, added) ∷ behind) = subst (AllByRecursion (λ g. NodesAfter (last_of 0 (nodes held g.0)) g.1)) parts inv.3 in (
+      λ w. nodes_step held later word added c.append_word.ensures.nodes c.append_word.ensures.others behind w ∙ ap (λ b. nodes held w ++ nodes_for w b) (sym parts) ∙ inv.0 w,
       up.1,
-      room_step held later word added c.append_word.ensures.nodes c.append_word.ensures.others c.append_word.ensures.room rest up.0 rooms.1,
-      after_step held later word added c.append_word.ensures.nodes c.append_word.ensures.others c.append_word.ensures.room rest up.0 afters.1,
+      λ w. used (room held w) (room later w) _ (needs (nodes_for w behind)) (c.append_word.ensures.room w) (subst (λ r. IsWithin r (room held w)) (needs_first w word added behind) (has w)),
+      after_step held later word added c.append_word.ensures.nodes c.append_word.ensures.others behind up.0 afters.1,
+      λ w. used_more (room held w) (room later w) _ (needs (nodes_for w behind)) (room c.args.self.now w) (needs (nodes_for w c.args.batch.now)) (c.append_word.ensures.room w)
+          (inv.4 w ∙ ap (λ b. with_room (room c.args.self.now w) (needs (nodes_for w b))) parts ∙ ap (with_room (room c.args.self.now w)) (needs_first w word added behind)),
     )

@@ -1,16 +1,18 @@
-use Rattle.std.proofs.Common.{◌≡◌, ◌≤◌, ◌++◌, ℕ, List, length}
+use Rattle.std.proofs.Common.{◌≡◌, ◌++◌, ℕ, List, length}
 use Rattle.std.specs.List.{AllByRecursion}
 use Rattle.fts_ilist.specs.Node.{NodesAfter, last_of, nodes_for}
-use Rattle.fts_aux.specs.Tables.{nodes, room}
+use Rattle.fts_aux.specs.Table.{needs, with_room}
+use Rattle.fts_aux.specs.Tables.{nodes, room, HasRoom}
 use Rattle.fts_aux.proofs.Ordered.{Ascends}
 use Rattle.fts_aux.proofs.tables.Tables.install_batch.Given as goal
 
-abbrev pub invariant-loop-group : goal.invariant-loop-group
-invariant-loop-group l =
-    ((w : List ℕ) → nodes l.self w ++ nodes_for w l.rest.rest.items ≡ nodes l.initial.self w ++ nodes_for w l.fn.batch.items)
-    × Ascends l.rest.rest.items
-    × AllByRecursion (λ g. length g.1 ≤ room l.self g.0) l.rest.rest.items
-    × AllByRecursion (λ g. NodesAfter (last_of 0 (nodes l.self g.0)) g.1) l.rest.rest.items
+abbrev pub invariant-loop-first : goal.invariant-loop-first
+invariant-loop-first l =
+    ((w : List ℕ) → nodes l.self w ++ nodes_for w l.rest ≡ nodes l.initial.self w ++ nodes_for w l.fn.batch)
+    × Ascends l.rest
+    × HasRoom l.self l.rest
+    × AllByRecursion (λ g. NodesAfter (last_of 0 (nodes l.self g.0)) g.1) l.rest
+    × ((w : List ℕ) → with_room (room l.self w) (needs (nodes_for w l.fn.batch)) ≡ with_room (room l.initial.self w) (needs (nodes_for w l.rest)))
 
-abbrev pub decreases-loop-group : goal.decreases-loop-group
-decreases-loop-group l = length l.rest.rest.items
+abbrev pub decreases-loop-first : goal.decreases-loop-first
+decreases-loop-first l = length l.rest

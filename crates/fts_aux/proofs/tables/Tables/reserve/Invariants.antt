@@ -1,10 +1,18 @@
-use Rattle.std.proofs.Common.{◌≡◌, ◌<◌, ◌≤◌, ℕ, List, length, get_or}
-use Rattle.fts_ilist.specs.Node.{Docs}
-use Rattle.fts_aux.specs.Tables.{nodes, room}
+use Rattle.std.proofs.Common.{◌≡◌, ℕ, List, true, length}
+use Rattle.std.specs.List.{list_any}
+use Rattle.std.specs.Map.{keys_of}
+use Rattle.std.specs.Str.{bytes_eq}
+use Rattle.fts_ilist.specs.Node.{nodes_for}
+use Rattle.fts_aux.specs.Table.{needs, with_room}
+use Rattle.fts_aux.specs.Tables.{nodes, room, HasNoOther}
 use Rattle.fts_aux.proofs.tables.Tables.reserve.Given as goal
 
-abbrev pub invariant-loop-group : goal.invariant-loop-group
-invariant-loop-group l =
-    ((w : List ℕ) → nodes l.self w ≡ nodes l.initial.self w)
-    × ((w : List ℕ) → room l.initial.self w ≤ room l.self w)
-    × ((j : ℕ) (d : List ℕ × List Docs) → j < l.group-index → length (get_or l.batch j d).1 ≤ room l.self (get_or l.batch j d).0)
+abbrev pub invariant-loop-first : goal.invariant-loop-first
+invariant-loop-first l =
+    ((w : List ℕ) → nodes l.self w ≡ nodes l.fn.self w)
+    × ((w : List ℕ) → with_room (room l.self w) (needs (nodes_for w l.rest)) ≡ needs (nodes_for w l.fn.batch))
+    × HasNoOther l.self l.fn.batch
+    × ((w : List ℕ) → list_any (bytes_eq w) (keys_of l.rest) ≡ true → list_any (bytes_eq w) (keys_of l.fn.batch) ≡ true)
+
+abbrev pub decreases-loop-first : goal.decreases-loop-first
+decreases-loop-first l = length l.rest

@@ -1,0 +1,136 @@
+#!/bin/sh
+# Times 30 batches of 29,000 words each into the auxiliary tables, a word with one node of five documents in a batch, as 1,000
+# mails have them: `reserve`, and `install_batch` with the drop of the batch. bench/tables.sh [COMMIT ..]
+# It does so for the tree as it stands, and for each commit that is named, one after another in one run; it needs `rt`, and
+# proves fts_aux with the test that takes the times. A batch is installed in seven parts, by ascending words.
+top=$(CDPATH='' cd -- "$(dirname -- "$0")/.." && pwd) || exit 1
+folder=$(mktemp -d) || exit 1
+trap 'rm -rf "$folder"' EXIT
+
+# The test, whose last line fails and tells the times. $1 is how an install takes its batch, $2 what is done behind it.
+times() {
+    cat <<TEST
+use std::rt::Clock;
+use std::time::Instant;
+
+const LETTERS: [u8; 26] = *b"abcdefghijklmnopqrstuvwxyz";
+
+fn letter(place: u32) -> u8 {
+    LETTERS[(place % 26) as usize]
+}
+
+// The word of a place, by ascending words.
+fn word(alloc: Global, place: u32) -> Result<Word, Fail>
+    requires { place < 50000 }
+{
+    let n = place * 9;
+    let bytes = vec![in alloc; letter(n / 17576), letter(n / 676), letter(n / 26), letter(n)]?;
+    Ok(Word::from_vec(bytes))
+}
+
+fn five(alloc: Global, turn: u32) -> Result<Node, Fail>
+    requires { turn < 1000 }
+{
+    let mut list = Ilist::new(alloc);
+    list.push(u64::from(turn) * 10 + 1, &[7, 300])?;
+    list.push(u64::from(turn) * 10 + 2, &[7, 300])?;
+    list.push(u64::from(turn) * 10 + 3, &[7, 300])?;
+    list.push(u64::from(turn) * 10 + 4, &[7, 300])?;
+    list.push(u64::from(turn) * 10 + 5, &[7, 300])?;
+    Ok(Node::new(list))
+}
+
+fn group(alloc: Global, turn: u32, place: u32) -> Result<WordNodes, Fail>
+    requires turn { turn < 1000 }
+    requires place { place < 50000 }
+{
+    let nodes = vec![in alloc; five(alloc, turn)?]?;
+    Ok(WordNodes::new(word(alloc, place)?, nodes))
+}
+
+fn part(alloc: Global, turn: u32, part: u32) -> Result<Nodes, Fail>
+    requires turn { turn < 1000 }
+    requires part { part < 7 }
+{
+    let mut batch = Vec::new(alloc);
+    for step in 0..7142u32 {
+        let place = part * 7142 + step;
+        if (place * 61 + turn * 37) % 100 < 58 {
+            batch.push(group(alloc, turn, place)?)?;
+        }
+    }
+    Ok(batch)
+}
+
+fn since<R: Clock>(rt: &R, start: Instant) -> Result<u128, Fail> {
+    Ok(start.elapsed(rt)?.as_nanos())
+}
+
+fn reserved(rt: &(impl Abort + Clock), tables: &mut Tables, batch: &[WordNodes]) -> Result<u128, Fail>
+    ensures { OnOk result (HasRoom tables.new batch.now) }
+{
+    let start = Instant::now(rt)?;
+    tables.reserve(batch)?;
+    since(rt, start)
+}
+
+fn installed(rt: &(impl Abort + Clock), tables: &mut Tables, batch: Nodes) -> Result<u128, Fail>
+    requires { HasRoom tables.old batch.items }
+{
+    assert!(rt; ascend(&batch));
+    assert!(rt; come_after(tables, &batch));
+    let start = Instant::now(rt)?;
+    tables.install_batch($1batch);
+    $2
+    since(rt, start)
+}
+
+fn turn(rt: &(impl Abort + Clock), alloc: Global, tables: &mut Tables, turn: u32) -> Result<(u128, u128), Fail>
+    requires { turn < 1000 }
+{
+    let mut reserve = 0u128;
+    let mut install = 0u128;
+    for place in 0..7u32 {
+        let batch = part(alloc, turn, place)?;
+        reserve = reserve.wrapping_add(reserved(rt, tables, &batch)?);
+        install = install.wrapping_add(installed(rt, tables, batch)?);
+    }
+    Ok((reserve, install))
+}
+
+#[test]
+fn times(rt: HostRuntime) -> Result<(), Fail> {
+    let alloc = rt.alloc();
+    let mut tables = Tables::new(alloc);
+    let mut reserve = 0u128;
+    let mut install = 0u128;
+    for place in 1..31u32 {
+        let (first, second) = turn(&rt, alloc, &mut tables, place)?;
+        reserve = reserve.wrapping_add(first);
+        install = install.wrapping_add(second);
+    }
+    assert_eq!(rt; (reserve / 30_000, install / 30_000), (0, 0));
+    Ok(())
+}
+TEST
+}
+
+# Times the tree in this folder.
+run() {
+    cd "$1/crates/fts_aux" || exit 1
+    if grep -q 'install_batch(&mut self, batch: &' src/tables.rt; then
+        times '\&' 'drop(batch);' | sed 's/\\&/\&/' >>src/tests.rt
+    else
+        times '' '' >>src/tests.rt
+    fi
+    rt test 2>&1 | grep -E 'times|left|right|error|no proof|not proved' | head -20
+}
+
+git -C "$top" archive HEAD | (mkdir "$folder/now" && tar -x -C "$folder/now") || exit 1
+for commit in "$@"; do
+    git -C "$top" archive "$commit" | (mkdir "$folder/$commit" && tar -x -C "$folder/$commit") || exit 1
+    echo "$commit: microseconds a batch, reserve and install:"
+    (run "$folder/$commit")
+done
+echo "now: microseconds a batch, reserve and install:"
+(run "$folder/now")

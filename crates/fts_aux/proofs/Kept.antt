@@ -1,0 +1,142 @@
+-- What is kept beside the words of a table, as calls change them.
+use Rattle.std.proofs.Common.{◌≡◌, ◌≢◌, ⊎_elim, ℕ, zero, suc, Bool, true, false, cond, ◌||◌, List, [], ◌∷◌, ◌++◌, length, Option, Some, is_some, refl, sym, ap, ◌∙◌, true≢false, arith}
+use Rattle.std.specs.Global.{Vec}
+use Rattle.std.specs.List.{list_any}
+use Rattle.std.specs.Map.{keys_of}
+use Rattle.std.specs.Str.{bytes_eq}
+use Rattle.std.specs.BTreeSet.{BTreeSet, contains}
+use Rattle.fts_ilist.specs.Node.{Docs, byte_order}
+use Rattle.fts_ilist.specs.NodeList.{NodeState, Takes}
+use Rattle.fts_aux.specs.Table.{Entries, find, list_in, nodes_in, is_key, is_key_at, Room, room_of, no_room, IsListed, IsFilledBut, IsNotedBut, IsTable, Becomes, Enters, Includes, Drops}
+use Rattle.fts_aux.proofs.Finds.{which_word, list_other}
+
+any_left : {X : Type 0} (p : X → Bool) (xs : List X) (x : X) → list_any p xs ≡ true → list_any p (xs ++ x ∷ []) ≡ true
+any_left p [] x e = absurd (true≢false (sym e))
+any_left {X} p (y ∷ ys) x e = or_more (p y) (list_any p ys) (list_any p (ys ++ x ∷ [])) (any_left p ys x) e
+  where
+    or_more : (a b c : Bool) → (b ≡ true → c ≡ true) → (a || b) ≡ true → (a || c) ≡ true
+    or_more true b c f h = refl
+    or_more false b c f h = f h
+
+any_last : {X : Type 0} (p : X → Bool) (xs : List X) (x : X) → p x ≡ true → list_any p (xs ++ x ∷ []) ≡ true
+any_last p [] x e = ap (λ b. b || false) e
+any_last {X} p (y ∷ ys) x e = or_right (p y) (list_any p (ys ++ x ∷ [])) (any_last p ys x e)
+  where
+    or_right : (a b : Bool) → b ≡ true → (a || b) ≡ true
+    or_right true b h = refl
+    or_right false b h = h
+
+pub none_before : (old new : NodeState) (more : List Docs) → Takes old new more → new.nodes ≡ [] → old.nodes ≡ []
+none_before old new more takes none = front_none old.nodes more (sym takes.nodes ∙ none)
+  where
+    front_none : (xs ys : List Docs) → xs ++ ys ≡ [] → xs ≡ []
+    front_none [] ys e = refl
+    front_none (x ∷ xs) ys e = absurd cc
+
+pub room_before : (old new : NodeState) (more : List Docs) → Takes old new more → room_of old ≡ no_room → room_of new ≡ no_room
+room_before old new more takes none =
+    let nodes : new.node_room ≡ 0 = omega (arith, takes.node_room, ap (λ (r : Room). r.nodes) none) in
+    let bytes : new.byte_room ≡ 0 = omega (arith, takes.byte_room, ap (λ (r : Room). r.bytes) none) in
+    ap (λ n. let r : Room = record { nodes = n; bytes = new.byte_room } in r) nodes ∙ ap (λ n. let r : Room = record { nodes = 0; bytes = n } in r) bytes
+
+pub none_noted : (es : Entries) (notes : List ℕ) → ((w : List ℕ) → room_of (list_in es w) ≡ no_room) → IsNotedBut es notes
+none_noted es notes none w some = absurd (some (none w))
+
+-- whether a word is there, after a change of one
+key_after : (es new : Entries) (word : List ℕ) (o : Option NodeState) → Becomes es word o new → (w : List ℕ) → w ≢ word → is_key new w ≡ is_key es w
+key_after es new word o b w apart =
+    ⊎_elim
+    (λ (h : (bytes_eq w word ≡ true) × (w ≡ word)). absurd (apart h.1))
+    (λ (h : (bytes_eq w word ≡ false) × (w ≢ word)). ap is_some (b w ∙ ap (λ (t : Bool). cond t o (find w es)) h.0))
+    (which_word w word)
+
+key_there : (es : Entries) (n : ℕ) (w : List ℕ) → is_key_at (keys_of es) n w ≡ true → is_key es w ≡ true
+key_there [] n w at = absurd (true≢false (sym at))
+key_there (e ∷ es) zero w at = ap (λ (b : Bool). is_some (cond b (Some e.1) (find w es))) at
+key_there (e ∷ es) (suc n) w at = or_there (bytes_eq w e.0.items) (key_there es n w at)
+  where
+    or_there : (b : Bool) → is_key es w ≡ true → is_some (cond b (Some e.1) (find w es)) ≡ true
+    or_there true h = refl
+    or_there false h = h
+
+pub are_written : (es new : Entries) (word : List ℕ) (l : NodeState) (n : ℕ) → Becomes es word (Some l) new → is_key_at (keys_of es) n word ≡ true → (w : List ℕ) → is_key new w ≡ is_key es w
+are_written es new word l n b at w =
+    ⊎_elim
+    (λ (h : (bytes_eq w word ≡ true) × (w ≡ word)). ap is_some (b w ∙ ap (λ (t : Bool). cond t (Some l) (find w es)) h.0) ∙ sym (ap (is_key es) h.1 ∙ key_there es n word at))
+    (λ (h : (bytes_eq w word ≡ false) × (w ≢ word)). key_after es new word (Some l) b w h.1)
+    (which_word w word)
+
+module _ (es new : Entries) (order : BTreeSet (List ℕ)) (fresh : List (List ℕ)) (notes : List ℕ) (word : List ℕ) (is : IsTable es order fresh notes)
+    (keys : keys_of new ≡ keys_of es) (are : (w : List ℕ) → is_key new w ≡ is_key es w) (others : (w : List ℕ) → w ≢ word → list_in new w ≡ list_in es w)
+    (nodes : nodes_in new word ≡ [] → nodes_in es word ≡ []) where
+  listed_still : IsListed new order
+  listed_still w k = is.listed w (sym (are w) ∙ k)
+
+  filled_still : IsFilledBut new fresh
+  filled_still w k none =
+      ⊎_elim
+      (λ (h : (bytes_eq w word ≡ true) × (w ≡ word)). is.filled w (sym (are w) ∙ k) (ap (nodes_in es) h.1 ∙ nodes (sym (ap (nodes_in new) h.1) ∙ none)))
+      (λ (h : (bytes_eq w word ≡ false) × (w ≢ word)). is.filled w (sym (are w) ∙ k) (ap (λ (l : NodeState). l.nodes) (sym (others w h.1)) ∙ none))
+      (which_word w word)
+
+  noted_old : (w : List ℕ) → room_of (list_in es w) ≢ no_room → list_any (λ number. is_key_at (keys_of new) number w) notes ≡ true
+  noted_old w some = ap (λ (ks : List (Vec ℕ)). list_any (λ number. is_key_at ks number w) notes) keys ∙ is.noted w some
+
+  -- the word has no more room than before
+  pub table_appended : (room_of (list_in es word) ≡ no_room → room_of (list_in new word) ≡ no_room) → IsTable new order fresh notes
+  table_appended less = record {
+    listed = listed_still;
+    filled = filled_still;
+    noted = λ w some. noted_old w (λ none. some (⊎_elim
+        (λ (h : (bytes_eq w word ≡ true) × (w ≡ word)). ap (λ (x : List ℕ). room_of (list_in new x)) h.1 ∙ less (ap (λ (x : List ℕ). room_of (list_in es x)) (sym h.1) ∙ none))
+        (λ (h : (bytes_eq w word ≡ false) × (w ≢ word)). ap room_of (others w h.1) ∙ none)
+        (which_word w word)));
+  }
+
+  -- the word has more room, and its number is noted
+  pub table_reserved : (n : ℕ) → is_key_at (keys_of es) n word ≡ true → IsTable new order fresh (notes ++ n ∷ [])
+  table_reserved n at = record {
+    listed = listed_still;
+    filled = filled_still;
+    noted = λ w some. ⊎_elim
+        (λ (h : (bytes_eq w word ≡ true) × (w ≡ word)). any_last (λ number. is_key_at (keys_of new) number w) notes n (ap (λ (ks : List (Vec ℕ)). is_key_at ks n w) keys ∙ ap (is_key_at (keys_of es) n) h.1 ∙ at))
+        (λ (h : (bytes_eq w word ≡ false) × (w ≢ word)). any_left (λ number. is_key_at (keys_of new) number w) notes n (noted_old w (λ none. some (ap room_of (others w h.1) ∙ none))))
+        (which_word w word);
+  }
+
+-- a word was entered
+pub table_entered : (es new : Entries) (order order' : BTreeSet (List ℕ)) (fresh : List (List ℕ)) (notes : List ℕ) (word : List ℕ) (l : NodeState)
+    → IsTable es order fresh notes → Enters es new word l → Includes order order' word → IsTable new order' (fresh ++ word ∷ []) (notes ++ length es ∷ [])
+table_entered es new order order' fresh notes word l is en inc = record {
+  listed = λ w k. ⊎_elim
+      (λ (h : (bytes_eq w word ≡ true) × (w ≡ word)). ap (contains byte_order order') h.1 ∙ inc.last)
+      (λ (h : (bytes_eq w word ≡ false) × (w ≢ word)). inc.others w (is.listed w (sym (key_after es new word (Some l) en.becomes w h.1) ∙ k)))
+      (which_word w word);
+  filled = λ w k none. ⊎_elim
+      (λ (h : (bytes_eq w word ≡ true) × (w ≡ word)). any_last (bytes_eq w) fresh word h.0)
+      (λ (h : (bytes_eq w word ≡ false) × (w ≢ word)). any_left (bytes_eq w) fresh word (is.filled w (sym (key_after es new word (Some l) en.becomes w h.1) ∙ k) (ap (λ (x : NodeState). x.nodes) (sym (list_other es new word (Some l) en.becomes w h.1)) ∙ none)))
+      (which_word w word);
+  noted = λ w some. ⊎_elim
+      (λ (h : (bytes_eq w word ≡ true) × (w ≡ word)). any_last (λ number. is_key_at (keys_of new) number w) notes (length es) (ap (is_key_at (keys_of new) (length es)) h.1 ∙ en.last))
+      (λ (h : (bytes_eq w word ≡ false) × (w ≢ word)). any_left (λ number. is_key_at (keys_of new) number w) notes (length es)
+      (any_stay notes w (is.noted w (λ none. some (ap room_of (list_other es new word (Some l) en.becomes w h.1) ∙ none)))))
+      (which_word w word);
+}
+  where
+    any_stay : (ns : List ℕ) (w : List ℕ) → list_any (λ number. is_key_at (keys_of es) number w) ns ≡ true → list_any (λ number. is_key_at (keys_of new) number w) ns ≡ true
+    any_stay [] w e = e
+    any_stay (n ∷ ns) w e = or_both (is_key_at (keys_of es) n w) (is_key_at (keys_of new) n w) (list_any (λ number. is_key_at (keys_of es) number w) ns) (list_any (λ number. is_key_at (keys_of new) number w) ns) (en.stay n w) (any_stay ns w) e
+      where
+        or_both : (a b c d : Bool) → (a ≡ true → b ≡ true) → (c ≡ true → d ≡ true) → (a || c) ≡ true → (b || d) ≡ true
+        or_both true b c d f g h = ap (λ x. x || d) (f refl)
+        or_both false true c d f g h = refl
+        or_both false false c d f g h = g h
+
+-- a step of the walk over the fresh words
+pub drop_step : (es new : Entries) (first : List ℕ) (behind rest : List (List ℕ)) → Drops es new first → rest ≡ first ∷ behind → IsFilledBut es rest → IsFilledBut new behind
+drop_step es new first behind rest drops parts filled w k none =
+    let has : list_any (bytes_eq w) (first ∷ behind) ≡ true = ap (list_any (bytes_eq w)) (sym parts) ∙ filled w (drops.are w k) (ap (λ (l : NodeState). l.nodes) (sym (drops.lists w)) ∙ none) in
+    ⊎_elim
+    (λ (h : (bytes_eq w first ≡ true) × (w ≡ first)). absurd (drops.gone (ap (is_key new) (sym h.1) ∙ k) (ap (nodes_in new) (sym h.1) ∙ none)))
+    (λ (h : (bytes_eq w first ≡ false) × (w ≢ first)). ap (λ (b : Bool). b || list_any (bytes_eq w) behind) (sym h.0) ∙ has)
+    (which_word w first)

@@ -1,0 +1,15 @@
+use Rattle.std.proofs.Common.{◌≡◌, ◌++◌, ◌∷◌, [], length, ℕ, List, sym, ap, ◌∙◌, subst, rules}
+use Rattle.fts_aux.specs.Table.{IsTable}
+use Rattle.fts_aux.proofs.Kept.{table_entered}
+use Rattle.fts_aux.proofs.table.Table.enter.Goals as goal
+
+pub invariant_of-self-2 : goal.invariant_of-self-2
+invariant_of-self-2 c =
+    let es = c.self.inside.words.entries in
+    let number : c.len-number.result ≡ length es = c.len-number.ensures.len in
+    let notes : c.push.new.self.items ≡ c.self.inside.notes.items ++ c.len-number.result ∷ [] = search rules in
+    let fresh : c.push-2.new.self.items ≡ c.self.inside.fresh.items ++ c.in_ok-fresh.fresh ∷ [] = search rules in
+    let new = c.enter.new.words.entries in
+    subst (λ (x : List (List ℕ)). IsTable new c.enter.new.order x c.push.new.self.items) (sym (fresh ∙ ap (λ (x : List ℕ). c.self.inside.fresh.items ++ x ∷ []) c.in_ok-fresh.ensures))
+    (subst (λ (x : List ℕ). IsTable new c.enter.new.order (c.self.inside.fresh.items ++ c.args.word.now ∷ []) x) (sym (notes ∙ ap (λ n. c.self.inside.notes.items ++ n ∷ []) number))
+    (table_entered es new c.self.inside.order c.enter.new.order c.self.inside.fresh.items c.self.inside.notes.items c.args.word.now _ c.self.invariant c.in_ok-enter.ensures.ok c.in_ok-enter.ensures.order))

@@ -1,0 +1,12 @@
+use Rattle.std.proofs.Common.{◌≡◌, ℕ, List, length}
+use Rattle.fts_aux.specs.Table.{list_in, IsFilledBut, IsListed}
+use Rattle.fts_aux.proofs.table.drop_empty.Given as goal
+
+abbrev pub invariant-loop-first : goal.invariant-loop-first
+invariant-loop-first l =
+    ((w : List ℕ) → list_in l.words.entries w ≡ list_in l.initial.words.entries w)
+    × IsFilledBut l.words.entries l.rest
+    × IsListed l.words.entries l.order
+
+abbrev pub decreases-loop-first : goal.decreases-loop-first
+decreases-loop-first l = length l.rest

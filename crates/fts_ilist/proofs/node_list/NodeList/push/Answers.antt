@@ -1,0 +1,44 @@
+use Rattle.std.proofs.Common.{◌≡◌, ◌+◌, ◌≤◌, ◌∷◌, ◌++◌, [], length, sym, ap, ◌∙◌, subst, arith, rules}
+use Rattle.std.specs.Vec.{vec_len}
+use Rattle.fts_ilist.specs.Packing.{node_size}
+use Rattle.fts_ilist.specs.NodeList.{AreRows, nodes_at}
+use Rattle.fts_ilist.specs.declared.node_list.NodeRow.{NodeRow}
+use Rattle.fts_ilist.proofs.Arena.{rows_more, nodes_more}
+use Rattle.fts_ilist.proofs.node_list.NodeList.push.Goals as goal
+
+pub invariant_of-self : goal.invariant_of-self
+invariant_of-self c =
+    let more = c.node.inside.bytes.now in
+    let row : NodeRow = record { start = c.len-start.result; end = c.len.result; first = c.node.inside.first; last = c.node.inside.last; count = c.node.inside.count; head = c.node.inside.head } in
+    let rows : c.push.new.self.items ≡ c.self.inside.rows.items ++ row ∷ [] = search rules in
+    let bytes : c.extend_from_slice.new.self.items ≡ c.self.inside.bytes.items ++ more = search rules in
+    let begins : c.len-start.result ≡ length c.self.inside.bytes.items = search rules in
+    let ends : c.len.result ≡ length c.self.inside.bytes.items + length more = search rules in
+    let vec_rows : vec_len c.push.new.self ≡ vec_len c.self.inside.rows + 1 = search rules in
+    record {
+      are = subst (λ bs. AreRows bs c.push.new.self.items) (sym bytes)
+          (subst (AreRows (c.self.inside.bytes.items ++ more)) (sym rows)
+          (rows_more c.self.inside.bytes.items more c.self.inside.rows.items row c.self.invariant.are begins ends c.node.invariant));
+      within_rows = omega (arith, c.self.invariant.within_rows, c.push.ensures.capacity, vec_rows);
+      within_bytes = omega (arith, c.self.invariant.within_bytes, c.extend_from_slice.ensures.capacity, c.len-start.ensures, c.len.ensures, begins, ends);
+    }
+
+pub returns : goal.returns
+returns c =
+    let more = c.node.inside.bytes.now in
+    let row : NodeRow = record { start = c.len-start.result; end = c.len.result; first = c.node.inside.first; last = c.node.inside.last; count = c.node.inside.count; head = c.node.inside.head } in
+    let rows : c.push.new.self.items ≡ c.self.inside.rows.items ++ row ∷ [] = search rules in
+    let bytes : c.extend_from_slice.new.self.items ≡ c.self.inside.bytes.items ++ more = search rules in
+    let begins : c.len-start.result ≡ length c.self.inside.bytes.items = search rules in
+    let ends : c.len.result ≡ length c.self.inside.bytes.items + length more = search rules in
+    let old = c.self.view_is in
+    let vec_rows : vec_len c.push.new.self ≡ vec_len c.self.inside.rows + 1 = search rules in
+    let size : length more ≡ node_size c.args.node.now = ap length c.node.invariant.kept.list.spelled ∙ ap node_size c.node.view_is in
+    record {
+      nodes = ap (λ bs. nodes_at bs c.push.new.self.items) bytes ∙ ap (nodes_at (c.self.inside.bytes.items ++ more)) rows
+          ∙ nodes_more c.self.inside.bytes.items more c.self.inside.rows.items row c.self.invariant.are begins ends c.node.invariant
+          ∙ ap (λ (n : _). nodes_at c.self.inside.bytes.items c.self.inside.rows.items ++ n ∷ []) c.node.view_is
+          ∙ ap (λ s. s.nodes ++ c.args.node.now ∷ []) old;
+      node_room = omega (arith, ap (λ s. s.node_room) old, c.requires.nodes);
+      byte_room = omega (arith, ap (λ s. s.byte_room) old, c.requires.bytes, size);
+    }

@@ -1,0 +1,58 @@
+-- Nodes that lie one behind the other in one run of bytes, and a table with a row for each.
+use Rattle.std.specs.Prelude.{◌≡◌, ◌≢◌, ℕ, ◌≤◌, List, [], ◌∷◌, ◌++◌, ◌+◌, length, map, sum_by}
+use Rattle.std.specs.List.{slice_range, AllByRecursion}
+use Rattle.fts_ilist.specs.Spelling.{Posting}
+use Rattle.fts_ilist.specs.Reading.{postings_in, IsKept}
+use Rattle.fts_ilist.specs.Node.{Docs, head_size}
+use Rattle.fts_ilist.specs.Packing.{node_size}
+use Rattle.fts_ilist.specs.declared.node_list.NodeRow.{NodeRow}
+
+-- what is kept of a node, and its bytes
+pub record IsNode (first last count head : ℕ) (bytes : List ℕ) : Type 0 where
+  pub kept : IsKept first last count bytes
+  pub some : postings_in 0 bytes ≢ []
+  pub head_is : head ≡ head_size (postings_in 0 bytes)
+
+-- the documents of a row's node
+abbrev pub row_docs : List ℕ → NodeRow → Docs
+row_docs bytes row = postings_in 0 (slice_range bytes row.start row.end)
+
+-- a row says where its node's bytes begin and end, and what is kept of it
+pub record IsRow (bytes : List ℕ) (row : NodeRow) : Type 0 where
+  pub order : row.start ≤ row.end
+  pub within : row.end ≤ length bytes
+  pub node : IsNode row.first row.last row.count row.head (slice_range bytes row.start row.end)
+
+abbrev pub AreRows : List ℕ → List NodeRow → Type 0
+AreRows bytes rows = AllByRecursion (IsRow bytes) rows
+
+-- the nodes of rows
+abbrev pub nodes_at : List ℕ → List NodeRow → List Docs
+nodes_at bytes rows = map (row_docs bytes) rows
+
+-- how many bytes nodes take
+abbrev pub nodes_size : List Docs → ℕ
+nodes_size ns = sum_by node_size ns
+
+-- what contracts see of a list of nodes: the nodes, and the room that was asked for and is left, in nodes and in bytes
+pub record NodeState : Type 0 where
+  pub nodes : List Docs
+  pub node_room : ℕ
+  pub byte_room : ℕ
+
+-- a list that promises no room
+abbrev pub with_nodes : List Docs → NodeState
+with_nodes ns = record { nodes = ns; node_room = 0; byte_room = 0 }
+
+-- a list of nodes took some in behind its own, within its room
+pub record Takes (old new : NodeState) (more : List Docs) : Type 0 where
+  pub nodes : new.nodes ≡ old.nodes ++ more
+  pub node_room : new.node_room + length more ≡ old.node_room
+  pub byte_room : new.byte_room + nodes_size more ≡ old.byte_room
+
+-- the fields of a list of nodes: rows that fit their bytes, and room within the capacities
+pub record IsNodeList (rows : List NodeRow) (bytes : List ℕ) (row_spare byte_spare node_room byte_room : ℕ)
+    : Type 0 where
+  pub are : AreRows bytes rows
+  pub within_rows : node_room ≤ row_spare
+  pub within_bytes : byte_room ≤ byte_spare

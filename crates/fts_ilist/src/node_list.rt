@@ -1,0 +1,363 @@
+//! The nodes of a word, in one run of bytes.
+ghost use Rattle.std.specs.Prelude.{◌≡◌, ◌+◌, ◌≤◌, ◌↔◌, [], ◌∷◌, ◌++◌, length, IsTrue, IfOk, OnOk};
+ghost use Rattle.std.specs.Prelude.{OnErr};
+ghost use Rattle.std.specs.Prelude.{◌^◌, IfSome, IfNone};
+ghost use Rattle.std.specs.Iterator.{YieldsFirst, item_count};
+ghost use Rattle.fts_ilist.specs.Spelling.{ArePostings, HasFirstId, last_id, list_bytes};
+ghost use Rattle.fts_ilist.specs.Node.{head_size};
+ghost use Rattle.fts_ilist.specs.Packing.{node_size};
+ghost use Rattle.fts_ilist.specs.NodeList.{nodes_size, Takes, IsRow, row_docs, with_nodes};
+
+use crate::cursor::Cursor;
+use crate::node::Node;
+use fts_types::DocId;
+use std::alloc::{AllocError, Global};
+use std::iter::FusedIterator;
+use std::marker::Model;
+
+/// Where a node's bytes begin and end, and what is kept of it.
+#[derive(Clone, Copy)]
+pub struct NodeRow {
+    start: usize,
+    end: usize,
+    first: u64,
+    last: u64,
+    count: usize,
+    head: usize,
+}
+
+/// A node that is lent: its bytes, the first and the last of its ids, and the number of its
+/// documents.
+#[derive(Drop)]
+pub struct NodeRef<'a> {
+    pub(crate) bytes: &'a [u8],
+    pub(crate) first: u64,
+    pub(crate) last: u64,
+    pub(crate) count: usize,
+    pub(crate) head: usize,
+}
+
+impl<'a> Model for NodeRef<'a> {
+    ghost use Rattle.std.specs.Prelude.{List};
+    ghost use Rattle.fts_ilist.specs.Spelling.{Posting};
+    ghost use Rattle.fts_ilist.specs.Reading.{postings_in};
+    ghost use Rattle.fts_ilist.specs.NodeList.{IsNode};
+
+    ghost Value = { List Posting };
+
+    ghost view = { λ n. postings_in 0 n.bytes.now };
+
+    ghost invariant = { λ n. IsNode n.first n.last n.count n.head n.bytes.now };
+}
+
+impl<'a> NodeRef<'a> {
+    /// The bytes that spell the position list.
+    pub fn bytes(&self) -> &'a [u8]
+        ensures spelled { result.now ≡ list_bytes self.now }
+        ensures are { ArePostings self.now }
+    {
+        self.bytes
+    }
+
+    /// A cursor at the first document. It reads in place, and takes no memory.
+    pub fn cursor(&self) -> Cursor<'a>
+        ensures documents { result ≡ self.now }
+        ensures are { ArePostings result }
+    {
+        Cursor::new(0, self.bytes)
+    }
+
+    /// The id of the first document.
+    pub fn first(&self) -> DocId
+        ensures { HasFirstId self.now result }
+    {
+        self.first
+    }
+
+    /// The id of the last document.
+    pub fn last(&self) -> DocId
+        ensures { result ≡ last_id self.now }
+    {
+        self.last
+    }
+
+    /// The number of documents.
+    pub fn count(&self) -> usize
+        ensures { result ≡ length self.now }
+    {
+        self.count
+    }
+
+    /// The number of bytes of the first document behind its id, as of a `Node`.
+    pub fn head(&self) -> usize
+        ensures { result ≡ head_size self.now }
+    {
+        self.head
+    }
+}
+
+/// Nodes that are lent, by ascending ids. It is the iterator over them too, and takes no memory.
+#[derive(Drop)]
+pub struct NodeSlice<'a> {
+    rows: &'a [NodeRow],
+    bytes: &'a [u8],
+}
+
+impl<'a> Model for NodeSlice<'a> {
+    ghost use Rattle.std.specs.Prelude.{List};
+    ghost use Rattle.fts_ilist.specs.Node.{Docs};
+    ghost use Rattle.fts_ilist.specs.NodeList.{nodes_at, AreRows};
+
+    ghost Value = { List Docs };
+
+    ghost view = { λ s. nodes_at s.bytes.now s.rows.now };
+
+    ghost invariant = { λ s. AreRows s.bytes.now s.rows.now };
+}
+
+impl<'a> NodeSlice<'a> {
+    /// No nodes.
+    pub fn empty() -> Self
+        ensures { result ≡ [] }
+    {
+        NodeSlice {
+            rows: &[],
+            bytes: &[],
+        }
+    }
+
+    /// The number of nodes.
+    pub fn len(&self) -> usize
+        ensures { result ≡ length self.now }
+    {
+        self.rows.len()
+    }
+
+    /// Whether there are none.
+    pub fn is_empty(&self) -> bool
+        ensures { IsTrue result ↔ (self.now ≡ []) }
+    {
+        self.rows.is_empty()
+    }
+}
+
+/// The node of a row.
+fn node_of<'a>(row: &NodeRow, bytes: &'a [u8]) -> NodeRef<'a>
+    requires { IsRow bytes.now row.now }
+    ensures { result ≡ row_docs bytes.now row.now }
+{
+    NodeRef {
+        bytes: &bytes[row.start..row.end],
+        first: row.first,
+        last: row.last,
+        count: row.count,
+        head: row.head,
+    }
+}
+
+impl<'a> Iterator for NodeSlice<'a> {
+    type Item = NodeRef<'a>;
+
+    ghost next_gives = { YieldsFirst (λ rest. rest) };
+
+    ghost remaining = { item_count (λ rest. rest) };
+
+    #[inline]
+    fn next(&mut self) -> Option<NodeRef<'a>> {
+        match self.rows {
+            [] => None,
+            [first, rest @ ..] => {
+                self.rows = rest;
+                Some(node_of(first, self.bytes))
+            }
+        }
+    }
+}
+
+impl<'a> FusedIterator for NodeSlice<'a> {}
+
+/// Nodes of a word, by ascending ids: their bytes one behind the other in one run, and a table that
+/// has a row for each. So a list of many small nodes takes two allocations. Room is a number that
+/// was asked for, whatever the allocator gave.
+#[derive(Drop)]
+pub struct NodeList {
+    rows: Vec<NodeRow>,
+    bytes: Vec<u8>,
+    // How many more rows and bytes there is room for.
+    node_room: usize,
+    byte_room: usize,
+}
+
+impl Model for NodeList {
+    ghost use Rattle.std.specs.Prelude.{◌-◌};
+    ghost use Rattle.std.specs.Vec.{vec_len, vec_capacity};
+    ghost use Rattle.fts_ilist.specs.NodeList.{NodeState, nodes_at, IsNodeList};
+
+    ghost Value = { NodeState };
+
+    ghost view = { λ l. record {
+      nodes = nodes_at l.bytes.items l.rows.items;
+      node_room = l.node_room;
+      byte_room = l.byte_room;
+    } };
+
+    ghost invariant = { λ l. IsNodeList l.rows.items l.bytes.items
+        (vec_capacity l.rows - vec_len l.rows) (vec_capacity l.bytes - vec_len l.bytes)
+        l.node_room l.byte_room };
+}
+
+impl NodeList {
+    /// No nodes, and no room. What it holds later lies in this allocator.
+    pub fn new(alloc: Global) -> Self
+        ensures { result ≡ with_nodes [] }
+    {
+        NodeList {
+            rows: Vec::new(alloc),
+            bytes: Vec::new(alloc),
+            node_room: 0,
+            byte_room: 0,
+        }
+    }
+
+    /// A list of these nodes, without room.
+    pub fn of(alloc: Global, nodes: &[Node]) -> Result<Self, AllocError>
+        ensures { IfOk result (λ list. list ≡ with_nodes nodes.now) }
+    {
+        let mut list = NodeList::new(alloc);
+        list.reserve(nodes.len(), bytes_of(nodes).ok_or(AllocError)?)?;
+        list.append(nodes);
+        Ok(list)
+    }
+
+    /// The nodes.
+    pub fn as_slice(&self) -> NodeSlice<'_>
+        ensures { result ≡ self.now.nodes }
+    {
+        NodeSlice {
+            rows: &self.rows,
+            bytes: &self.bytes,
+        }
+    }
+
+    /// Whether there are none.
+    pub fn is_empty(&self) -> bool
+        ensures { IsTrue result ↔ (self.now.nodes ≡ []) }
+    {
+        self.rows.is_empty()
+    }
+
+    /// Makes room for so many more nodes and bytes, beside the room that there is. Where there is
+    /// no memory for it, nothing changes.
+    pub fn reserve(&mut self, nodes: usize, bytes: usize) -> Result<(), AllocError>
+        ensures ok { OnOk result (self.new ≡ record self.old {
+          node_room = self.old.node_room + nodes;
+          byte_room = self.old.byte_room + bytes;
+        }) }
+        ensures err { OnErr result (self.new ≡ self.old) }
+    {
+        let node_room = self.node_room.checked_add(nodes).ok_or(AllocError)?;
+        let byte_room = self.byte_room.checked_add(bytes).ok_or(AllocError)?;
+        self.rows.reserve(node_room)?;
+        self.bytes.reserve(byte_room)?;
+        self.node_room = node_room;
+        self.byte_room = byte_room;
+        Ok(())
+    }
+
+    /// Gives up the room.
+    pub fn give_up_room(&mut self)
+        ensures { self.new ≡ with_nodes self.old.nodes }
+    {
+        self.node_room = 0;
+        self.byte_room = 0;
+    }
+
+    /// Puts a node behind the last, within the room. It takes no memory.
+    pub fn push(&mut self, node: &NodeRef<'_>)
+        requires nodes { 1 ≤ self.old.node_room }
+        requires bytes { node_size node.now ≤ self.old.byte_room }
+        ensures { Takes self.old self.new (node.now ∷ []) }
+    {
+        let start = self.bytes.len();
+        self.bytes.extend_from_slice(node.bytes).unwrap();
+        let row = NodeRow {
+            start,
+            end: self.bytes.len(),
+            first: node.first,
+            last: node.last,
+            count: node.count,
+            head: node.head,
+        };
+        self.rows.push(row).unwrap();
+        self.node_room -= 1;
+        self.byte_room -= node.bytes.len();
+    }
+
+    /// Puts nodes behind the last, within the room. It takes no memory.
+    pub fn append(&mut self, nodes: &[Node])
+        requires nodes { length nodes.now ≤ self.old.node_room }
+        requires bytes { nodes_size nodes.now ≤ self.old.byte_room }
+        ensures { Takes self.old self.new nodes.now }
+    {
+        let mut rest = nodes;
+        while let [first, behind @ ..] = rest {
+            self.push(&first.as_ref());
+            rest = behind;
+        }
+    }
+}
+
+/// The number of bytes of nodes, where it fits.
+pub fn bytes_of(nodes: &[Node]) -> Option<usize>
+    ensures some { IfSome result (λ bytes. bytes ≡ nodes_size nodes.now) }
+    ensures none { IfNone result (2 ^ 64 ≤ nodes_size nodes.now) }
+{
+    let mut bytes: usize = 0;
+    let mut rest = nodes;
+    while let [first, behind @ ..] = rest {
+        bytes = bytes.checked_add(first.as_ref().bytes().len())?;
+        rest = behind;
+    }
+    Some(bytes)
+}
+
+#[cfg(test)]
+mod tests {
+    use super::*;
+    use crate::list::Ilist;
+    use std::test::Fail;
+
+    // Ids of the documents of nodes, a node each.
+    const IDS: [u64; 3] = [3, 300, 70_000];
+
+    // Nodes of one document each.
+    fn nodes(alloc: Global) -> Result<Vec<Node>, Fail> {
+        let mut nodes = Vec::new(alloc);
+        for id in IDS.iter() {
+            let mut list = Ilist::new(alloc);
+            list.push(*id, &[7])?;
+            nodes.push(Node::new(list))?;
+        }
+        Ok(nodes)
+    }
+
+    // A list gives the nodes that were put in, with all that is kept of them.
+    #[test]
+    fn a_list_gives_its_nodes(rt: HostRuntime) -> Result<(), Fail> {
+        let alloc = rt.alloc();
+        let nodes = nodes(alloc)?;
+        let list = NodeList::of(alloc, &nodes)?;
+        assert_eq!(rt; list.as_slice().len(), 3);
+        for (found, node) in list.as_slice().zip(nodes.iter()) {
+            assert_eq!(rt;
+                (found.first(), found.last(), found.count()),
+                (node.first(), node.last(), 1)
+            );
+            assert_eq!(rt;
+                (found.head(), found.bytes()),
+                (node.head(), node.list().bytes())
+            );
+        }
+        Ok(())
+    }
+}
