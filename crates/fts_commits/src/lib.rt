@@ -3,8 +3,8 @@
 //!
 //! A commit is a list of changes, as `Change::Delete { key: 7 }`, and a [`Refusal`] says why one
 //! cannot be made, as `Refusal::DuplicateKey { key: 7, change: 2 }`. The definitions stand in
-//! `specs/`: `Commit.antt` has what a commit makes of the rows, `Scan.antt` what a search finds, and
-//! no index appears in them.
+//! `specs/`: `Commit.antt` has what a commit makes of the rows, `Turn.antt` who is born and who
+//! dies in it, `Scan.antt` what a search finds. No index appears in them.
 //!
 //! To hold a change costs its texts.
 #![tactic(auto)]

@@ -3,6 +3,9 @@
 //! Files and streams can fail at any call. Each object of the outside counts its faults, and a call
 //! answers `Failed` only where that count rose in it. So a failure has a cause that its caller can
 //! see.
+//!
+//! Of `source.read(&mut buffer)` that answers `Err(Failed)`, the caller knows that
+//! `source.faults()` rose. It costs nothing.
 #![tactic(auto)]
 
 use std::error::Error;

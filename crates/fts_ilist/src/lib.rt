@@ -2,8 +2,8 @@
 //! bytes.
 //!
 //! The format stands in `docs/FORMATS.md`, "Position lists". Each list has one spelling. An
-//! [`Ilist`] is its bytes: `list.push(7, &[0, 4])?` appends a document, and `list.cursor()` reads the
-//! list in place and skips to an id. [`parse`] takes exactly the spellings, and [`pack`] cuts
+//! [`Ilist`] is its bytes: `list.push(7, &[0, 4])?` appends a document, and `list.cursor()` reads
+//! the list in place and skips to an id. [`parse`] takes exactly the spellings, and [`pack`] cuts
 //! documents into the nodes of a word.
 //!
 //! A byte is written once and read once.

@@ -5,6 +5,10 @@
 //! gate is any byte other than `01`; it ends the log. An append writes the length, the payload and
 //! a closed gate behind the gate that is closed, makes them durable, then opens that gate and makes
 //! it durable: so a crash at any moment leaves the old entries, or these and the new one.
+//!
+//! `log.append(&framed)?` gives the entry's number once it is durable, and `log.entry_at(0)?` its
+//! payload. An append costs the record's bytes, two writes and two syncs; an opening reads the file
+//! once.
 #![tactic(auto)]
 
 mod begun;

@@ -1,9 +1,9 @@
 //! What a Boolean query is and what it finds: its tree, the bytes of its text that are at fault,
 //! the rows in which it holds.
 //!
-//! The definitions are in `specs/`: `+apple -"apple pie"` is a list of two terms, and holds in a row
-//! that has the word and not the phrase. This crate has the types that they are about, and the law
-//! that a text without a fault has one tree.
+//! The definitions are in `specs/`: `+apple -"apple pie"` is a list of two terms, and holds in a
+//! row that has the word and not the phrase. This crate has the types that they are about, and the
+//! law that a text without a fault has one tree.
 #![tactic(auto)]
 
 mod laws;

@@ -1,6 +1,8 @@
 //! The slow meaning of a search: each row is read, and the query is tried on it.
 //!
-//! It is written from the definitions alone. Faster searches are compared with it.
+//! `scan(alloc, &settings, &rows, &query)?` gives the ids of the rows in which the query holds. It
+//! is written from the definitions alone, and costs all texts. Faster searches are compared with
+//! it.
 #![tactic(auto)]
 
 mod operand;

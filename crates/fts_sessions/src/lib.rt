@@ -1,7 +1,7 @@
 //! Sessions: statements are executed line by line, over the steps of an engine.
 //!
-//! `session.execute(&mut steps, &gate, b"INSERT ..")?` gives the line's reply; what has none, want of
-//! memory or a fault, is [`Ended`]. [`EngineSteps`] is what a session asks of an engine, and
+//! `session.execute(&mut steps, &gate, b"INSERT ..")?` gives the line's reply; what has none, want
+//! of memory or a fault, is [`Ended`]. [`EngineSteps`] is what a session asks of an engine, and
 //! [`Direct`] an engine that one thread owns.
 //!
 //! A line costs its bytes and its steps.

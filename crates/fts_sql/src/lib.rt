@@ -2,8 +2,8 @@
 //! nothing is at fault.
 //!
 //! `parse_statement(alloc, b"SELECT ..")?` gives the statement, or none of a blank line; a line at
-//! fault is `ParseError::Syntax { at }`, with the place from 1. `docs/LANGUAGE.md`, "Statements", has
-//! the grammar.
+//! fault is `ParseError::Syntax { at }`, with the place from 1. `docs/LANGUAGE.md`, "Statements",
+//! has the grammar.
 //!
 //! A line is read once from the left, and one at fault once more.
 #![tactic(auto)]

@@ -104,8 +104,8 @@ Outcome steps end.NoMemory start script before after =
     ⊎ (Late steps start script 0 before after ⊎ Broken steps start script NoMemory before after)
 
 -- one turn of the run's loop, which goes on or ends the run: from the lines ahead to those behind it
-abbrev pub Turns : {S : Type 0} → Ghosts S → Result (Unit {0}) RunEnd → State → List Line → List Line → Sides S → Sides S
-    → Type 0
+abbrev pub Turns : {S : Type 0} → Ghosts S → Result (Unit {0}) RunEnd → State → List Line → List Line
+    → Sides S → Sides S → Type 0
 Turns steps (Ok done) state ahead behind before after = (line : Line) × (ahead ≡ line ∷ behind)
     × ((reply : Reply) × Executes steps state line before.steps (Ok reply) after.steps
     × (after.held ≡ before.held ++ text_of reply))

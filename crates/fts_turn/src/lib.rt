@@ -8,6 +8,9 @@
 //!
 //! No proof claims waiting, fairness or wake-ups: `take` may wait for ever, and what it promises
 //! holds if it returns.
+//!
+//! `let mut value = turn.take(&rt, &mut seat);` and, once it was changed, `turn.give(&mut seat,
+//! value, 1)`. A turn that nobody waits for costs one call that wakes sleepers.
 #![tactic(auto)]
 
 mod historied;

@@ -1,7 +1,7 @@
 //! What the words of a text are: raw words, indexed words, and where they stand in a row.
 //!
-//! The definitions are in `specs/`: in `it's 'ok'` the raw words are `it's` and `ok`. This crate has
-//! the types that they are about, [`Span`] and [`PlacedWord`], and the laws that hold of them.
+//! The definitions are in `specs/`: in `it's 'ok'` the raw words are `it's` and `ok`. This crate
+//! has the types that they are about, [`Span`] and [`PlacedWord`], and the laws that hold of them.
 #![tactic(auto)]
 
 mod laws;
