@@ -2,8 +2,8 @@
 //! full-text index cache).
 //!
 //! `cache.reserve(&documents)?` makes room for documents, `cache.add(&document)` takes them one
-//! after another without memory, `cache.postings(b"apple")` reads the documents of a word in place, and
-//! `cache.drop_until(7)` lets go of those up to an id.
+//! after another without memory, `cache.postings(b"apple")` reads the documents of a word in place,
+//! and `cache.drop_until(7)` lets go of those up to an id.
 //!
 //! A document costs a look-up for each of its words and a step for each occurrence, once when it
 //! comes, and a step for each word when it leaves.
