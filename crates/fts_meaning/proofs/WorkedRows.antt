@@ -113,4 +113,5 @@ phrase_in_one_column = refl
 
 -- a phrase of words that can't be indexed words is found nowhere, though they stand together
 phrase_of_stopwords : scan standard (record { doc = 1; texts = codes "all of the" ∷ [] } ∷ []) (one (optional (phrase (codes "of" ∷ codes "the" ∷ [])))) ≡ []
+unfolding one optional standard default_stopwords
 phrase_of_stopwords = refl
