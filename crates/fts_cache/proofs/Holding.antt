@@ -11,10 +11,10 @@ use Rattle.fts_ilist.specs.Spelling.{Posting}
 use Rattle.fts_ilist.specs.Queue.{postings_behind}
 use Rattle.fts_cache.specs.Document.{WordPositions, Document, document_postings, document_size, bytes_in}
 use Rattle.fts_cache.specs.Cache.{CacheState, CachedDocument, cached, cached_behind, postings_of, HasRoom, AreNumbers}
-use Rattle.fts_cache.specs.Holds.{Holds, documents_behind}
+use Rattle.fts_cache.specs.Holds.{HoldsDocuments, documents_behind}
 
 pub holds_more : (c n : CacheState) (d : Document) → n.documents ≡ c.documents ++ cached d ∷ [] → ((w : List ℕ) → postings_of n w ≡ postings_of c w ++ document_postings w d)
-    → (ds : List Document) → Holds c ds → Holds n (ds ++ d ∷ [])
+    → (ds : List Document) → HoldsDocuments c ds → HoldsDocuments n (ds ++ d ∷ [])
 holds_more c n d documents postings ds h = record {
   documents = documents ∙ ap (λ (x : List CachedDocument). x ++ cached d ∷ []) h.documents ∙ sym (map-append cached ds (d ∷ []));
   postings = λ w. postings w ∙ ap (λ (x : List Posting). x ++ document_postings w d) (h.postings w)
@@ -64,7 +64,7 @@ documents_left doc (d ∷ ds) =
     ]
 
 pub holds_less : (c n : CacheState) (doc : ℕ) → n.documents ≡ cached_behind doc c.documents → ((w : List ℕ) → postings_of n w ≡ postings_behind doc (postings_of c w))
-    → (ds : List Document) → Holds c ds → Holds n (documents_behind doc ds)
+    → (ds : List Document) → HoldsDocuments c ds → HoldsDocuments n (documents_behind doc ds)
 holds_less c n doc documents postings ds h = record {
   documents = documents ∙ ap (cached_behind doc) h.documents ∙ documents_left doc ds;
   postings = λ w. postings w ∙ ap (postings_behind doc) (h.postings w) ∙ postings_left doc w ds;

@@ -5,7 +5,7 @@ use Rattle.fts_cache.specs.Document.{Document, document_postings}
 use Rattle.fts_cache.specs.Cache.{CacheState, cached, postings_of}
 
 -- the cache has exactly these documents: their sizes, and for each word their positions
-pub record Holds (c : CacheState) (ds : List Document) : Type 0 where
+pub record HoldsDocuments (c : CacheState) (ds : List Document) : Type 0 where
   pub documents : c.documents ≡ map cached ds
   pub postings : (w : List ℕ) → postings_of c w ≡ flat_map (document_postings w) ds
 

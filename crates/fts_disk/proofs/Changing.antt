@@ -1,7 +1,7 @@
 -- A write or a cut put into a record.
 use Rattle.std.proofs.Common.{◌≡◌, ◌⊎◌, inl, inr, ⊎_elim, ℕ, ◌≤◌, List, [], ◌∷◌, ◌++◌, length, take, Bool, true, false, Result, Ok, Err, OnOk, OnErr, Vec, All, sym, ◌∙◌, ap, subst, arith}
 use Rattle.std.specs.declared.alloc.Global.{Global}
-use Rattle.fts_disk.specs.Device.{Files, OnFile, Holds, Torn, Shortened}
+use Rattle.fts_disk.specs.Device.{Files, OnFile, Written, Torn, Shortened}
 use Rattle.fts_disk.specs.Crash.{Images, Follows, Elapses}
 use Rattle.fts_disk.specs.Replay.{Same, put_in, overwritten, step_seen, step_images, seen_after, images_now, left_after, IsOfFile, IsWriteOf, IsCutOf}
 use Rattle.fts_disk.specs.declared.memory.Call.{Call}
@@ -10,7 +10,7 @@ use Rattle.fts_disk.proofs.Recording.{seen_push, images_push, elapses_same, grew
 use Rattle.fts_disk.proofs.Torn.{torn_none, torn_written, shortened_none, shortened_part, none_here, put_on_file, is_put}
 
 -- what the files read after a write that was done, and after one that was not
-pub wrote : (file at : ℕ) (noted : Vec ℕ Global) (bytes : List ℕ) (done : Bool) (old new : Files) → noted.items ≡ bytes → done ≡ true → OnFile file (Holds at bytes) old new
+pub wrote : (file at : ℕ) (noted : Vec ℕ Global) (bytes : List ℕ) (done : Bool) (old new : Files) → noted.items ≡ bytes → done ≡ true → OnFile file (Written at bytes) old new
     → new ≡ step_seen (Write file at noted done) old
 wrote file at noted bytes done old new same is_done goes =
     let Step : Bool → Type 0 = λ done. new ≡ step_seen (Write file at noted done) old in

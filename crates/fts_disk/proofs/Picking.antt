@@ -1,7 +1,7 @@
 -- An image is picked call by call.
 use Rattle.std.proofs.Common.{◌≡◌, ◌⊎◌, inl, inr, ⊎_elim, ℕ, ◌+◌, ◌<◌, ◌≤◌, List, [], ◌∷◌, ◌++◌, length, take, get_or, true, false, refl, sym, ◌∙◌, ap, subst, arith}
 use Rattle.std.proofs.lemmas.List.{take_more}
-use Rattle.fts_disk.specs.Device.{Files, OnFile, Holds, Torn}
+use Rattle.fts_disk.specs.Device.{Files, OnFile, Written, Torn}
 use Rattle.fts_disk.specs.Crash.{Images}
 use Rattle.fts_disk.specs.Replay.{Same, settles, step_seen, step_images, StepsOnDisk, seen_after, images_now, images_at, IsLeftIn}
 use Rattle.fts_disk.specs.declared.memory.Call.{Call}
@@ -10,7 +10,7 @@ use Rattle.fts_disk.proofs.Recording.{seen_push, images_pushed}
 use Rattle.fts_disk.proofs.Torn.{torn_part}
 
 -- a write of no more bytes than these, from the begin of their range on
-pub torn_picked : (file at n : ℕ) (picked : List ℕ) (old new : Files) → length picked ≤ n → at ≤ length (old file) → OnFile file (Holds at picked) old new → OnFile file (Torn at n) old new
+pub torn_picked : (file at n : ℕ) (picked : List ℕ) (old new : Files) → length picked ≤ n → at ≤ length (old file) → OnFile file (Written at picked) old new → OnFile file (Torn at n) old new
 torn_picked file at n picked old new few here goes = record {
   this = subst (Torn at n (old file)) (sym goes.this) (torn_part at n picked (old file) here few);
   others = goes.others;

@@ -10,8 +10,8 @@ pub record OnFile (file : ℕ) (step : List ℕ → List ℕ → Type 0) (old ne
   pub others : (other : ℕ) → other ≢ file → new other ≡ old other
 
 -- the file has these bytes at a place, and what it had before and behind them
-abbrev pub Holds : ℕ → List ℕ → List ℕ → List ℕ → Type 0
-Holds at bytes old new = new ≡ take at old ++ bytes ++ drop (at + length bytes) old
+abbrev pub Written : ℕ → List ℕ → List ℕ → List ℕ → Type 0
+Written at bytes old new = new ≡ take at old ++ bytes ++ drop (at + length bytes) old
 
 -- the file is cut to n bytes
 abbrev pub Cut : ℕ → List ℕ → List ℕ → Type 0

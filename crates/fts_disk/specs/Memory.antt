@@ -117,7 +117,7 @@ pub record IsNoted {T E : Type 0} (IsCall : Bool → Call → Type 0) (old new :
     pub first : mem_first new ≡ mem_first old
 
 -- a call of a kind answers as the list says, and is noted
-pub record Answers {T E : Type 0} (kind : Kind) (IsCall : Bool → Call → Type 0) (old new : MemDisk)
+pub record AnswersCall {T E : Type 0} (kind : Kind) (IsCall : Bool → Call → Type 0) (old new : MemDisk)
     (result : Result T E)
     : Type 0 where
   pub listed : AnswersAsListed kind old new result

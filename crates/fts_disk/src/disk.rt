@@ -1,6 +1,6 @@
 ghost use Rattle.std.specs.Prelude.{◌≡◌, ◌⊎◌, ◌+◌, ◌^◌, ◌<◌, ◌≤◌, ℕ, Bool, length, take, drop};
 ghost use Rattle.std.specs.Prelude.{IsTrue, IfOk, OnOk, OnErr};
-ghost use Rattle.fts_disk.specs.Device.{Files, OnFile, Holds, Cut, Torn, Shortened};
+ghost use Rattle.fts_disk.specs.Device.{Files, OnFile, Written, Cut, Torn, Shortened};
 ghost use Rattle.fts_disk.specs.Crash.{Images, Within, Follows, Only, Elapses};
 ghost use Rattle.fts_faults.specs.Count.{HasCause};
 
@@ -67,7 +67,7 @@ pub trait Disk {
         requires file { file < 16 }
         requires within { IsTrue tells → at ≤ length (seen self.old file) }
         ensures written { OnOk result (IsTrue tells
-            → OnFile file (Holds at bytes.now) (seen self.old) (seen self.new)) }
+            → OnFile file (Written at bytes.now) (seen self.old) (seen self.new)) }
         ensures torn { OnErr result (IsTrue tells
             → OnFile file (Torn at (length bytes.now)) (seen self.old) (seen self.new)) }
         ensures crash { IsTrue tells

@@ -1,7 +1,7 @@
 ghost use Rattle.std.specs.Prelude.{◌≡◌, ◌⊎◌, ◌+◌, ◌^◌, ◌<◌, ◌≤◌, ◌↔◌, [], true};
 ghost use Rattle.std.specs.Prelude.{length, replicate, take, drop, IsTrue, IfOk, OnOk, OnErr};
 ghost use Rattle.std.specs.Prelude.{IsErr};
-ghost use Rattle.fts_disk.specs.Device.{Files, OnFile, Holds, Cut, Torn, Shortened};
+ghost use Rattle.fts_disk.specs.Device.{Files, OnFile, Written, Cut, Torn, Shortened};
 ghost use Rattle.fts_disk.specs.Crash.{Within, Follows, Only, Elapses};
 ghost use Rattle.fts_disk.specs.Contents.{contents};
 ghost use Rattle.fts_faults.specs.Count.{HasCause};
@@ -192,7 +192,7 @@ impl MemDisk {
 impl Disk for MemDisk {
     ghost use Rattle.fts_disk.specs.Memory.{mem_files, mem_images, mem_moment, mem_left_since};
     ghost use Rattle.fts_disk.specs.Memory.{mem_fails, mem_made, mem_faults, mem_refused, IsNamed};
-    ghost use Rattle.fts_disk.specs.Memory.{Answers};
+    ghost use Rattle.fts_disk.specs.Memory.{AnswersCall};
     ghost use Rattle.fts_disk.specs.Replay.{IsLenOf, IsReadOf, IsWriteOf, IsCutOf, IsSyncOf};
     ghost use Rattle.fts_disk.specs.ReplayLaws.{seen_stays, left_now, left_only_now};
 
@@ -218,7 +218,7 @@ impl Disk for MemDisk {
             (mem_left_since self.old) (mem_left_since self.new) (mem_images self.new) }
         ensures ticks { OnOk result (mem_moment self.old < mem_moment self.new) }
         ensures cause { HasCause (mem_faults self.old) (mem_faults self.new) result }
-        ensures answers { Answers Kind.Len (IsLenOf file) self.old self.new result }
+        ensures answers { AnswersCall Kind.Len (IsLenOf file) self.old self.new result }
     {
         let named = self.counters.is_named(Kind::Len);
         let noted = self.recorded.note(Call::Len { file, done: !named });
@@ -237,8 +237,8 @@ impl Disk for MemDisk {
             (mem_left_since self.old) (mem_left_since self.new) (mem_images self.new) }
         ensures ticks { OnOk result (mem_moment self.old < mem_moment self.new) }
         ensures cause { HasCause (mem_faults self.old) (mem_faults self.new) result }
-        ensures answers { Answers Kind.Read (IsReadOf file at (length buf.old)) self.old self.new
-            result }
+        ensures answers { AnswersCall Kind.Read (IsReadOf file at (length buf.old))
+            self.old self.new result }
     {
         let named = self.counters.is_named(Kind::Read);
         let noted = self.recorded.note(Call::Read {
@@ -257,7 +257,7 @@ impl Disk for MemDisk {
         requires file { file < 16 }
         requires within { at ≤ length (mem_files self.old file) }
         ensures written { OnOk result
-            (OnFile file (Holds at bytes.now) (mem_files self.old) (mem_files self.new)) }
+            (OnFile file (Written at bytes.now) (mem_files self.old) (mem_files self.new)) }
         ensures torn { OnErr result
             (OnFile file (Torn at (length bytes.now)) (mem_files self.old) (mem_files self.new)) }
         ensures kept { OnErr result (mem_files self.new ≡ mem_files self.old) }
@@ -267,7 +267,7 @@ impl Disk for MemDisk {
             (mem_left_since self.old) (mem_left_since self.new) (mem_images self.new) }
         ensures ticks { OnOk result (mem_moment self.old < mem_moment self.new) }
         ensures cause { HasCause (mem_faults self.old) (mem_faults self.new) result }
-        ensures answers { Answers Kind.Write (IsWriteOf file at bytes.now) self.old self.new
+        ensures answers { AnswersCall Kind.Write (IsWriteOf file at bytes.now) self.old self.new
             result }
     {
         let named = self.counters.is_named(Kind::Write);
@@ -289,7 +289,7 @@ impl Disk for MemDisk {
             (mem_left_since self.old) (mem_left_since self.new) (mem_images self.new) }
         ensures ticks { OnOk result (mem_moment self.old < mem_moment self.new) }
         ensures cause { HasCause (mem_faults self.old) (mem_faults self.new) result }
-        ensures answers { Answers Kind.Cut (IsCutOf file len) self.old self.new result }
+        ensures answers { AnswersCall Kind.Cut (IsCutOf file len) self.old self.new result }
     {
         let named = self.counters.is_named(Kind::Cut);
         let shortened = self.recorded.cut(file, len, !named);
@@ -305,7 +305,7 @@ impl Disk for MemDisk {
             (mem_left_since self.old) (mem_left_since self.new) (mem_images self.new) }
         ensures ticks { OnOk result (mem_moment self.old < mem_moment self.new) }
         ensures cause { HasCause (mem_faults self.old) (mem_faults self.new) result }
-        ensures answers { Answers Kind.Sync IsSyncOf self.old self.new result }
+        ensures answers { AnswersCall Kind.Sync IsSyncOf self.old self.new result }
     {
         let named = self.counters.is_named(Kind::Sync);
         let noted = self.recorded.sync(!named);

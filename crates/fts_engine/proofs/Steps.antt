@@ -15,7 +15,7 @@ use Rattle.fts_steps.specs.State.{State, payloads, with_commits}
 use Rattle.fts_steps.specs.Step.{to_commit, Steps, LeftBy}
 use Rattle.fts_steps.specs.Answers.{commit_answer_of}
 use Rattle.fts_engine.specs.declared.engine.Engine.{Engine}
-use Rattle.fts_engine.specs.Stands.{Keeps, Stands, Reads, MayHold, engine_log, engine_device}
+use Rattle.fts_engine.specs.Stands.{Keeps, Stands, ReadsAs, MayHold, engine_log, engine_device}
 
 module _ {D : Type 0} {disk : Ghosts D} (limits : Limits) (state : State) (commit : Commit) (old new : Engine D disk) (stands : Stands state old)
     (counts : (t : ℕ) (c : Files) → t ≤ disk.moment (engine_device new) → disk.images (engine_device new) c → disk.left_since (engine_device new) t c)
@@ -29,7 +29,7 @@ module _ {D : Type 0} {disk : Ghosts D} (limits : Limits) (state : State) (commi
       → Steps Keeps limits state (to_commit commit) (commit_answer_of result) new
       → OnOk result (Stands (with_commits state (commit ∷ [])) new)
       → (IsErr result → (IsErrOf result DiskFault → ⊥) → engine_log new ≡ engine_log old)
-      → Steps (LeftBy (λ state s. Stands state (engine_of s)) (λ state s. Reads state (engine_of s)) (to_commit commit) (commit_answer_of result))
+      → Steps (LeftBy (λ state s. Stands state (engine_of s)) (λ state s. ReadsAs state (engine_of s)) (to_commit commit) (commit_answer_of result))
       limits state (to_commit commit) (commit_answer_of result) here
   step_leaves engine_of here is (Ok number) steps acknowledged same =
       record { may = steps.may; stands = subst (Stands (with_commits state (commit ∷ []))) (sym is) acknowledged }
@@ -42,6 +42,6 @@ module _ {D : Type 0} {disk : Ghosts D} (limits : Limits) (state : State) (commi
   step_leaves engine_of here is (Err DiskFault) steps acknowledged same =
       record {
         may = steps.may;
-        stands = subst (λ (engine : Engine D disk). Reads state engine ⊎ Reads (with_commits state (commit ∷ [])) engine) (sym is)
+        stands = subst (λ (engine : Engine D disk). ReadsAs state engine ⊎ ReadsAs (with_commits state (commit ∷ [])) engine) (sym is)
             (reads_now disk (engine_device old) (engine_device new) (MayHold state (commit ∷ [])) counts may run);
       }

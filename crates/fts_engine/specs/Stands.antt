@@ -51,8 +51,8 @@ pub record Stands {D : Type 0} {disk : Ghosts D} (state : State) (engine : Engin
   pub log : StandsFor (payloads state) engine.log
 
 -- its device reads as the database of the state
-abbrev pub Reads : {D : Type 0} {disk : Ghosts D} → State → Engine D disk → Type 0
-Reads {disk} state engine = IsDatabase state (disk.seen (device_of engine.log) 0)
+abbrev pub ReadsAs : {D : Type 0} {disk : Ghosts D} → State → Engine D disk → Type 0
+ReadsAs {disk} state engine = IsDatabase state (disk.seen (device_of engine.log) 0)
 
 -- a crash leaves the database of the state, or of the state and the commits in doubt
 abbrev pub MayHold : State → List Commit → Images
@@ -60,7 +60,7 @@ MayHold state doubt c = IsDatabase state (c 0) ⊎ IsDatabase (with_commits stat
 
 -- the device of an engine that stands for a state reads as the state's database
 pub Stands-reads : {D : Type 0} {disk : Ghosts D} (state : State) (engine : Engine D disk) → Stands state engine
-    → Reads state engine
+    → ReadsAs state engine
 Stands-reads {disk} state engine stands = record {
   sound = stands.keeps.sound;
   log = subst (λ (m : List ℕ). IsLog m (payloads state) (disk.seen (device_of engine.log) 0)) stands.keeps.magic

@@ -10,7 +10,7 @@ use Rattle.fts_ilist.specs.Spelling.Item.{document_end}
 use Rattle.fts_ilist.specs.Reading.{postings_in, IsTail, IsDocument, IsList}
 use Rattle.fts_ilist.specs.Reading.State.{between}
 use Rattle.fts_ilist.specs.Fault.{IsFirstFault}
-use Rattle.fts_ilist.specs.Progress.{Reads, ReadsIncrease, HasNoIncrease}
+use Rattle.fts_ilist.specs.Progress.{ReadsItems, ReadsIncrease, HasNoIncrease}
 use Rattle.fts_ilist.specs.Changes.{is_among}
 use Rattle.fts_ilist.proofs.Items.{bytes_append}
 use Rattle.fts_ilist.proofs.Postings.{postings_in-bytes, postings_items-append, id_at_end-append, PostingsAfter-append, id_limit}
@@ -39,7 +39,7 @@ empty_made bytes e = list_made [] 0 bytes tt e refl
 
 -- ---- what was read
 
-pub read_list : (bytes : List ℕ) (last : ℕ) → Reads bytes 0 (between 0) (length bytes) (between last) → IsList last bytes
+pub read_list : (bytes : List ℕ) (last : ℕ) → ReadsItems bytes 0 (between 0) (length bytes) (between last) → IsList last bytes
 read_list bytes last r =
     let e = ends_from 0 r.items last r.runs in
     let whole : bytes ≡ items_bytes r.items

@@ -6,7 +6,7 @@ use Rattle.fts_ilist.specs.Spelling.{Posting, Item, item_bytes, items_bytes, pos
 use Rattle.fts_ilist.specs.Spelling.Item.{increase, document_end}
 use Rattle.fts_ilist.specs.Reading.{State}
 use Rattle.fts_ilist.specs.Reading.State.{between, inside}
-use Rattle.fts_ilist.specs.Progress.{Runs, Reads, IsStuck, GetsStuck, ReadsIncrease, HasNoIncrease, ReadsPositions, ReadsDocument}
+use Rattle.fts_ilist.specs.Progress.{Runs, ReadsItems, IsStuck, GetsStuck, ReadsIncrease, HasNoIncrease, ReadsPositions, ReadsDocument}
 use Rattle.fts_ilist.proofs.Items.{bytes_append}
 use Rattle.fts_ilist.proofs.Codec.{one_number}
 use Rattle.fts_ilist.proofs.Postings.{position_items-append, PositionsFrom-push, next_at_end-push, next_limit}
@@ -19,10 +19,10 @@ same_increase m n x y bytes e f = (one_number m n x y (sym e ∙ f)).0
 
 -- ---- from place to place
 
-pub reads_nothing : (bytes : List ℕ) (at : ℕ) (s : State) → at ≤ length bytes → Reads bytes at s at s
+pub reads_nothing : (bytes : List ℕ) (at : ℕ) (s : State) → at ≤ length bytes → ReadsItems bytes at s at s
 reads_nothing bytes at s h = record { items = []; parts = refl; within = h; order = omega arith; runs = refl }
 
-pub reads_on : (bytes : List ℕ) (a b c : ℕ) (s t u : State) → Reads bytes a s b t → Reads bytes b t c u → Reads bytes a s c u
+pub reads_on : (bytes : List ℕ) (a b c : ℕ) (s t u : State) → ReadsItems bytes a s b t → ReadsItems bytes b t c u → ReadsItems bytes a s c u
 reads_on bytes a b c s t u p q = record {
   items = p.items ++ q.items;
   parts = p.parts ∙ ap (λ (w : List ℕ). items_bytes p.items ++ w) q.parts ∙ sym (bytes_append p.items q.items (drop c bytes));
@@ -31,7 +31,7 @@ reads_on bytes a b c s t u p q = record {
   runs = runs_append p.items q.items s t u p.runs q.runs;
 }
 
-pub stuck_later : (bytes : List ℕ) (a b : ℕ) (s t : State) (at : ℕ) → Reads bytes a s b t → GetsStuck bytes b t at → GetsStuck bytes a s at
+pub stuck_later : (bytes : List ℕ) (a b : ℕ) (s t : State) (at : ℕ) → ReadsItems bytes a s b t → GetsStuck bytes b t at → GetsStuck bytes a s at
 stuck_later bytes a b s t at p g = record { state = g.state; reads = reads_on bytes a b at s t g.state p g.reads; stuck = g.stuck }
 
 -- ---- positions
@@ -59,7 +59,7 @@ one_more_position bytes start at next value end r i =
       within = i.within;
     }
 
-pub reads_positions : (bytes : List ℕ) (start at next id : ℕ) → ReadsPositions bytes start at next → Reads bytes start (inside id 0) at (inside id next)
+pub reads_positions : (bytes : List ℕ) (start at next id : ℕ) → ReadsPositions bytes start at next → ReadsItems bytes start (inside id 0) at (inside id next)
 reads_positions bytes start at next id r = record {
   items = position_items 0 r.positions;
   parts = r.parts;
@@ -91,7 +91,7 @@ stuck_inside bytes at id next no_increase no_end = record {
 
 -- ---- documents
 
-pub reads_increase : (bytes : List ℕ) (at last id start : ℕ) → ReadsIncrease bytes at last 9223372036854775807 id start → Reads bytes at (between last) start (inside id 0)
+pub reads_increase : (bytes : List ℕ) (at last id start : ℕ) → ReadsIncrease bytes at last 9223372036854775807 id start → ReadsItems bytes at (between last) start (inside id 0)
 reads_increase bytes at last id start i =
     let e : last + (id - last) ≡ id = omega (arith, i.above) in
     let positive : 0 < id - last = omega (arith, i.above) in
@@ -122,7 +122,7 @@ document_bytes last id positions rest =
     ap (λ (w : List ℕ). number_bytes (id - last) ++ w) (sym (bytes_append (position_items 0 positions) (document_end ∷ []) rest))
     ∙ sym (append_assoc (number_bytes (id - last)) (items_bytes (position_items 0 positions ++ document_end ∷ [])) rest)
 
-pub reads_document : (bytes : List ℕ) (at last id start end : ℕ) → ReadsDocument bytes at last id start end → Reads bytes at (between last) end (between id)
+pub reads_document : (bytes : List ℕ) (at last id start end : ℕ) → ReadsDocument bytes at last id start end → ReadsItems bytes at (between last) end (between id)
 reads_document bytes at last id start end d =
     let posting : Posting = record { id = id; positions = d.positions } in
     record {

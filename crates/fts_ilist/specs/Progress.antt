@@ -17,7 +17,7 @@ Runs (inside id next) (increase n ∷ items) t = (0 < n) × (next + n ≤ 131072
 Runs (inside id next) (document_end ∷ items) t = (0 < next) × Runs (between id) items t
 
 -- from one place to another stand items that bring a reader from one state to another
-pub record Reads (bytes : List ℕ) (from : ℕ) (s : State) (to : ℕ) (t : State) : Type 0 where
+pub record ReadsItems (bytes : List ℕ) (from : ℕ) (s : State) (to : ℕ) (t : State) : Type 0 where
   pub items : List Item
   pub parts : drop from bytes ≡ items_bytes items ++ drop to bytes
   pub within : to ≤ length bytes
@@ -33,7 +33,7 @@ pub record IsStuck (bytes : List ℕ) (at : ℕ) (s : State) : Type 0 where
 -- a reader that begins in this state at this place gets stuck at a later one
 pub record GetsStuck (bytes : List ℕ) (from : ℕ) (s : State) (at : ℕ) : Type 0 where
   pub state : State
-  pub reads : Reads bytes from s at state
+  pub reads : ReadsItems bytes from s at state
   pub stuck : IsStuck bytes at state
 
 -- at this place stands an increase that brings a number from last to value, within a limit, and ends at end

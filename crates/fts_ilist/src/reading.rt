@@ -5,7 +5,7 @@ ghost use Rattle.fts_ilist.specs.Number.{number_bytes, BeginsWithNumber};
 ghost use Rattle.fts_ilist.specs.Reading.{postings_in};
 ghost use Rattle.fts_ilist.specs.Reading.State.{between, inside};
 ghost use Rattle.fts_ilist.specs.Fault.{IsFirstFault};
-ghost use Rattle.fts_ilist.specs.Progress.{Reads, GetsStuck, ReadsIncrease, HasNoIncrease};
+ghost use Rattle.fts_ilist.specs.Progress.{ReadsItems, GetsStuck, ReadsIncrease, HasNoIncrease};
 ghost use Rattle.fts_ilist.specs.Progress.{ReadsBody, ReadsDocument, is_end, BeginsBody, EndsBody};
 
 use crate::number::{Bad, take_number};
@@ -104,7 +104,7 @@ pub(crate) fn document_at(bytes: &[u8], at: usize, last: u64) -> Result<Placed, 
 
 /// The id of the last document of the list that the bytes are, and the number of its documents.
 pub(crate) fn last_of(bytes: &[u8]) -> Result<(u64, usize), Bad>
-    ensures found { IfOk result (λ r. Reads bytes.now 0 (between 0) (length bytes.now)
+    ensures found { IfOk result (λ r. ReadsItems bytes.now 0 (between 0) (length bytes.now)
         (between r.0)) }
     ensures count { IfOk result (λ r. r.1 ≡ length (postings_in 0 bytes.now)) }
     ensures fault { IfErr result (λ bad. IsFirstFault bytes.now bad.at) }

@@ -2,7 +2,7 @@
 use Rattle.std.proofs.Common.{◌≡◌, ◌≢◌, ℕ, ◌+◌, ◌^◌, ◌≤◌, List, [], ◌∷◌, ◌++◌, length, take, length-append, refl, sym, ◌∙◌, ap, subst, inl, inr, ⊎_elim, All, arith}
 use Rattle.std.proofs.lemmas.Bool.{cases_eq}
 use Rattle.std.proofs.lemmas.List.Elements.{All-push}
-use Rattle.fts_disk.specs.Device.{Files, Holds, Torn}
+use Rattle.fts_disk.specs.Device.{Files, Written, Torn}
 use Rattle.fts_disk.specs.Crash.{OnlyIn}
 use Rattle.fts_disk.specs.declared.disk.Disk.{Ghosts}
 use Rattle.fts_log.specs.declared.log.Log.{Log}
@@ -37,11 +37,11 @@ module _ (magic : List ℕ) (entries : List (List ℕ)) (payload : List ℕ) whe
       record { gate = log.gate; rest = more.0; closed = log.closed; bytes = more.1; fit = log.fit }
 
   -- the first write
-  pub after_write : (old new : List ℕ) (at : ℕ) (bytes : List ℕ) → at ≡ log_end magic entries → bytes ≡ staged payload → IsLog magic entries old → Holds at bytes old new → IsStaged magic entries payload new
+  pub after_write : (old new : List ℕ) (at : ℕ) (bytes : List ℕ) → at ≡ log_end magic entries → bytes ≡ staged payload → IsLog magic entries old → Written at bytes old new → IsStaged magic entries payload new
   after_write old new at bytes place whole log holds =
-      let Step : ℕ → List ℕ → Type 0 = λ at file. Holds at (staged payload) file new in
-      let this : Holds at (staged payload) old new = subst (λ (bytes : List ℕ). Holds at bytes old new) whole holds in
-      let step : Holds (length (front magic entries) + 1) (staged payload) (front magic entries ++ log.gate ∷ log.rest) new = subst (λ (file : List ℕ). Step (log_end magic entries) file) log.bytes (subst (λ (at : ℕ). Step at old) place this) in
+      let Step : ℕ → List ℕ → Type 0 = λ at file. Written at (staged payload) file new in
+      let this : Written at (staged payload) old new = subst (λ (bytes : List ℕ). Written at bytes old new) whole holds in
+      let step : Written (length (front magic entries) + 1) (staged payload) (front magic entries ++ log.gate ∷ log.rest) new = subst (λ (file : List ℕ). Step (log_end magic entries) file) log.bytes (subst (λ (at : ℕ). Step at old) place this) in
       let more = written_behind (front magic entries) log.gate log.rest (staged payload) new step in
       record { gate = log.gate; rest = more.0; closed = log.closed; bytes = more.1; fit = log.fit }
 
@@ -53,11 +53,11 @@ module _ (magic : List ℕ) (entries : List (List ℕ)) (payload : List ℕ) whe
   with_new file rest fit fits bytes = record { gate = 0; rest = rest; closed = λ e. cc; bytes = bytes ∙ opened magic entries payload rest; fit = All-push Fits entries payload fit fits }
 
   -- with the gate open, the new entry stands too
-  pub after_gate : (old new : List ℕ) (at : ℕ) → at + 1 ≡ log_end magic entries → Fits payload → IsStaged magic entries payload old → Holds at (1 ∷ []) old new → IsLog magic (entries ++ payload ∷ []) new
+  pub after_gate : (old new : List ℕ) (at : ℕ) → at + 1 ≡ log_end magic entries → Fits payload → IsStaged magic entries payload old → Written at (1 ∷ []) old new → IsLog magic (entries ++ payload ∷ []) new
   after_gate old new at place fits is holds =
       let here : at ≡ length (front magic entries) = omega arith in
-      let Step : ℕ → List ℕ → Type 0 = λ at file. Holds at (1 ∷ []) file new in
-      let step : Holds (length (front magic entries)) (1 ∷ []) (front magic entries ++ is.gate ∷ (staged payload ++ is.rest)) new = subst (λ (file : List ℕ). Step (length (front magic entries)) file) is.bytes (subst (λ (at : ℕ). Step at old) here holds) in
+      let Step : ℕ → List ℕ → Type 0 = λ at file. Written at (1 ∷ []) file new in
+      let step : Written (length (front magic entries)) (1 ∷ []) (front magic entries ++ is.gate ∷ (staged payload ++ is.rest)) new = subst (λ (file : List ℕ). Step (length (front magic entries)) file) is.bytes (subst (λ (at : ℕ). Step at old) here holds) in
       with_new new is.rest is.fit fits (written_gate (front magic entries) is.gate (staged payload ++ is.rest) new step)
 
   either : (file : List ℕ) (gate : ℕ) (rest : List ℕ) → All Fits entries → Fits payload → file ≡ front magic entries ++ gate ∷ (staged payload ++ rest) → IsLogOfEither magic entries payload file

@@ -2,7 +2,7 @@
 use Rattle.std.proofs.Common.{◌≡◌, ℕ, ◌+◌, ◌<◌, ◌≤◌, List, [], ◌∷◌, ◌++◌, length, take, drop, get_or, suc, refl, sym, ◌∙◌, ap, append_assoc, append-nil, length-append, arith}
 use Rattle.std.proofs.lemmas.List.{take_at, drop_at, drop_more, take-append-drop, take-append-le, length-take}
 use Rattle.std.specs.Int.{w32, to_be_bytes}
-use Rattle.fts_disk.specs.Device.{Holds, Torn}
+use Rattle.fts_disk.specs.Device.{Written, Torn}
 use Rattle.fts_log.specs.Record.{record_of, records, front, ends_from}
 use Rattle.fts_log.specs.Framing.{staged}
 
@@ -26,7 +26,7 @@ module _ (start : List ℕ) (gate : ℕ) (rest : List ℕ) where
       (drop k new, sym (take-append-drop k new) ∙ ap (λ (front : List ℕ). front ++ drop k new) same ∙ sym (regroup (drop k new)))
 
   -- a write behind the gate
-  pub written_behind : (bytes new : List ℕ) → Holds (length start + 1) bytes (start ++ gate ∷ rest) new
+  pub written_behind : (bytes new : List ℕ) → Written (length start + 1) bytes (start ++ gate ∷ rest) new
       → (more : List ℕ) × (new ≡ start ++ gate ∷ (bytes ++ more))
   written_behind bytes new holds =
       let more = drop (length start + 1 + length bytes) (start ++ gate ∷ rest) in
@@ -46,7 +46,7 @@ module _ (start : List ℕ) (gate : ℕ) (rest : List ℕ) where
       )
 
   -- a write of the gate
-  pub written_gate : (new : List ℕ) → Holds (length start) (1 ∷ []) (start ++ gate ∷ rest) new → new ≡ start ++ 1 ∷ rest
+  pub written_gate : (new : List ℕ) → Written (length start) (1 ∷ []) (start ++ gate ∷ rest) new → new ≡ start ++ 1 ∷ rest
   written_gate new holds = holds ∙ ap (λ (front : List ℕ). front ++ 1 ∷ [] ++ drop (length start + 1) (start ++ gate ∷ rest)) (take_at start (gate ∷ rest) (length start) refl)
       ∙ append_assoc start (1 ∷ []) (drop (length start + 1) (start ++ gate ∷ rest)) ∙ ap (λ (tail : List ℕ). start ++ 1 ∷ tail) behind
 

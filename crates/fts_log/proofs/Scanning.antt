@@ -7,7 +7,7 @@ use Rattle.fts_log.specs.declared.place.Place.{Place}
 use Rattle.fts_log.specs.declared.place.Place.TheVariants.{Closed, Whole, Broken}
 use Rattle.fts_log.specs.Record.{Fits, record_of, records, front, ends_from}
 use Rattle.fts_log.specs.declared.found.Found.{Found}
-use Rattle.fts_log.specs.Scan.{Stands, EndsAs, IsFoundIn}
+use Rattle.fts_log.specs.Scan.{PlaceIs, EndsAs, IsFoundIn}
 use Rattle.fts_log.proofs.Bytes.{front-push, length-front-push, length-record_of, ends_from-push}
 
 -- these entries stand before the place, and their records end at these places
@@ -28,7 +28,7 @@ scanned_none file long =
     }
 
 module _ (file : List ℕ) (at : ℕ) (ends : List ℕ) (entries : List (List ℕ)) (so_far : IsScanned file at ends entries) where
-  pub scanned_more : (next : ℕ) (stands : Stands file at (Whole next)) → IsScanned file next (ends ++ next ∷ []) (entries ++ stands.0 ∷ [])
+  pub scanned_more : (next : ℕ) (stands : PlaceIs file at (Whole next)) → IsScanned file next (ends ++ next ∷ []) (entries ++ stands.0 ∷ [])
   scanned_more next stands =
       let m = take 8 file in
       let payload = stands.0 in
@@ -54,8 +54,8 @@ module _ (file : List ℕ) (at : ℕ) (ends : List ℕ) (entries : List (List �
 
 -- one record more, as a device reads
 pub scanned_next : (old now : Files) (at next : ℕ) (place : Place) (ends new : List ℕ) → (entries : List (List ℕ)) × IsScanned (old 0) at ends entries
-    → now ≡ old → Stands (now 0) at place → place ≡ Whole next → new ≡ ends ++ next ∷ [] → (entries : List (List ℕ)) × IsScanned (old 0) next new entries
+    → now ≡ old → PlaceIs (now 0) at place → place ≡ Whole next → new ≡ ends ++ next ∷ [] → (entries : List (List ℕ)) × IsScanned (old 0) next new entries
 scanned_next old now at next place ends new (entries, so_far) same stands whole pushed =
-    let there : Stands (old 0) at place = subst (λ (files : Files). Stands (files 0) at place) same stands in
-    let record_there : Stands (old 0) at (Whole next) = subst (λ (place : Place). Stands (old 0) at place) whole there in
+    let there : PlaceIs (old 0) at place = subst (λ (files : Files). PlaceIs (files 0) at place) same stands in
+    let record_there : PlaceIs (old 0) at (Whole next) = subst (λ (place : Place). PlaceIs (old 0) at place) whole there in
     (entries ++ record_there.0 ∷ [], subst (λ (xs : List ℕ). IsScanned (old 0) next xs (entries ++ record_there.0 ∷ [])) (sym pushed) (scanned_more (old 0) at ends entries so_far next record_there))

@@ -7,11 +7,11 @@ use Rattle.fts_log.specs.declared.found.Found.{Found}
 use Rattle.fts_log.specs.declared.window.Window.{Window}
 
 -- a closed gate, a whole record and where it ends, or neither
-abbrev pub Stands : List ℕ → ℕ → Place → Type 0
-Stands file at Closed = (gate : ℕ) × (rest : List ℕ) × (gate ≢ 1) × (drop at file ≡ gate ∷ rest)
-Stands file at (Whole next) = (payload : List ℕ) × Fits payload × (drop at file ≡ record_of payload ++ drop next file)
+abbrev pub PlaceIs : List ℕ → ℕ → Place → Type 0
+PlaceIs file at Closed = (gate : ℕ) × (rest : List ℕ) × (gate ≢ 1) × (drop at file ≡ gate ∷ rest)
+PlaceIs file at (Whole next) = (payload : List ℕ) × Fits payload × (drop at file ≡ record_of payload ++ drop next file)
     × (next ≡ at + length (record_of payload))
-Stands file at Broken = IsBroken (drop at file)
+PlaceIs file at Broken = IsBroken (drop at file)
 
 -- the window holds the file's bytes from its start on
 abbrev pub Shows : Window → List ℕ → Type 0

@@ -5,7 +5,7 @@ ghost use Rattle.fts_faults.specs.Count.{CountsFault};
 ghost use Rattle.fts_disk.specs.Crash.{Only};
 ghost use Rattle.fts_disk.specs.Moments.{Looks};
 ghost use Rattle.fts_log.specs.Record.{IsDamagedAt};
-ghost use Rattle.fts_log.specs.Scan.{Shows, Stands, IsFoundIn};
+ghost use Rattle.fts_log.specs.Scan.{Shows, PlaceIs, IsFoundIn};
 ghost use Rattle.fts_log.specs.Records.{Hold, records_device, records_magic, record_count};
 ghost use Rattle.fts_log.specs.Records.{device_behind};
 ghost use Rattle.fts_log.specs.Log.{StandsFor, device_of, device_left, magic_of, limit_of};
@@ -187,7 +187,8 @@ fn place_at<D: Disk>(
     requires small { file_length < 2 ^ 63 }
     requires told { IsTrue D.tells → length (D.seen device.old 0) ≡ file_length }
     requires shown { IsTrue D.tells → Shows window.old (D.seen device.old 0) }
-    ensures stands { IfOk result (λ place. IsTrue D.tells → Stands (D.seen device.old 0) at place) }
+    ensures stands { IfOk result (λ place. IsTrue D.tells
+        → PlaceIs (D.seen device.old 0) at place) }
     ensures next { (next : ℕ) → result ≡ Ok (Place.Whole next)
         → (at + 5 ≤ next) × (next ≤ file_length) }
     ensures shows { OnOk result (IsTrue D.tells → Shows window.new (D.seen device.old 0)) }

@@ -11,7 +11,7 @@ pub(crate) enum Place {
 }
 
 impl Place {
-    ghost use Rattle.fts_log.specs.Scan.{Stands};
+    ghost use Rattle.fts_log.specs.Scan.{PlaceIs};
 
     /// What stands at `at`, by the first five bytes from there on, or fewer where the file ends.
     /// The file has `file_length` bytes.
@@ -19,7 +19,7 @@ impl Place {
         requires within { at ≤ file_length }
         requires small { file_length < 2 ^ 63 }
         ensures stands { (file : List ℕ) → length file ≡ file_length
-            → head.now ≡ take 5 (drop at file) → Stands file at result }
+            → head.now ≡ take 5 (drop at file) → PlaceIs file at result }
         ensures next { (next : ℕ) → result ≡ Place.Whole next
             → (at + 5 ≤ next) × (next ≤ file_length) }
     {

@@ -15,13 +15,13 @@ pub struct Direct<D: Disk> {
 }
 
 impl<D: Disk> EngineSteps for Direct<D> {
-    ghost use Rattle.fts_engine.specs.Stands.{Stands, Reads, engine_limits, engine_faults};
+    ghost use Rattle.fts_engine.specs.Stands.{Stands, ReadsAs, engine_limits, engine_faults};
 
     ghost tells = { D.tells };
 
     ghost stands = { λ state steps. Stands state steps.engine };
 
-    ghost reads = { λ state steps. Reads state steps.engine };
+    ghost reads = { λ state steps. ReadsAs state steps.engine };
 
     ghost limits = { λ steps. engine_limits steps.engine };
 

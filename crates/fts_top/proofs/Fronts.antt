@@ -13,7 +13,7 @@ use Rattle.fts_sessions.specs.Conversation.{Converses}
 use Rattle.fts_sessions.specs.Execute.{Executes, Says}
 use Rattle.fts_top.specs.declared.ends.RunEnd.{RunEnd}
 use Rattle.fts_top.specs.declared.ends.RunEnd.TheVariants as end
-use Rattle.fts_top.specs.Run.{Sides, Stays, Front, Turns, Outcome}
+use Rattle.fts_top.specs.Run.{Sides, Stays, Front, OneLine, Outcome}
 use Rattle.fts_top.proofs.Talking.{settings_stay, after_more, follows_more, talks_more}
 
 module _ {S : Type 0} (steps : Ghosts S) (start : State) (script : List Line) where
@@ -80,14 +80,14 @@ module _ {S : Type 0} (steps : Ghosts S) (start : State) (script : List Line) wh
 
   -- a turn that goes on
   abbrev pub goes_on : (ahead behind : List Line) (before middle now : Sides S) (front : Front steps start script ahead before middle)
-      → Turns steps (Ok tt) (after_all start front.calls) ahead behind middle now → steps.limits now.steps ≡ steps.limits middle.steps
+      → OneLine steps (Ok tt) (after_all start front.calls) ahead behind middle now → steps.limits now.steps ≡ steps.limits middle.steps
       → Front steps start script behind before now
   goes_on ahead behind before middle now front turn limit =
       one_more turn.0 behind before middle now turn.2.0 (on ahead (turn.0 ∷ behind) before middle front turn.1) turn.2.1 turn.2.2 limit
 
   -- a turn that goes on executes one line more
   pub numbered : (ahead behind : List Line) (before middle now : Sides S) (front : Front steps start script ahead before middle)
-      → Turns steps (Ok tt) (after_all start front.calls) ahead behind middle now → steps.limits now.steps ≡ steps.limits middle.steps
+      → OneLine steps (Ok tt) (after_all start front.calls) ahead behind middle now → steps.limits now.steps ≡ steps.limits middle.steps
       → (n m : ℕ) → length front.lines ≡ n → m ≡ n + 1
       → (more : Front steps start script behind before now) × (length more.lines ≡ m)
   numbered ahead behind before middle now front turn limit n m number next = (
@@ -97,7 +97,7 @@ module _ {S : Type 0} (steps : Ghosts S) (start : State) (script : List Line) wh
 
   -- a turn that ends the run
   pub ends : (result : RunEnd) (ahead behind : List Line) (before middle now : Sides S) (front : Front steps start script ahead before middle)
-      → Turns steps (Err result) (after_all start front.calls) ahead behind middle now
+      → OneLine steps (Err result) (after_all start front.calls) ahead behind middle now
       → ((number bytes : ℕ) → result ≡ end.ScriptTooLong number bytes → number ≡ length front.lines)
       → Outcome steps result start script before now
   ends end.Done ahead behind before middle now front turn number = (again ahead [] before middle now front turn.0 turn.2, turn.1)

@@ -10,7 +10,7 @@ use Rattle.fts_sessions.specs.Execute.{Executes}
 use Rattle.fts_top.specs.declared.ends.Unsent.{Unsent}
 use Rattle.fts_top.specs.declared.ends.Unsent.TheVariants as unsent
 use Rattle.fts_top.specs.Ends.{end_of_unsent}
-use Rattle.fts_top.specs.Run.{Sides, Turns, Sends, IsLeft}
+use Rattle.fts_top.specs.Run.{Sides, OneLine, Sends, IsLeft}
 
 module _ {S : Type 0} (steps : Ghosts S) (state : State) where
   -- a line too long makes no step, and has its reply
@@ -21,7 +21,7 @@ module _ {S : Type 0} (steps : Ghosts S) (state : State) where
   pub not_sent : (cause : Unsent) (line : Line) (reply : Reply) (ahead behind : List Line) (before after : Sides S)
       → ahead ≡ line ∷ behind → Executes steps state line before.steps (Ok reply) after.steps
       → Sends (Err cause) reply before.held after.held → IsLeft behind after.left
-      → Turns steps (Err (end_of_unsent cause)) state ahead behind before after
+      → OneLine steps (Err (end_of_unsent cause)) state ahead behind before after
   not_sent unsent.WriteFault line reply ahead behind before after one executes sends rest =
       (line, one, (sends.0, record { reply = reply; executes = executes; written = sends.1 }), rest)
   not_sent unsent.NoMemory line reply ahead behind before after one executes sends rest =

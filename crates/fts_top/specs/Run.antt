@@ -43,7 +43,7 @@ pub record Front {S : Type 0} (steps : Ghosts S) (start : State) (script ahead :
   pub stands : steps.stands (after_all start calls) after.steps
 
 -- a line was executed, and of its reply the first n bytes were written
-pub record Answers {S : Type 0} (steps : Ghosts S) (state : State) (line : Line) (n : ℕ) (before after : Sides S)
+pub record Replies {S : Type 0} (steps : Ghosts S) (state : State) (line : Line) (n : ℕ) (before after : Sides S)
     : Type 0 where
   pub reply : Reply
   pub executes : Executes steps state line before.steps (Ok reply) after.steps
@@ -66,7 +66,7 @@ pub record Late {S : Type 0} (steps : Ghosts S) (start : State) (script : List L
   pub ahead : List Line
   pub middle : Sides S
   pub front : Front steps start script (line ∷ ahead) before middle
-  pub answers : Answers steps (after_all start front.calls) line n middle after
+  pub answers : Replies steps (after_all start front.calls) line n middle after
   pub rest : IsLeft ahead after.left
 
 -- behind the front, a line was ended by a fault or by want of memory
@@ -103,24 +103,24 @@ Outcome steps end.NoMemory start script before after =
     ((ahead : List Line) × Front steps start script ahead before after × IsLeft ahead after.left)
     ⊎ (Late steps start script 0 before after ⊎ Broken steps start script NoMemory before after)
 
--- one turn of the run's loop, which goes on or ends the run: from the lines ahead to those behind it
-abbrev pub Turns : {S : Type 0} → Ghosts S → Result (Unit {0}) RunEnd → State → List Line → List Line
+-- one line of a run, which goes on or ends: from the lines ahead to those behind it
+abbrev pub OneLine : {S : Type 0} → Ghosts S → Result (Unit {0}) RunEnd → State → List Line → List Line
     → Sides S → Sides S → Type 0
-Turns steps (Ok done) state ahead behind before after = (line : Line) × (ahead ≡ line ∷ behind)
+OneLine steps (Ok done) state ahead behind before after = (line : Line) × (ahead ≡ line ∷ behind)
     × ((reply : Reply) × Executes steps state line before.steps (Ok reply) after.steps
     × (after.held ≡ before.held ++ text_of reply))
-Turns steps (Err end.Done) state ahead behind before after = (ahead ≡ []) × (after.left ≡ []) × Stays before after
-Turns steps (Err end.ReadFault) state ahead behind before after = Begun 0 ahead after.left × Stays before after
-Turns steps (Err (end.ScriptTooLong lines bytes)) state ahead behind before after =
+OneLine steps (Err end.Done) state ahead behind before after = (ahead ≡ []) × (after.left ≡ []) × Stays before after
+OneLine steps (Err end.ReadFault) state ahead behind before after = Begun 0 ahead after.left × Stays before after
+OneLine steps (Err (end.ScriptTooLong lines bytes)) state ahead behind before after =
     Begun 1 ahead after.left × Stays before after
-Turns steps (Err end.WriteFault) state ahead behind before after = (line : Line) × (ahead ≡ line ∷ behind)
-    × ((n : ℕ) × Answers steps state line n before after) × IsLeft behind after.left
-Turns steps (Err end.DiskFault) state ahead behind before after = (line : Line) × (ahead ≡ line ∷ behind)
+OneLine steps (Err end.WriteFault) state ahead behind before after = (line : Line) × (ahead ≡ line ∷ behind)
+    × ((n : ℕ) × Replies steps state line n before after) × IsLeft behind after.left
+OneLine steps (Err end.DiskFault) state ahead behind before after = (line : Line) × (ahead ≡ line ∷ behind)
     × Breaks steps state line DiskFault before after × IsLeft behind after.left
-Turns steps (Err end.NoMemory) state ahead behind before after =
+OneLine steps (Err end.NoMemory) state ahead behind before after =
     IsLeft behind after.left × (((ahead ≡ behind) × Stays before after)
     ⊎ ((line : Line) × (ahead ≡ line ∷ behind)
-    × (Answers steps state line 0 before after ⊎ Breaks steps state line NoMemory before after)))
+    × (Replies steps state line 0 before after ⊎ Breaks steps state line NoMemory before after)))
 
 -- the script was too long: more than 2^40 bytes of it were taken, and the rest is left
 abbrev pub PassesLimit : ℕ → List ℕ → List ℕ → Type 0

@@ -3,7 +3,7 @@ ghost use Rattle.fts_faults.specs.Count.{CountsFault};
 ghost use Rattle.fts_io.specs.Text.{lines_of};
 ghost use Rattle.fts_io.specs.Reading.{ahead, given_by, taken_by, work_left};
 ghost use Rattle.fts_steps.specs.State.{State};
-ghost use Rattle.fts_top.specs.Run.{Outcome, Turns, PassesLimit, Sends, sides};
+ghost use Rattle.fts_top.specs.Run.{Outcome, OneLine, PassesLimit, Sends, sides};
 
 use crate::ends::{RunEnd, Unsent};
 use fts_io::{Gate, Lines, Next, Sink, Source, write_whole};
@@ -58,9 +58,9 @@ fn one_line<I: Source, O: Sink, S: EngineSteps, G: Gate>(
     steps: &mut S,
     gate: &G,
 ) -> Result<(), RunEnd>
-    ensures turns { IsTrue I.tells → IsTrue O.tells → IsTrue S.tells → (state : State)
+    ensures line { IsTrue I.tells → IsTrue O.tells → IsTrue S.tells → (state : State)
         → S.stands state steps.old
-        → Turns S.EngineSteps result state
+        → OneLine S.EngineSteps result state
         (ahead lines.old (I.left input.old)) (ahead lines.new (I.left input.new))
         (sides (I.left input.old) (O.holds out.old) steps.old)
         (sides (I.left input.new) (O.holds out.new) steps.new) }

@@ -1,7 +1,7 @@
 //! The files of a device in memory, with a record of the calls on them.
 ghost use Rattle.std.specs.Prelude.{◌≡◌, ◌+◌, ◌<◌, ◌≤◌, ◌++◌, ◌∷◌, [], false, length, take, drop};
 ghost use Rattle.std.specs.Prelude.{All, IsTrue, IfOk, OnOk, OnErr};
-ghost use Rattle.fts_disk.specs.Device.{OnFile, Holds, Torn, Shortened};
+ghost use Rattle.fts_disk.specs.Device.{OnFile, Written, Torn, Shortened};
 ghost use Rattle.fts_disk.specs.Crash.{Within, Follows, Only, Elapses};
 ghost use Rattle.fts_disk.specs.Contents.{contents};
 ghost use Rattle.fts_disk.specs.Replay.{seen_after, step_seen, IsLook, IsOfFile, IsWriteOf};
@@ -96,7 +96,7 @@ impl Recorded {
         requires file { file < 16 }
         requires within { at ≤ length (files_of self.old file) }
         ensures written { OnOk result
-            (IsTrue done → OnFile file (Holds at bytes.now) (files_of self.old)
+            (IsTrue done → OnFile file (Written at bytes.now) (files_of self.old)
             (files_of self.new)) }
         ensures not_done { done ≡ false → files_of self.new ≡ files_of self.old }
         ensures kept { OnErr result (files_of self.new ≡ files_of self.old) }
@@ -157,7 +157,8 @@ fn write_noted(
     requires file { file < length files.old.items }
     requires within { at ≤ length (contents files.old.items file) }
     ensures written { OnOk result (IsTrue done
-        → OnFile file (Holds at bytes.now) (contents files.old.items) (contents files.new.items)) }
+        → OnFile file (Written at bytes.now)
+        (contents files.old.items) (contents files.new.items)) }
     ensures not_done { done ≡ false → contents files.new.items ≡ contents files.old.items }
     ensures kept { OnErr result (contents files.new.items ≡ contents files.old.items) }
     ensures count { length files.new.items ≡ length files.old.items }
@@ -213,7 +214,7 @@ fn cut_noted(
 /// Writes over the bytes from a place on, and past the end.
 pub(crate) fn overwrite(file: &mut Vec<u8>, at: usize, bytes: &[u8]) -> Result<(), AllocError>
     requires { at ≤ length file.old.items }
-    ensures written { OnOk result (Holds at bytes.now file.old.items file.new.items) }
+    ensures written { OnOk result (Written at bytes.now file.old.items file.new.items) }
     ensures kept { OnErr result (file.new.items ≡ file.old.items) }
 {
     let over = bytes.len().min(file.len() - at);
@@ -231,7 +232,7 @@ pub(crate) fn overwrite_in(
 ) -> Result<(), AllocError>
     requires file { file < length files.old.items }
     requires within { at ≤ length (contents files.old.items file) }
-    ensures written { OnOk result (OnFile file (Holds at bytes.now) (contents files.old.items)
+    ensures written { OnOk result (OnFile file (Written at bytes.now) (contents files.old.items)
         (contents files.new.items)) }
     ensures kept { OnErr result (contents files.new.items ≡ contents files.old.items) }
     ensures count { length files.new.items ≡ length files.old.items }

@@ -36,7 +36,7 @@ lines-preserved g c = record {
       (sides (g.I.Source.left c.args.input.now) (g.O.Sink.holds c.args.out.now) c.args.steps.now)
       (sides (g.I.Source.left c.lines.input) (g.O.Sink.holds c.lines.out) c.lines.steps)
       (sides (g.I.Source.left c.one_line.new.input) (g.O.Sink.holds c.one_line.new.out) c.one_line.new.steps) front.0
-      (c.in-Ok-one_line.ensures.turns tells_input tells_out tells_steps (after_all start front.0.calls) front.0.stands)
+      (c.in-Ok-one_line.ensures.line tells_input tells_out tells_steps (after_all start front.0.calls) front.0.stands)
       c.one_line.ensures.limits
       (given_by c.lines.lines) (given_by c.one_line.new.lines) front.1 (c.in-Ok-one_line.ensures.given refl);
   counts = λ tells. let one = c.one_line.ensures.counts tells in let old = c.lines.invariant.counts tells in omega arith;
@@ -53,5 +53,5 @@ returns-in-Err-one_line-clause-runs g c tells_input tells_out tells_steps start 
     (sides (g.I.Source.left c.args.input.now) (g.O.Sink.holds c.args.out.now) c.args.steps.now)
     (sides (g.I.Source.left c.lines.input) (g.O.Sink.holds c.lines.out) c.lines.steps)
     (sides (g.I.Source.left c.one_line.new.input) (g.O.Sink.holds c.one_line.new.out) c.one_line.new.steps) front.0
-    (c.in-Err-one_line.ensures.turns tells_input tells_out tells_steps (after_all start front.0.calls) front.0.stands)
+    (c.in-Err-one_line.ensures.line tells_input tells_out tells_steps (after_all start front.0.calls) front.0.stands)
     (λ number bytes e. (c.in-Err-one_line.ensures.too_long number bytes (ap Err e)).0 ∙ sym front.1)
