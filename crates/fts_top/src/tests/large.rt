@@ -40,10 +40,10 @@ fn a_bad_payload_behind_a_thousand_has_its_place(rt: HostRuntime) -> Result<(), 
     let (script, _) = thousand(alloc)?;
     let run = call(alloc, RUN, script.as_bytes(), created(alloc)?)?;
     let mut bytes = Vec::from_slice(alloc, run.rows.file(0))?;
-    let at = bytes.len() - 1;
-    // A record whose payload, one byte, is that of no commit.
-    bytes[at] = 1;
-    for byte in [0, 0, 0, 1, 7, 0] {
+    // In place of the closed gate a record whose payload, one byte, is that of no commit.
+    bytes.pop();
+    let at = bytes.len();
+    for byte in [1, 0, 0, 0, 1, 7, 0] {
         bytes.push(byte)?;
     }
     let damaged = Status::Damaged {
