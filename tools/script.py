@@ -27,21 +27,30 @@ class Unwritten(Exception):
 
 
 class Folding(dict):
-    """For each character what stands for it: itself, nothing for a mark, a blank for any other."""
+    """What stands for each character: that of its NFKD parts which the engine takes.
+
+    NFKD may put marks in another order. As all of them are left out, each character is for itself.
+    """
 
     def __missing__(self, code):
-        is_mark = unicodedata.category(chr(code)).startswith("M")
-        self[code] = "" if is_mark else " "
+        parts = unicodedata.normalize("NFKD", chr(code))
+        self[code] = "".join(it if is_taken(it) else " " for it in parts if not is_mark(it))
         return self[code]
 
 
-FOLDING = Folding({code: chr(code) for code in (9, *range(32, 127))})
+def is_taken(character):
+    return character == "\t" or " " <= character <= "~"
+
+
+def is_mark(character):
+    return unicodedata.category(character).startswith("M")
+
+
+FOLDING = Folding()
 
 
 def folded(text):
     """A text as the engine takes it: tab and 32 to 126, letters without marks, a blank else."""
-    if not text.isascii():
-        text = unicodedata.normalize("NFKD", text)
     return text.translate(FOLDING)
 
 
@@ -164,7 +173,7 @@ class Script:
         try:
             stream.write(text.encode("utf-8", "replace"))
         except OSError as error:
-            raise Unwritten(f"{stream.name}: {error.strerror}") from error
+            raise Unwritten(f"{self.name_of(stream)}: {error.strerror}") from error
 
     def flush(self):
         for stream in (self.out, self.map_file):
@@ -172,7 +181,10 @@ class Script:
                 if stream:
                     stream.flush()
             except OSError as error:
-                raise Unwritten(f"{stream.name}: {error.strerror}") from error
+                raise Unwritten(f"{self.name_of(stream)}: {error.strerror}") from error
+
+    def name_of(self, stream):
+        return "standard output" if stream is self.out else stream.name
 
 
 def one_line(text):
@@ -204,6 +216,10 @@ def opened(parser, path, mode):
         parser.error(f"{path}: {error.strerror}")
 
 
+def is_same_file(opened_file, path):
+    return os.path.samestat(os.fstat(opened_file.fileno()), os.stat(path))
+
+
 def convert(parser, words, rows_of):
     """Runs a converter, `rows_of(words, source, script)`, and returns the exit status.
 
@@ -211,6 +227,8 @@ def convert(parser, words, rows_of):
     """
     archive = sys.stdin.buffer if words.archive == "-" else opened(parser, words.archive, "rb")
     source = io.BufferedReader(Unpacked(archive), PIECE)
+    if words.map and os.path.exists(words.map) and is_same_file(archive, words.map):
+        parser.error(f"{words.map}: the archive is no place for the map")
     map_file = opened(parser, words.map, "wb") if words.map else None
     script = Script(parser.prog, sys.stdout.buffer, map_file)
     try:
