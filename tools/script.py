@@ -13,13 +13,14 @@ import zlib
 MOST_ROWS = 1_000_000
 MOST_TEXT_BYTES = 65_535
 LEAST_KEY_PAST = 2**64
+MOST_LOG_BYTES = 2**32
 PIECE = 65_536
 # The first bytes of a packed stream, and what unpacks it.
 PACKED = {b"BZh": bz2.open, b"\x1f\x8b": gzip.open, b"\xfd7zXZ\0": lzma.open}
 
 
 class Full(Exception):
-    """The database has all the rows that it may have."""
+    """The database has all the rows that it may have, or that its log has room for."""
 
 
 class Unwritten(Exception):
@@ -72,6 +73,16 @@ def insert_of(columns, key, texts):
     names = ", ".join(("id", *columns))
     values = ", ".join((str(key), *(quoted(it) for it in texts)))
     return f"INSERT INTO docs ({names}) VALUES ({values})\n"
+
+
+def log_bytes_of_settings(columns):
+    """At which place a log ends that has no rows yet."""
+    return 29 + sum(1 + len(it) for it in columns)
+
+
+def log_bytes_of(texts):
+    """How many bytes of the log a row takes."""
+    return 18 + sum(2 + len(it) for it in texts)
 
 
 def cut(texts):
@@ -127,6 +138,7 @@ class Script:
         self.map_file = map_file
         self.columns = ()
         self.rows = 0
+        self.row_bytes = 0
         self.status = 0
         # At most a million: where a key comes twice, the engine refuses it and gives no id.
         self.keys = set()
@@ -145,17 +157,24 @@ class Script:
             key = self.checked(place, key)
             if key is None:
                 return
-        if self.rows == MOST_ROWS:
-            raise Full(place)
         texts = [folded(it) for it in texts]
         size = sum(len(it) for it in texts)
         if size > MOST_TEXT_BYTES:
             self.tell(place, f"texts of {size} bytes cut at {MOST_TEXT_BYTES}")
             texts = cut(texts)
-        self.rows += 1
+        self.take_room(place, texts)
         self.write(self.out, insert_of(self.columns, self.rows if key is None else key, texts))
         if self.map_file:
             self.write(self.map_file, f"{self.rows}\t{one_line(label)}\n")
+
+    def take_room(self, place, texts):
+        """Counts a row. Where the database has no room for it, nothing is written any more."""
+        self.row_bytes += log_bytes_of(texts)
+        if self.rows == MOST_ROWS:
+            raise Full(place, f"{MOST_ROWS} rows are the most")
+        if log_bytes_of_settings(self.columns) + self.row_bytes > MOST_LOG_BYTES:
+            raise Full(place, f"{MOST_LOG_BYTES} bytes are the most of the rows log")
+        self.rows += 1
 
     def checked(self, place, key):
         """The key as a number, or none where it is no key that this row can have."""
@@ -197,7 +216,7 @@ def parser_of(tool, description):
     epilog = (
         "Bad input is told on standard error and left out. Status 0: all was written; "
         "1: something was left out; 2: wrong usage. The ids of the map are those that a new "
-        "database gives. At most 1,000,000 rows are written."
+        "database gives. At most 1,000,000 rows are written, and what a log of 4 GiB can hold."
     )
     parser = argparse.ArgumentParser(prog=tool, description=description, epilog=epilog)
     parser.add_argument(
@@ -237,8 +256,9 @@ def convert(parser, words, rows_of):
             if source.raw.fault:
                 place = f"byte {source.raw.count}"
                 script.skip(place, f"the archive breaks off: {source.raw.fault}")
-        except Full as place:
-            script.skip(place, f"left out with all behind: {MOST_ROWS} rows are the most")
+        except Full as full:
+            place, why = full.args
+            script.skip(place, f"left out with all behind: {why}")
         script.flush()
     except Unwritten as why:
         print(f"{parser.prog}: {why}", file=sys.stderr)
