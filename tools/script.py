@@ -244,6 +244,11 @@ def convert(parser, words, rows_of):
 
     The source is a binary stream; its `raw.fault` says, once it has ended, what broke it off.
     """
+    # (else what is opened next would take the place of a stream that is closed)
+    if sys.stderr is None:
+        return 2
+    if None in (sys.stdin, sys.stdout):
+        parser.error("a standard stream is closed")
     archive = sys.stdin.buffer if words.archive == "-" else opened(parser, words.archive, "rb")
     source = io.BufferedReader(Unpacked(archive), PIECE)
     if words.map and os.path.exists(words.map) and is_same_file(archive, words.map):
