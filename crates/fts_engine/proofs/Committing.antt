@@ -1,9 +1,9 @@
 -- What a commit makes of an engine that stands for a state.
-use Rattle.std.proofs.Common.{◌≡◌, ◌⊎◌, ℕ, ◌+◌, ◌-◌, ◌<◌, List, [], ◌∷◌, ◌++◌, refl, ap, subst, sym, ◌∙◌, length, arith, inl, inr, length-append}
-use Rattle.std.proofs.lemmas.List.{map-append, length-map}
+use Rattle.std.proofs.Common.{◌≡◌, ℕ, ◌+◌, ◌-◌, ◌<◌, List, [], ◌∷◌, ◌++◌, refl, ap, subst, sym, ◌∙◌, length, arith, inl, inr, length-append}
+use Rattle.std.proofs.lemmas.List.{map-append}
 use Rattle.std.proofs.lemmas.List.Elements.{All-push}
 use Rattle.std.proofs.lemmas.Bool.{ltb-true, false_from_ne_true}
-use Rattle.std.specs.Prelude.{Bool, true, false, nat_lt, Result, Ok}
+use Rattle.std.specs.Prelude.{Bool, true, false, nat_lt, Result, Ok, None}
 use Rattle.fts_disk.specs.Device.{Files}
 use Rattle.fts_disk.specs.Crash.{Images}
 use Rattle.fts_disk.specs.declared.disk.Disk.{Ghosts}
@@ -23,8 +23,9 @@ use Rattle.fts_log.specs.declared.frame.Framed.{Framed}
 use Rattle.fts_log.specs.declared.log.Log.{Log}
 use Rattle.fts_log.proofs.Bytes.{length-front-push}
 use Rattle.fts_rowcodec.specs.Payload.{commit_payload, settings_payload, IsWritten}
-use Rattle.fts_steps.specs.State.{State, payloads, rows_magic, end_after, with_commits, IsSound}
-use Rattle.fts_steps.specs.Step.{Answer, to_commit, to_find, committed, full, found, plain_answer, after, MayAnswer}
+use Rattle.fts_steps.specs.State.{State, payloads, rows_magic, end_after, with_commits, IsSound, IsDatabase}
+use Rattle.fts_steps.specs.Running.{Running}
+use Rattle.fts_steps.specs.Step.{Answer, to_commit, to_find, committed, full, found, plain_answer, changes_of, is_disk_fault, MayAnswer}
 use Rattle.fts_commits.specs.declared.refusal.Refusal.{Refusal}
 use Rattle.fts_rows.specs.declared.error.PlanError.{PlanError}
 use Rattle.fts_rows.specs.declared.error.PlanError.TheVariants.{NoMemory, Refused}
@@ -33,7 +34,7 @@ use Rattle.fts_engine.specs.Refusing.{refusal_answer}
 use Rattle.fts_engine.specs.declared.engine.Engine.{Engine}
 use Rattle.fts_engine.specs.Bounds.{AreWithin}
 use Rattle.fts_engine.specs.Kept.{kept_settings, kept_rows, kept_limits}
-use Rattle.fts_engine.specs.Stands.{Keeps, MayHold, engine_limits}
+use Rattle.fts_engine.specs.Stands.{Keeps, MayHold, OnDevice, engine_limits}
 use Rattle.fts_engine.proofs.Accepting.{accepted_more, accepted_fits, replay_accepted, AreAccepted-push}
 
 -- the entries of a state with one commit more
@@ -49,17 +50,36 @@ sound-push state commit after sound written ok = record {
   accepted = AreAccepted-push no_rows state.commits commit sound.accepted (rw ok refl);
 }
 
-module _ (state : State) (commit : Commit) (limits : Limits) (after : Rows) (ok : after_commit limits commit (replay state.commits) ≡ Ok after) where
-  answered : (past : Bool) → nat_lt limits.log_bytes (end_after state commit) ≡ past
-      → plain_answer limits state (to_commit commit) ≡ elim past [ true ↦ full (end_after state commit) | false ↦ committed (length state.commits + 1) ]
-  answered true is = rw (ok, is) refl
-  answered false is = rw (ok, is) refl
+module _ (running : Running) (commit : Commit) (limits : Limits) (after : Rows) (going : running.stopped ≡ None)
+    (ok : after_commit limits commit (replay running.state.commits) ≡ Ok after) where
+  answered : (past : Bool) → nat_lt limits.log_bytes (end_after running.state commit) ≡ past
+      → plain_answer limits running (to_commit commit) ≡ elim past [ true ↦ full (end_after running.state commit) | false ↦ committed (length running.state.commits + 1) ]
+  answered true is = rw (going, ok, is) refl
+  answered false is = rw (going, ok, is) refl
 
-  pub is_full : limits.log_bytes < end_after state commit → plain_answer limits state (to_commit commit) ≡ full (end_after state commit)
+  pub is_full : limits.log_bytes < end_after running.state commit → plain_answer limits running (to_commit commit) ≡ full (end_after running.state commit)
   is_full past = answered true (grind (arith, past))
 
-  pub is_committed : (limits.log_bytes < end_after state commit → ⊥) → plain_answer limits state (to_commit commit) ≡ committed (length state.commits + 1)
+  pub is_committed : (limits.log_bytes < end_after running.state commit → ⊥) → plain_answer limits running (to_commit commit) ≡ committed (length running.state.commits + 1)
   is_committed within = answered false (false_from_ne_true _ (λ past. within (ltb-true limits.log_bytes _ past)))
+
+module _ {D : Type 0} {disk : Ghosts D} (state : State) (engine : Engine D disk) (keeps : Keeps state engine) (logged : StandsFor (payloads state) engine.log) where
+  -- the device reads as the database of the state
+  reads : IsDatabase state (disk.seen (device_of engine.log) 0)
+  reads = record { sound = keeps.sound; log = subst (λ (m : List ℕ). IsLog m (payloads state) (disk.seen (device_of engine.log) 0)) keeps.magic logged.is_log }
+
+  -- a crash leaves the database of the state
+  crashed : (c : Files) → disk.images (device_of engine.log) c → IsDatabase state (c 0)
+  crashed c may = subst (λ (file : List ℕ). IsDatabase state file) (sym (logged.durable c may)) reads
+
+-- a log with the entries of the state is the state's database on its device, whatever is in doubt
+pub on_device : {D : Type 0} {disk : Ghosts D} (running : Running) (engine : Engine D disk) → Keeps running.state engine → StandsFor (payloads running.state) engine.log
+    → OnDevice disk running (device_of engine.log)
+on_device running engine keeps logged = record {
+  reads = λ going. reads running.state engine keeps logged;
+  may_read = inl (reads running.state engine keeps logged);
+  crash = λ c may. inl (crashed running.state engine keeps logged c may);
+}
 
 module _ {D : Type 0} {disk : Ghosts D} (state : State) (engine : Engine D disk) (keeps : Keeps state engine) (commit : Commit) where
   -- the end that the log computes is the one that the state has
@@ -145,34 +165,34 @@ module _ {D : Type 0} {disk : Ghosts D} (state : State) (engine : Engine D disk)
 
   -- no call of the device: a crash leaves the database of the state
   pub held_now : StandsFor (payloads state) engine.log → (c : Files) → disk.images (device_of engine.log) c → MayHold state (commit ∷ []) c
-  held_now logged c may =
-      inl (record {
-        sound = keeps.sound;
-        log = subst (λ (file : List ℕ). IsLog rows_magic (payloads state) file) (sym (logged.durable c may))
-            (subst (λ (m : List ℕ). IsLog m (payloads state) (disk.seen (device_of engine.log) 0)) keeps.magic logged.is_log);
-      })
+  held_now logged c may = inl (crashed state engine keeps logged c may)
 
-module _ {D : Type 0} {disk : Ghosts D} (state : State) (engine : Engine D disk) (keeps : Keeps state engine) (word : List ℕ) where
-  pub same_number : log.count_of engine.log - 1 ≡ length state.commits
+module _ {D : Type 0} {disk : Ghosts D} (running : Running) (engine : Engine D disk) (keeps : Keeps running.state engine) (word : List ℕ) where
+  pub same_number : log.count_of engine.log - 1 ≡ length running.state.commits
   same_number = let count = keeps.count in omega (arith)
 
-  pub is_found : (number : ℕ) (docs : List ℕ) → number ≡ length state.commits → docs ≡ scan (rules_of (kept_settings engine.kept)) word (kept_rows engine.kept)
-      → plain_answer (engine_limits engine) state (to_find word) ≡ found number docs
+  pub is_found : (number : ℕ) (docs : List ℕ) → number ≡ length running.state.commits → docs ≡ scan (rules_of (kept_settings engine.kept)) word (kept_rows engine.kept)
+      → plain_answer (engine_limits engine) running (to_find word) ≡ found number docs
   is_found number docs numbered same =
-      let settings : scan (rules_of state.settings) word (replay state.commits) ≡ scan (rules_of (kept_settings engine.kept)) word (replay state.commits) =
-      ap (λ (s : Settings). scan (rules_of s) word (replay state.commits)) keeps.settings in
-      let rows : scan (rules_of (kept_settings engine.kept)) word (kept_rows engine.kept) ≡ scan (rules_of (kept_settings engine.kept)) word (replay state.commits) =
+      let commits = running.state.commits in
+      let settings : scan (rules_of running.state.settings) word (replay commits) ≡ scan (rules_of (kept_settings engine.kept)) word (replay commits) =
+      ap (λ (s : Settings). scan (rules_of s) word (replay commits)) keeps.settings in
+      let rows : scan (rules_of (kept_settings engine.kept)) word (kept_rows engine.kept) ≡ scan (rules_of (kept_settings engine.kept)) word (replay commits) =
       ap (scan (rules_of (kept_settings engine.kept)) word) keeps.rows in
-      let docs' : scan (rules_of state.settings) word (replay state.commits) ≡ docs = settings ∙ sym rows ∙ sym same in
-      ap (λ (n : ℕ). found n (scan (rules_of state.settings) word (replay state.commits))) (sym numbered) ∙ ap (found number) docs'
+      let docs' : scan (rules_of running.state.settings) word (replay commits) ≡ docs = settings ∙ sym rows ∙ sym same in
+      ap (λ (n : ℕ). found n (scan (rules_of running.state.settings) word (replay commits))) (sym numbered) ∙ ap (found number) docs'
 
--- a refusal by the rows leaves the state
-pub refusal_stays : (state : State) (commit : Commit) (error : PlanError) (answer : Answer) → answer ≡ refusal_answer error → after state (to_commit commit) answer ≡ state
-refusal_stays state commit NoMemory answer is = rw is refl
-refusal_stays state commit (Refused refusal) answer is = rw is refl
+-- a refusal by the rows adds nothing, and is no fault
+pub refusal_adds : (commit : Commit) (error : PlanError) (answer : Answer) → answer ≡ refusal_answer error → changes_of (to_commit commit) answer ≡ []
+refusal_adds commit NoMemory answer is = rw is refl
+refusal_adds commit (Refused refusal) answer is = rw is refl
+
+pub refusal_calm : (error : PlanError) (answer : Answer) → answer ≡ refusal_answer error → is_disk_fault answer ≡ false
+refusal_calm NoMemory answer is = rw is refl
+refusal_calm (Refused refusal) answer is = rw is refl
 
 -- a refusal by the rows is the commit's
-pub refusal_answers : (limits : Limits) (state : State) (commit : Commit) (error : PlanError) (answer : Answer) → answer ≡ refusal_answer error
-    → IsNoPlan (after_commit limits commit (replay state.commits)) error → MayAnswer limits state (to_commit commit) answer
-refusal_answers limits state commit NoMemory answer is why = rw is tt
-refusal_answers limits state commit (Refused refusal) answer is why = rw is (rw why refl)
+pub refusal_answers : (limits : Limits) (running : Running) (commit : Commit) (error : PlanError) (answer : Answer) → running.stopped ≡ None → answer ≡ refusal_answer error
+    → IsNoPlan (after_commit limits commit (replay running.state.commits)) error → MayAnswer limits running (to_commit commit) answer
+refusal_answers limits running commit NoMemory answer going is why = rw is tt
+refusal_answers limits running commit (Refused refusal) answer going is why = rw is (rw (going, why) refl)

@@ -1,8 +1,8 @@
 -- What the bytes of a rows log are that was opened.
-use Rattle.std.proofs.Common.{◌≡◌, ◌≢◌, ℕ, ◌+◌, ◌<◌, Bool, true, false, List, [], ◌∷◌, ◌++◌, refl, subst, sym, ap, ◌∙◌, length, inl, inr, arith}
+use Rattle.std.proofs.Common.{◌≡◌, ℕ, ◌<◌, Bool, true, false, List, [], ◌∷◌, ◌++◌, refl, subst, sym, ap, ◌∙◌, length, inl, inr, arith}
 use Rattle.std.specs.Prelude.{Result, Ok, Err, IfOk, IfErr}
 use Rattle.fts_log.specs.declared.found.Found.{Found}
-use Rattle.fts_log.specs.Record.{IsLog, IsBroken, IsBrokenBehind, IsDamagedAt, front}
+use Rattle.fts_log.specs.Record.{IsLog, IsBrokenBehind, IsDamagedAt, front}
 use Rattle.fts_log.specs.Scan.{EndsAs, IsFoundIn}
 use Rattle.fts_log.proofs.Unique.{one_list, not_damaged}
 use Rattle.fts_steps.specs.State.{payloads, rows_magic, IsCreated}

@@ -20,7 +20,7 @@ use Rattle.fts_steps.specs.State.{State, payloads, with_commits, IsSound}
 use Rattle.fts_engine.specs.declared.kept.Kept.{Kept}
 use Rattle.fts_engine.specs.Kept.{kept_settings, kept_rows, kept_limits}
 use Rattle.fts_engine.specs.Loading.{BeginsWith, IsLoaded, IsWrongEntry}
-use Rattle.fts_steps.specs.Fault.{AreNoState, AreOfState}
+use Rattle.fts_steps.specs.Fault.{AreNoState}
 use Rattle.fts_log.specs.Record.{gate_at}
 use Rattle.fts_engine.proofs.Accepting.{replay_accepted}
 use Rattle.fts_engine.proofs.Committing.{payloads-push, sound-push}

@@ -1,17 +1,28 @@
-use Rattle.std.specs.Prelude.{◌≡◌, ◌⊎◌, ℕ, ◌+◌, List, length, Result, Ok, Err}
+use Rattle.std.specs.Prelude.{◌≡◌, ◌⊎◌, ℕ, ◌+◌, List, [], false, length, Result, Ok, Err, Option, None, IsTrue}
+use Rattle.fts_disk.specs.Device.{Files}
 use Rattle.fts_disk.specs.Crash.{Images}
 use Rattle.fts_disk.specs.declared.disk.Disk.{Ghosts}
 use Rattle.fts_log.specs.declared.log.Log.{Log}
-use Rattle.fts_commits.specs.Commit.{Commit, replay}
-use Rattle.std.proofs.Common.{subst}
-use Rattle.fts_log.specs.Record.{IsLog, log_end}
+use Rattle.fts_log.specs.Record.{log_end}
 use Rattle.fts_log.specs.Log.{StandsFor, device_of, magic_of, limit_of, count_of, end_of}
-use Rattle.fts_steps.specs.State.{State, payloads, rows_magic, with_commits, IsSound, IsDatabase}
-use Rattle.fts_engine.specs.declared.engine.Engine.{Engine}
 use Rattle.fts_types.specs.declared.limits.Limits.{Limits}
+use Rattle.fts_types.specs.declared.settings.Settings.{Settings}
 use Rattle.fts_types.specs.Limits.{standard_limits}
+use Rattle.fts_commits.specs.Commit.{Commit, replay}
+use Rattle.fts_steps.specs.State.{State, payloads, rows_magic, with_commits, IsSound, IsDatabase}
+use Rattle.fts_steps.specs.Running.{Running}
+use Rattle.fts_steps.specs.Step.{Sight}
+use Rattle.fts_engine.specs.declared.engine.Engine.{Engine}
 use Rattle.fts_engine.specs.Bounds.{AreWithin}
 use Rattle.fts_engine.specs.Kept.{kept_settings, kept_rows, kept_limits}
+
+-- the settings of its database
+abbrev pub engine_settings : {D : Type 0} {disk : Ghosts D} → Engine D disk → Settings
+engine_settings engine = kept_settings engine.kept
+
+-- the sum of the counts of faults at the fault that stopped it, if one did
+abbrev pub stopped_at : {D : Type 0} {disk : Ghosts D} → Engine D disk → Option ℕ
+stopped_at engine = engine.stopped
 
 -- the limits of its commits
 abbrev pub engine_limits : {D : Type 0} {disk : Ghosts D} → Engine D disk → Limits
@@ -45,24 +56,35 @@ pub record Keeps {D : Type 0} {disk : Ghosts D} (state : State) (engine : Engine
   pub limit : limit_of engine.log ≡ (engine_limits engine).log_bytes
   pub magic : magic_of engine.log ≡ rows_magic
 
--- the engine stands for the state: it keeps it, and its log has the state's entries
-pub record Stands {D : Type 0} {disk : Ghosts D} (state : State) (engine : Engine D disk) : Type 0 where
-  pub keeps : Keeps state engine
-  pub log : StandsFor (payloads state) engine.log
-
--- its device reads as the database of the state
-abbrev pub ReadsAs : {D : Type 0} {disk : Ghosts D} → State → Engine D disk → Type 0
-ReadsAs {disk} state engine = IsDatabase state (disk.seen (device_of engine.log) 0)
-
--- a crash leaves the database of the state, or of the state and the commits in doubt
+-- these files are the database of the state, or of the state and the commits in doubt
 abbrev pub MayHold : State → List Commit → Images
 MayHold state doubt c = IsDatabase state (c 0) ⊎ IsDatabase (with_commits state doubt) (c 0)
 
--- the device of an engine that stands for a state reads as the state's database
-pub Stands-reads : {D : Type 0} {disk : Ghosts D} (state : State) (engine : Engine D disk) → Stands state engine
-    → ReadsAs state engine
-Stands-reads {disk} state engine stands = record {
-  sound = stands.keeps.sound;
-  log = subst (λ (m : List ℕ). IsLog m (payloads state) (disk.seen (device_of engine.log) 0)) stands.keeps.magic
-      stands.log.is_log;
+-- a device reads as the database of what runs, and a crash leaves it; where a fault stopped the engine, perhaps with
+-- the commit in doubt
+pub record OnDevice {D : Type 0} (disk : Ghosts D) (running : Running) (device : D) : Type 0 where
+  pub reads : running.stopped ≡ None → IsDatabase running.state (disk.seen device 0)
+  pub may_read : MayHold running.state running.doubt (disk.seen device)
+  pub crash : (c : Files) → disk.images device c → MayHold running.state running.doubt c
+
+-- while no fault stopped it, its log has the state's entries, and nothing is in doubt
+pub record Logs {D : Type 0} {disk : Ghosts D} (running : Running) (engine : Engine D disk) : Type 0 where
+  pub entries : StandsFor (payloads running.state) engine.log
+  pub sure : running.doubt ≡ []
+
+-- the engine stands for what runs: it keeps the state, and where its device tells, this holds the state
+pub record Stands {D : Type 0} {disk : Ghosts D} (running : Running) (engine : Engine D disk) : Type 0 where
+  pub keeps : Keeps running.state engine
+  pub stopped : stopped_at engine ≡ running.stopped
+  pub logs : IsTrue disk.tells → running.stopped ≡ None → Logs running engine
+  pub device : IsTrue disk.tells → OnDevice disk running (engine_device engine)
+
+-- what contracts see of an engine that one thread owns
+abbrev pub engine_sight : {D : Type 0} {disk : Ghosts D} → Sight (Engine D disk)
+engine_sight = record {
+  is_shared = false;
+  settings = engine_settings;
+  limits = engine_limits;
+  faults = engine_faults;
+  stands = Stands;
 }

@@ -1,12 +1,12 @@
-ghost use Rattle.std.specs.Prelude.{◌≡◌, ◌≤◌, ℕ, [], ◌∷◌, length, IsTrue, IsErr, IsErrOf, OnOk};
-ghost use Rattle.std.specs.Prelude.{IfOk, Err};
+ghost use Rattle.std.specs.Prelude.{◌≡◌, ◌≤◌, ℕ, [], ◌∷◌, false, length, IsTrue, IsErr, OnOk, IfOk};
+ghost use Rattle.std.specs.Prelude.{Err, None};
 ghost use Rattle.fts_engine.specs.Refusing.{refusal_answer};
-ghost use Rattle.fts_faults.specs.Count.{CountsFault};
 ghost use Rattle.fts_log.specs.Frame.{payload_of};
 ghost use Rattle.fts_commits.specs.Fits.{CanCommit};
 ghost use Rattle.fts_rowcodec.specs.Payload.{IsWritten, commit_payload};
-ghost use Rattle.fts_steps.specs.State.{State, with_commits};
-ghost use Rattle.fts_steps.specs.Step.{to_commit, to_find, MayAnswer, Steps};
+ghost use Rattle.fts_steps.specs.State.{State};
+ghost use Rattle.fts_steps.specs.Running.{Running};
+ghost use Rattle.fts_steps.specs.Step.{to_commit, to_find, is_disk_fault, Steps};
 ghost use Rattle.fts_steps.specs.Answers.{commit_answer_of, view_answer_of};
 
 use crate::kept::Kept;
@@ -20,19 +20,20 @@ use fts_types::Settings;
 use std::alloc::{AllocError, Global};
 
 /// A database that is open: its rows log, and its settings, its rows and the index of their words
-/// in memory.
+/// in memory. After a fault of a commit it takes no more, and views go on.
 #[derive(Drop)]
 pub struct Engine<D: Disk> {
     pub(crate) alloc: Global,
     pub(crate) log: Log<D>,
     pub(crate) kept: Kept,
+    pub(crate) stopped: Option<u128>,
 }
 
 impl<D: Disk> Engine<D> {
     ghost use Rattle.fts_disk.specs.Crash.{Only};
     ghost use Rattle.fts_disk.specs.Moments.{LeavesOnly};
-    ghost use Rattle.fts_engine.specs.Stands.{Keeps, Stands, MayHold, engine_log, engine_limits};
-    ghost use Rattle.fts_engine.specs.Stands.{engine_faults, engine_device};
+    ghost use Rattle.fts_engine.specs.Stands.{Keeps, Stands, MayHold, engine_sight, engine_log};
+    ghost use Rattle.fts_engine.specs.Stands.{engine_device, engine_settings};
 
     /// Makes a commit of these changes, and returns its number, from 1. The changes fit the table:
     /// each INSERT has a text for each column. At `Ok` the commit is durable. All memory is taken
@@ -45,31 +46,29 @@ impl<D: Disk> Engine<D> {
     /// After each of them the engine keeps what it kept.
     ///
     /// - `NoMemory` if memory ran out. The log is untouched.
+    /// - `Stopped` exactly where an earlier commit answered `DiskFault`, with the sum of the counts
+    ///   of faults at that answer. The log is untouched.
     /// - `Refused` exactly where the rows refuse the commit. The log is untouched.
     /// - `LogFull` exactly where the log would end above its limit. The log is untouched.
-    /// - `DiskFault` if the device failed. Whether the commit is in the log is known from a new
-    ///   opening alone.
+    /// - `DiskFault` if the device failed, with the sum of the counts of faults. Whether the commit
+    ///   is in the log is known from a new opening alone.
     pub fn commit(&mut self, changes: &[Change]) -> Result<u64, CommitError>
-        requires { (columns : ℕ) × CanCommit columns changes.now }
-        ensures steps { (state : State) → Keeps state self.old
-            → CanCommit (length state.settings.columns) changes.now
-            → Steps Keeps (engine_limits self.old) state
-            (to_commit changes.now) (commit_answer_of result) self.new }
-        ensures acknowledged { OnOk result (IsTrue D.tells → (state : State) → Stands state self.old
-            → CanCommit (length state.settings.columns) changes.now
-            → Stands (with_commits state (changes.now ∷ [])) self.new) }
+        requires { CanCommit (length (engine_settings self.old).columns) changes.now }
+        ensures steps { Steps engine_sight (to_commit changes.now) (commit_answer_of result)
+            self.old self.new }
         ensures durable { OnOk result (IsTrue D.tells
             → Only (D.seen (engine_device self.new)) (D.images (engine_device self.new))) }
-        ensures any_moment { IsTrue D.tells → (state : State) → Stands state self.old
-            → CanCommit (length state.settings.columns) changes.now
+        ensures any_moment { IsTrue D.tells → (running : Running) → Stands running self.old
+            → running.stopped ≡ None
             → LeavesOnly D.Disk (engine_device self.old) (engine_device self.new)
-            (MayHold state (changes.now ∷ [])) }
-        ensures untouched { IsErr result → (IsErrOf result CommitError.DiskFault → ⊥)
+            (MayHold running.state (changes.now ∷ [])) }
+        ensures untouched { IsErr result → is_disk_fault (commit_answer_of result) ≡ false
             → engine_log self.new ≡ engine_log self.old }
-        ensures limits { engine_limits self.new ≡ engine_limits self.old }
-        ensures faults { CountsFault (IsErrOf result CommitError.DiskFault)
-            (engine_faults self.old) (engine_faults self.new) }
     {
+        match self.stopped {
+            None => {}
+            Some(faults) => return Err(CommitError::Stopped { faults }),
+        }
         let next = match self.kept.plan(changes) {
             Ok(next) => next,
             Err(error) => return Err(refusal_of(error)),
@@ -84,14 +83,17 @@ impl<D: Disk> Engine<D> {
                 Ok(number)
             }
             Err(AppendError::LogFull { end }) => Err(CommitError::LogFull { end }),
-            Err(AppendError::DiskFault) => Err(CommitError::DiskFault),
+            Err(AppendError::DiskFault) => {
+                let faults = self.log.faults() as u128;
+                self.stopped = Some(faults);
+                Err(CommitError::DiskFault { faults })
+            }
         }
     }
 
     /// Looks for the rows that have the word.
     pub fn view(&self, word: &[u8]) -> Result<View, AllocError>
-        ensures { (state : State) → Keeps state self.now
-            → MayAnswer (engine_limits self.now) state (to_find word.now) (view_answer_of result) }
+        ensures { Steps engine_sight (to_find word.now) (view_answer_of result) self.now self.now }
     {
         let docs = self.kept.find(word)?;
         Ok(View {
@@ -111,7 +113,7 @@ impl<D: Disk> Engine<D> {
     pub fn settings(&self) -> &Settings
         ensures some { 1 ≤ length result.now.columns }
         ensures few { length result.now.columns ≤ 8 }
-        ensures settings { (state : State) → Keeps state self.now → state.settings ≡ result.now }
+        ensures settings { result.now ≡ engine_settings self.now }
     {
         self.kept.settings()
     }
@@ -124,6 +126,7 @@ impl<D: Disk> Engine<D> {
             alloc: _,
             log,
             kept: _,
+            stopped: _,
         } = self;
         log.close()
     }

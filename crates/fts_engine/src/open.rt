@@ -5,6 +5,7 @@ ghost use Rattle.fts_disk.specs.Crash.{Only};
 ghost use Rattle.fts_disk.specs.Moments.{Looks};
 ghost use Rattle.fts_log.specs.Records.{Hold, records_device, records_magic, record_count};
 ghost use Rattle.fts_steps.specs.State.{State, IsCreated, IsDatabase, rows_magic};
+ghost use Rattle.fts_steps.specs.Running.{opened};
 ghost use Rattle.fts_steps.specs.Fault.{IsFaultAt};
 ghost use Rattle.fts_types.specs.Limits.{standard_limits};
 ghost use Rattle.fts_engine.specs.Bounds.{AreWithin};
@@ -39,7 +40,7 @@ pub fn open_engine<D: Disk>(
 ) -> Result<Engine<D>, (OpenError, D)>
     requires { AreWithin standard_limits limits }
     ensures opened { IfOk result (λ engine. IsTrue D.tells
-        → (state : State) × Stands state engine) }
+        → (state : State) × Stands (opened state) engine) }
     ensures limits { IfOk result (λ engine. engine_limits engine ≡ limits) }
     ensures not_created { IfErr result (λ e. e.0 ≡ OpenError.NotCreated → IsTrue D.tells
         → IsCreated (D.seen rows 0) → ⊥) }
@@ -68,7 +69,7 @@ fn open_records<D: Disk>(
     requires within { AreWithin standard_limits limits }
     requires ready { IsTrue D.tells → (all : List (List ℕ)) × Hold all records }
     ensures opened { IfOk result (λ engine. IsTrue D.tells
-        → (state : State) × Stands state engine) }
+        → (state : State) × Stands (opened state) engine) }
     ensures limits { IfOk result (λ engine. engine_limits engine ≡ limits) }
     ensures not_created { IfErr result (λ e. e.0 ≡ OpenError.NotCreated → IsTrue D.tells
         → IsCreated (D.seen (records_device records) 0) → ⊥) }
@@ -89,7 +90,12 @@ fn open_records<D: Disk>(
         Ok(mut kept) => match records.into_log(limits.log_bytes) {
             Ok(log) => {
                 kept.set_limits(limits);
-                Ok(Engine { alloc, log, kept })
+                Ok(Engine {
+                    alloc,
+                    log,
+                    kept,
+                    stopped: None,
+                })
             }
             Err((at, device)) => Err((OpenError::Damaged { at }, device)),
         },

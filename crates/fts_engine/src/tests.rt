@@ -2,6 +2,7 @@ ghost use Rattle.std.specs.Prelude.{◌≡◌, ◌≤◌, ℕ, length, IfOk, IfS
 ghost use Rattle.fts_commits.specs.Fits.{IsText, FitsColumns, FitsNumbers, IsPlainInsert};
 ghost use Rattle.fts_commits.specs.Fits.{CanCommit};
 ghost use Rattle.fts_steps.specs.State.{State};
+ghost use Rattle.fts_steps.specs.Running.{opened};
 ghost use Rattle.fts_engine.specs.Stands.{Stands};
 
 use super::*;
@@ -116,7 +117,6 @@ fn quoted_row(alloc: Global) -> Result<Vec<Change>, AllocError>
 /// Commits changes of a table of two columns.
 fn commit(engine: &mut Engine<MemDisk>, changes: &[Change]) -> Option<Result<u64, CommitError>>
     requires fits { CanCommit 2 changes.now }
-    requires stands { (state : State) × Stands state engine.old }
 {
     if engine.settings().columns.len() != 2 {
         return None;

@@ -1,9 +1,9 @@
-use Rattle.std.specs.Prelude.{ℕ, List, [], ◌∷◌, ◌++◌, codes, decimal}
+use Rattle.std.specs.Prelude.{Bool, true, false, ℕ, List, [], ◌∷◌, ◌++◌, codes, decimal}
 use Rattle.fts_commits.specs.Refusal.{refusal_text}
 use Rattle.fts_schema.specs.declared.reply.Reply.{Reply}
 use Rattle.fts_schema.specs.declared.reply.Reply.TheVariants.{Committed, Found, Refused, NoSuchTable, NoSuchColumn}
 use Rattle.fts_schema.specs.declared.reply.Reply.TheVariants.{WrongColumns, LogFull, Nothing, Syntax, QuerySyntax}
-use Rattle.fts_schema.specs.declared.reply.Reply.TheVariants.{LineTooLong}
+use Rattle.fts_schema.specs.declared.reply.Reply.TheVariants.{LineTooLong, NoMemory, DiskFault, Stopped}
 
 -- each document id in decimal, a space before it
 abbrev pub ids_text : List ℕ → List ℕ
@@ -28,3 +28,15 @@ text_of Nothing = []
 text_of (Syntax at) = codes "ERROR syntax at " ++ (decimal at ++ 10 ∷ [])
 text_of (QuerySyntax at) = codes "ERROR query syntax at " ++ (decimal at ++ 10 ∷ [])
 text_of LineTooLong = codes "ERROR line too long" ++ 10 ∷ []
+text_of NoMemory = codes "ERROR no memory" ++ 10 ∷ []
+text_of DiskFault = codes "ERROR disk fault" ++ 10 ∷ []
+text_of (Stopped faults) = codes "ERROR stopped after " ++ (decimal faults ++ (codes " disk faults" ++ 10 ∷ []))
+
+-- whether the text is the same for each reply of this kind: it has no number and no name
+abbrev pub is_fixed : Reply → Bool
+is_fixed Nothing = true
+is_fixed WrongColumns = true
+is_fixed LineTooLong = true
+is_fixed NoMemory = true
+is_fixed DiskFault = true
+is_fixed reply = false

@@ -10,4 +10,4 @@ mod doc_ids;
 mod reply;
 
 pub use doc_ids::DocIds;
-pub use reply::{Reply, created_text, reply_text};
+pub use reply::{Reply, created_text, fixed_text, reply_text};

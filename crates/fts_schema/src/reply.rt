@@ -1,5 +1,6 @@
-ghost use Rattle.std.specs.Prelude.{◌≡◌, ◌∷◌, ◌++◌, [], ℕ, List, OnOk, IfOk, codes, string_bytes};
-ghost use Rattle.fts_schema.specs.Reply.{text_of, ids_text};
+ghost use Rattle.std.specs.Prelude.{◌≡◌, ◌∷◌, ◌++◌, [], ℕ, List, true, false, codes, string_bytes};
+ghost use Rattle.std.specs.Prelude.{OnOk, IfOk, IfSome, IfNone};
+ghost use Rattle.fts_schema.specs.Reply.{text_of, is_fixed, ids_text};
 
 use crate::doc_ids::DocIds;
 use fts_commits::{Refusal, Text};
@@ -31,12 +32,55 @@ pub enum Reply {
     QuerySyntax { at: u64 },
     /// The line has more bytes than a line may have.
     LineTooLong,
+    /// Memory ran out for the line, which changed nothing.
+    NoMemory,
+    /// A device failed. Whether the line's commit stands is open until the database is opened
+    /// again.
+    DiskFault,
+    /// A device failed at an earlier line, after which `faults` faults were counted. Nothing
+    /// changed.
+    Stopped { faults: u128 },
+}
+
+/// The text of a reply without a number and a name, which takes no memory.
+pub fn fixed_text(reply: &Reply) -> Option<&'static str>
+    ensures some { IfSome result (λ text. (is_fixed reply.now ≡ true)
+        × (text.now ≡ text_of reply.now)) }
+    ensures none { IfNone result (is_fixed reply.now ≡ false) }
+{
+    match reply {
+        Reply::Nothing => Some(""),
+        Reply::WrongColumns => Some("ERROR columns and values do not fit\n"),
+        Reply::LineTooLong => Some("ERROR line too long\n"),
+        Reply::NoMemory => Some("ERROR no memory\n"),
+        Reply::DiskFault => Some("ERROR disk fault\n"),
+        Reply::Committed { .. } => None,
+        Reply::Found { .. } => None,
+        Reply::Refused { .. } => None,
+        Reply::LogFull { .. } => None,
+        Reply::Syntax { .. } => None,
+        Reply::NoSuchTable { .. } => None,
+        Reply::NoSuchColumn { .. } => None,
+        Reply::QuerySyntax { .. } => None,
+        Reply::Stopped { .. } => None,
+    }
 }
 
 /// The text of a reply: one line with its LF, or nothing for a line that is not answered.
 ///
 /// The only error is want of memory.
 pub fn reply_text(alloc: Global, reply: &Reply) -> Result<Vec<u8>, AllocError>
+    ensures { IfOk result (λ text. text.items ≡ text_of reply.now) }
+{
+    match fixed_text(reply) {
+        Some(text) => Vec::from_slice(alloc, text.as_bytes()),
+        None => written_text(alloc, reply),
+    }
+}
+
+// The text of a reply with a number or a name.
+fn written_text(alloc: Global, reply: &Reply) -> Result<Vec<u8>, AllocError>
+    requires { is_fixed reply.now ≡ false }
     ensures { IfOk result (λ text. text.items ≡ text_of reply.now) }
 {
     match reply {
@@ -50,12 +94,21 @@ pub fn reply_text(alloc: Global, reply: &Reply) -> Result<Vec<u8>, AllocError>
         Reply::Found { number, docs } => bytes_of(found_text(alloc, *number, docs.as_slice())),
         Reply::Refused { refusal } => bytes_of(format!(in alloc; "ERROR {refusal}\n")),
         Reply::LogFull { end } => bytes_of(format!(in alloc; "ERROR log full at {end}\n")),
-        Reply::Nothing => Ok(Vec::new(alloc)),
         Reply::Syntax { at } => bytes_of(format!(in alloc; "ERROR syntax at {at}\n")),
         Reply::QuerySyntax { at } => bytes_of(format!(in alloc; "ERROR query syntax at {at}\n")),
-        Reply::WrongColumns => Vec::from_slice(alloc, b"ERROR columns and values do not fit\n"),
-        Reply::LineTooLong => Vec::from_slice(alloc, b"ERROR line too long\n"),
+        Reply::Stopped { faults } => bytes_of(stopped_text(alloc, *faults)),
+        Reply::Nothing => unreachable!(),
+        Reply::WrongColumns => unreachable!(),
+        Reply::LineTooLong => unreachable!(),
+        Reply::NoMemory => unreachable!(),
+        Reply::DiskFault => unreachable!(),
     }
+}
+
+fn stopped_text(alloc: Global, faults: u128) -> Result<String, AllocError>
+    ensures { IfOk result (λ text. string_bytes text ≡ text_of (Reply.Stopped faults)) }
+{
+    format!(in alloc; "ERROR stopped after {faults} disk faults\n")
 }
 
 // The bytes of a text, if there was memory for it.

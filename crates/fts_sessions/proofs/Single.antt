@@ -1,17 +1,18 @@
 use Rattle.std.proofs.Common.{◌≡◌, ℕ, List, [], ◌∷◌, ◌++◌, refl, ap, sym, ◌∙◌}
-use Rattle.std.specs.Prelude.{Result, Ok}
+use Rattle.std.specs.Prelude.{Bool, false}
 use Rattle.fts_types.specs.declared.limits.Limits.{Limits}
 use Rattle.fts_types.specs.declared.settings.Settings.{Settings}
 use Rattle.fts_io.specs.Text.{Line, whole, too_long}
 use Rattle.fts_schema.specs.declared.reply.Reply.{Reply}
 use Rattle.fts_sql.proofs.Laws.{one_statement}
 use Rattle.fts_sql.proofs.Single.{one_fault, statement_or_fault, blank_or_statement}
-use Rattle.fts_steps.specs.State.{State}
-use Rattle.fts_steps.specs.Step.{Ask, Answer, Call, MayAnswer, Follows, plain_answer}
-use Rattle.fts_steps.specs.Step.{committed, refused, full, found, disk_fault, no_memory}
-use Rattle.fts_sessions.specs.declared.ended.Ended.{Ended}
+use Rattle.fts_schema.specs.declared.reply.Reply.TheVariants.{NoMemory, DiskFault}
+use Rattle.fts_steps.specs.Running.{Running, Entry, grown}
+use Rattle.fts_steps.specs.Step.{Ask, Answer, Call, MayAnswer, Follows, AreAlone, plain_answer}
+use Rattle.fts_steps.specs.Step.{committed, refused, full, found, disk_fault, stopped, no_memory}
 use Rattle.fts_sessions.specs.Request.{Request, IsRequest, makes, blank, unknown, unread}
 use Rattle.fts_sessions.specs.Conversation.{Converses, reply_to, asks, ends}
+use Rattle.fts_sessions.specs.Calm.{IsCalm}
 
 -- a line is one request
 pub one_request : (line : Line) (r s : Request) → IsRequest line r → IsRequest line s → r ≡ s
@@ -36,71 +37,75 @@ one_request too_long unread (makes b) h k = absurd k
 one_request too_long unread blank h k = absurd k
 one_request too_long unread (unknown at) h k = absurd k
 
--- an answer that has a reply is the plain one
-pub is_plain : (limits : Limits) (state : State) (ask : Ask) (answer : Answer) (reply : Reply) → MayAnswer limits state ask answer
-    → reply_to answer ≡ Ok reply → answer ≡ plain_answer limits state ask
-is_plain limits state ask (committed number) reply may told = sym may
-is_plain limits state ask (refused why) reply may told = sym may
-is_plain limits state ask (full end) reply may told = sym may
-is_plain limits state ask (found number docs) reply may told = sym may
-is_plain limits state ask disk_fault reply may told = absurd cc
-is_plain limits state ask no_memory reply may told = absurd cc
+-- an answer whose reply is no fault and no want of memory is the plain one
+is_plain : (limits : Limits) (running : Running) (ask : Ask) (answer : Answer) (reply : Reply) → MayAnswer limits running ask answer
+    → reply_to answer ≡ reply → IsCalm reply → answer ≡ plain_answer limits running ask
+is_plain limits running ask (committed number) reply may told calm = sym may
+is_plain limits running ask (refused why) reply may told calm = sym may
+is_plain limits running ask (full end) reply may told calm = sym may
+is_plain limits running ask (found number docs) reply may told calm = sym may
+is_plain limits running ask (stopped faults) reply may told calm = sym may
+is_plain limits running ask (disk_fault faults) reply may told calm = absurd (calm.no_fault (sym told))
+is_plain limits running ask no_memory reply may told calm = absurd (calm.no_want (sym told))
 
 -- the end of one conversation is its reply
-one_ending : (a b : Reply) → ends (Ok a) ≡ ends (Ok b) → a ≡ b
+one_ending : (a b : Reply) → ends a ≡ ends b → a ≡ b
 one_ending a b same = cc
 
 one_ask : (a b : Ask) → asks a ≡ asks b → a ≡ b
 one_ask a b same = cc
 
--- the answers to one step that have a reply
-one_answer : (limits : Limits) (state : State) (ask ask' : Ask) (answer answer' : Answer) (reply reply' : Reply) → ask ≡ ask'
-    → MayAnswer limits state ask answer → MayAnswer limits state ask' answer' → reply_to answer ≡ Ok reply → reply_to answer' ≡ Ok reply'
-    → answer ≡ answer'
-one_answer limits state ask ask' answer answer' reply reply' same may may' told told' =
-    is_plain limits state ask answer reply may told ∙ ap (plain_answer limits state) same ∙ sym (is_plain limits state ask' answer' reply' may' told')
+-- the answers to one step, with nothing in between
+one_answer : (limits : Limits) (running : Running) (call call' : Call) (reply reply' : Reply) → call.ask ≡ call'.ask → call.more ≡ [] → call'.more ≡ []
+    → MayAnswer limits (grown running call.more) call.ask call.answer → MayAnswer limits (grown running call'.more) call'.ask call'.answer
+    → reply_to call.answer ≡ reply → reply_to call'.answer ≡ reply' → IsCalm reply → IsCalm reply' → call.answer ≡ call'.answer
+one_answer limits running call call' reply reply' same alone alone' may may' told told' calm calm' =
+    is_plain limits (grown running call.more) call.ask call.answer reply may told calm
+    ∙ ap (λ (more : List Entry). plain_answer limits (grown running more) call.ask) (alone ∙ sym alone')
+    ∙ ap (plain_answer limits (grown running call'.more)) same
+    ∙ sym (is_plain limits (grown running call'.more) call'.ask call'.answer reply' may' told' calm')
 
 -- what two conversations have in common
 abbrev Same : List Call → List Call → Reply → Reply → Type 0
 Same here here' reply reply' = (here ≡ here') × (reply ≡ reply')
 
--- a step is its ask and its answer
-one_step : (call call' : Call) → call.ask ≡ call'.ask → call.answer ≡ call'.answer → call ≡ call'
-one_step call call' asked answered =
-    ap (λ (ask : Ask). record { ask = ask; answer = call.answer }) asked ∙ ap (λ (answer : Answer). record { ask = call'.ask; answer = answer }) answered
-
-one_reply : (a b : Reply) → ◌≡◌ {A = Result Reply Ended} (Ok a) (Ok b) → a ≡ b
-one_reply a b same = cc
+-- a step is what came before it, its ask and its answer
+one_step : (call call' : Call) → call.more ≡ call'.more → call.ask ≡ call'.ask → call.answer ≡ call'.answer → call ≡ call'
+one_step call call' before asked answered =
+    ap (λ (more : List Entry). record { more = more; ask = call.ask; answer = call.answer }) before
+    ∙ ap (λ (ask : Ask). record { more = call'.more; ask = ask; answer = call.answer }) asked
+    ∙ ap (λ (answer : Answer). record { more = call'.more; ask = call'.ask; answer = answer }) answered
 
 -- one call, told
-one_call : (call call' : Call) (reply reply' : Reply) → call.ask ≡ call'.ask → call.answer ≡ call'.answer
-    → reply_to call.answer ≡ Ok reply → reply_to call'.answer ≡ Ok reply' → Same (call ∷ []) (call' ∷ []) reply reply'
-one_call call call' reply reply' asked answered told told' = (
-  ap (λ (c : Call). c ∷ []) (one_step call call' asked answered),
-  one_reply reply reply' (sym told ∙ ap reply_to answered ∙ told'),
+one_call : (call call' : Call) (reply reply' : Reply) → call.more ≡ call'.more → call.ask ≡ call'.ask → call.answer ≡ call'.answer
+    → reply_to call.answer ≡ reply → reply_to call'.answer ≡ reply' → Same (call ∷ []) (call' ∷ []) reply reply'
+one_call call call' reply reply' before asked answered told told' = (
+  ap (λ (c : Call). c ∷ []) (one_step call call' before asked answered),
+  sym told ∙ ap reply_to answered ∙ told',
 )
 
--- a request, on one state, makes the same steps and has the same reply
-pub one_conversation : (limits : Limits) (state : State) (settings : Settings) (request : Request) (here here' more more' : List Call) (reply reply' : Reply)
-    → Converses settings request [] here (Ok reply) → Converses settings request [] here' (Ok reply')
-    → Follows limits state (here ++ more) → Follows limits state (here' ++ more') → Same here here' reply reply'
-one_conversation limits state settings (makes s) [] [] more more' reply reply' c d f g = (refl, one_ending reply reply' (sym c ∙ d))
-one_conversation limits state settings (makes s) [] (call ∷ calls) more more' reply reply' c d f g = absurd (let e = sym c ∙ d.0 in cc)
-one_conversation limits state settings (makes s) (call ∷ calls) [] more more' reply reply' c d f g = absurd (let e = sym d ∙ c.0 in cc)
-one_conversation limits state settings (makes s) (call ∷ []) (call' ∷ []) more more' reply reply' c d f g =
+-- a request, on one engine, makes the same steps and has the same reply, where this is no fault and no want of memory
+pub one_conversation : (limits : Limits) (running : Running) (settings : Settings) (request : Request) (here here' more more' : List Call) (reply reply' : Reply)
+    → Converses settings request [] here reply → Converses settings request [] here' reply'
+    → Follows limits running (here ++ more) → Follows limits running (here' ++ more') → AreAlone (here ++ more) → AreAlone (here' ++ more')
+    → IsCalm reply → IsCalm reply' → Same here here' reply reply'
+one_conversation limits running settings (makes s) [] [] more more' reply reply' c d f g alone alone' calm calm' = (refl, one_ending reply reply' (sym c ∙ d))
+one_conversation limits running settings (makes s) [] (call ∷ calls) more more' reply reply' c d f g alone alone' calm calm' = absurd (let e = sym c ∙ d.0 in cc)
+one_conversation limits running settings (makes s) (call ∷ calls) [] more more' reply reply' c d f g alone alone' calm calm' = absurd (let e = sym d ∙ c.0 in cc)
+one_conversation limits running settings (makes s) (call ∷ []) (call' ∷ []) more more' reply reply' c d f g alone alone' calm calm' =
     let asked = one_ask call.ask call'.ask (sym c.0 ∙ d.0) in
-    let told : reply_to call.answer ≡ Ok reply = (let e = c.1 in cc) in
-    let told' : reply_to call'.answer ≡ Ok reply' = (let e = d.1 in cc) in
-    one_call call call' reply reply' asked
-    (one_answer limits state call.ask call'.ask call.answer call'.answer reply reply' asked f.0 g.0 told told') told told'
-one_conversation limits state settings (makes s) (call ∷ (second ∷ calls)) here' more more' reply reply' c d f g = absurd (let e = c.1.0 in cc)
-one_conversation limits state settings (makes s) (call ∷ []) (call' ∷ (second ∷ calls)) more more' reply reply' c d f g = absurd (let e = d.1.0 in cc)
-one_conversation limits state settings blank [] [] more more' reply reply' c d f g = (refl, one_ending reply reply' (sym c ∙ d))
-one_conversation limits state settings blank (call ∷ calls) here' more more' reply reply' c d f g = absurd (let e = c.0 in cc)
-one_conversation limits state settings blank [] (call ∷ calls) more more' reply reply' c d f g = absurd (let e = d.0 in cc)
-one_conversation limits state settings (unknown at) [] [] more more' reply reply' c d f g = (refl, one_ending reply reply' (sym c ∙ d))
-one_conversation limits state settings (unknown at) (call ∷ calls) here' more more' reply reply' c d f g = absurd (let e = c.0 in cc)
-one_conversation limits state settings (unknown at) [] (call ∷ calls) more more' reply reply' c d f g = absurd (let e = d.0 in cc)
-one_conversation limits state settings unread [] [] more more' reply reply' c d f g = (refl, one_ending reply reply' (sym c ∙ d))
-one_conversation limits state settings unread (call ∷ calls) here' more more' reply reply' c d f g = absurd (let e = c.0 in cc)
-one_conversation limits state settings unread [] (call ∷ calls) more more' reply reply' c d f g = absurd (let e = d.0 in cc)
+    let told : reply_to call.answer ≡ reply = one_ending (reply_to call.answer) reply c.1 in
+    let told' : reply_to call'.answer ≡ reply' = one_ending (reply_to call'.answer) reply' d.1 in
+    one_call call call' reply reply' (alone.0 ∙ sym alone'.0) asked
+    (one_answer limits running call call' reply reply' asked alone.0 alone'.0 f.0 g.0 told told' calm calm') told told'
+one_conversation limits running settings (makes s) (call ∷ (second ∷ calls)) here' more more' reply reply' c d f g alone alone' calm calm' = absurd (let e = c.1.0 in cc)
+one_conversation limits running settings (makes s) (call ∷ []) (call' ∷ (second ∷ calls)) more more' reply reply' c d f g alone alone' calm calm' = absurd (let e = d.1.0 in cc)
+one_conversation limits running settings blank [] [] more more' reply reply' c d f g alone alone' calm calm' = (refl, one_ending reply reply' (sym c ∙ d))
+one_conversation limits running settings blank (call ∷ calls) here' more more' reply reply' c d f g alone alone' calm calm' = absurd (let e = c.0 in cc)
+one_conversation limits running settings blank [] (call ∷ calls) more more' reply reply' c d f g alone alone' calm calm' = absurd (let e = d.0 in cc)
+one_conversation limits running settings (unknown at) [] [] more more' reply reply' c d f g alone alone' calm calm' = (refl, one_ending reply reply' (sym c ∙ d))
+one_conversation limits running settings (unknown at) (call ∷ calls) here' more more' reply reply' c d f g alone alone' calm calm' = absurd (let e = c.0 in cc)
+one_conversation limits running settings (unknown at) [] (call ∷ calls) more more' reply reply' c d f g alone alone' calm calm' = absurd (let e = d.0 in cc)
+one_conversation limits running settings unread [] [] more more' reply reply' c d f g alone alone' calm calm' = (refl, one_ending reply reply' (sym c ∙ d))
+one_conversation limits running settings unread (call ∷ calls) here' more more' reply reply' c d f g alone alone' calm calm' = absurd (let e = c.0 in cc)
+one_conversation limits running settings unread [] (call ∷ calls) more more' reply reply' c d f g alone alone' calm calm' = absurd (let e = d.0 in cc)

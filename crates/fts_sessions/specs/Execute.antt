@@ -1,46 +1,39 @@
-use Rattle.std.specs.Prelude.{◌≡◌, ◌⊎◌, List, [], ◌∷◌, Result, Ok, Err}
+use Rattle.std.specs.Prelude.{◌≡◌, ◌⊎◌, false, List, [], ◌∷◌}
+use Rattle.fts_faults.specs.Count.{CountsFault}
 use Rattle.fts_io.specs.Text.{Line}
 use Rattle.fts_types.specs.declared.settings.Settings.{Settings}
 use Rattle.fts_schema.specs.declared.reply.Reply.{Reply}
-use Rattle.fts_steps.specs.State.{State, with_commits}
-use Rattle.fts_steps.specs.Step.{Ask, Answer, Call, Steps, LeftBy, Follows, after_all, in_doubt}
-use Rattle.fts_sessions.specs.declared.ended.Ended.{Ended}
-use Rattle.fts_sessions.specs.declared.ended.Ended.TheVariants.{NoMemory, DiskFault}
-use Rattle.fts_sessions.specs.declared.steps.EngineSteps.{Ghosts}
+use Rattle.fts_schema.specs.declared.reply.Reply.TheVariants.{NoMemory, DiskFault}
+use Rattle.fts_steps.specs.Running.{Running}
+use Rattle.fts_steps.specs.Step.{Ask, Answer, Call, Sight, Steps, Follows, AreAlone, after_all}
 use Rattle.fts_sessions.specs.Request.{Request, IsRequest}
 use Rattle.fts_sessions.specs.Conversation.{Next, asks, ends, Converses, reply_to}
 
--- what stands after a line: the engine stands for the state; after a disk fault its device reads as the state's
--- database, or as one that has the commit in doubt too
-abbrev pub Leaves : {S : Type 0} → Ghosts S → Result Reply Ended → State → List Call → S → Type 0
-Leaves steps (Ok reply) state calls new = steps.stands state new
-Leaves steps (Err NoMemory) state calls new = steps.stands state new
-Leaves steps (Err DiskFault) state calls new = steps.reads state new
-    ⊎ steps.reads (with_commits state (in_doubt calls)) new
+-- the line's steps and its reply are those of the request that it is; or memory ran out before the first step
+abbrev pub Says : Settings → Line → List Call → Reply → Type 0
+Says settings line calls reply =
+    ((request : Request) × IsRequest line request × Converses settings request [] calls reply)
+    ⊎ ((calls ≡ []) × (reply ≡ NoMemory))
 
--- the line's steps and its outcome are those of the request that it is; or memory ran out before the first step
-abbrev pub Says : Settings → Line → List Call → Result Reply Ended → Type 0
-Says settings line calls outcome =
-    ((request : Request) × IsRequest line request × Converses settings request [] calls outcome)
-    ⊎ ((calls ≡ []) × (outcome ≡ Err NoMemory))
-
--- a line is executed: the steps that it made, on the state that it found, with its outcome
-pub record Executes {S : Type 0} (steps : Ghosts S) (state : State) (line : Line) (old : S)
-    (outcome : Result Reply Ended) (new : S) : Type 0 where
+-- a line is executed: the steps that it made, with its reply. On each engine for which the steps stood they answered as
+-- they may, and stand then for what these made of it
+pub record Executes {S : Type 0} (sight : Sight S) (line : Line) (old : S) (reply : Reply) (new : S) : Type 0 where
   pub calls : List Call
-  pub says : Says state.settings line calls outcome
-  pub follows : Follows (steps.limits old) state calls
-  pub leaves : Leaves steps outcome (after_all state calls) calls new
+  pub says : Says (sight.settings old) line calls reply
+  pub alone : sight.is_shared ≡ false → AreAlone calls
+  pub follows : (running : Running) → sight.stands running old → Follows (sight.limits old) running calls
+  pub stands : (running : Running) → sight.stands running old → sight.stands (after_all running calls) new
+  pub settings : sight.settings new ≡ sight.settings old
+  pub limits : sight.limits new ≡ sight.limits old
+  pub faults : CountsFault (reply ≡ DiskFault) (sight.faults old) (sight.faults new)
 
--- one step is made: its answer, and the outcome that tells it
-pub record Makes {S : Type 0} (steps : Ghosts S) (state : State) (ask : Ask) (old : S) (outcome : Result Reply Ended)
-    (new : S) : Type 0 where
+-- one step is made: its answer, and the reply that tells it
+pub record Makes {S : Type 0} (sight : Sight S) (ask : Ask) (old : S) (reply : Reply) (new : S) : Type 0 where
   pub answer : Answer
-  pub made : Steps (LeftBy steps.stands steps.reads ask answer) (steps.limits old) state ask answer new
-  pub told : reply_to answer ≡ outcome
+  pub made : Steps sight ask answer old new
+  pub told : reply_to answer ≡ reply
 
 -- a statement is done: it makes its one step, or ends without one; or memory ran out before
-abbrev pub Does : {S : Type 0} → Ghosts S → State → Next → S → Result Reply Ended → S → Type 0
-Does steps state (asks ask) old outcome new =
-    Makes steps state ask old outcome new ⊎ ((outcome ≡ Err NoMemory) × (new ≡ old))
-Does steps state (ends told) old outcome new = ((outcome ≡ told) ⊎ (outcome ≡ Err NoMemory)) × (new ≡ old)
+abbrev pub Does : {S : Type 0} → Sight S → Next → S → Reply → S → Type 0
+Does sight (asks ask) old reply new = Makes sight ask old reply new ⊎ ((reply ≡ NoMemory) × (new ≡ old))
+Does sight (ends told) old reply new = ((reply ≡ told) ⊎ (reply ≡ NoMemory)) × (new ≡ old)

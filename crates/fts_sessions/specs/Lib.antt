@@ -4,3 +4,5 @@ pub mod Query
 pub mod Texts
 pub mod Conversation
 pub mod Execute
+pub mod Direct
+pub mod Calm

@@ -1,5 +1,3 @@
-ghost use Rattle.std.specs.Prelude.{◌≡◌, ℕ, List};
-
 use crate::EngineSteps;
 use fts_commits::Change;
 use fts_disk::Disk;
@@ -15,23 +13,15 @@ pub struct Direct<D: Disk> {
 }
 
 impl<D: Disk> EngineSteps for Direct<D> {
-    ghost use Rattle.fts_engine.specs.Stands.{Stands, ReadsAs, engine_limits, engine_faults};
+    ghost use Rattle.fts_sessions.specs.Direct.{direct_sight};
 
-    ghost tells = { D.tells };
-
-    ghost stands = { λ state steps. Stands state steps.engine };
-
-    ghost reads = { λ state steps. ReadsAs state steps.engine };
-
-    ghost limits = { λ steps. engine_limits steps.engine };
-
-    ghost faults = { λ steps. engine_faults steps.engine };
+    ghost sight = { direct_sight };
 
     fn commit(&mut self, changes: &[Change]) -> Result<u64, CommitError> {
         self.engine.commit(changes)
     }
 
-    fn view(&self, word: &[u8]) -> Result<View, AllocError> {
+    fn view(&mut self, word: &[u8]) -> Result<View, AllocError> {
         self.engine.view(word)
     }
 

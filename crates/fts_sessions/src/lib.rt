@@ -1,14 +1,13 @@
 //! Sessions: statements are executed line by line, over the steps of an engine.
 //!
-//! `session.execute(&mut steps, &gate, b"INSERT ..")?` gives the line's reply; what has none, want
-//! of memory or a fault, is [`Ended`]. [`EngineSteps`] is what a session asks of an engine, and
-//! [`Direct`] an engine that one thread owns.
+//! `session.execute(&mut steps, &gate, b"INSERT ..")` gives the line's reply; want of memory and a
+//! fault have one too. [`EngineSteps`] is what a session asks of an engine, and [`Direct`] an
+//! engine that one thread owns.
 //!
 //! A line costs its bytes and its steps.
 #![tactic(auto)]
 
 mod direct;
-mod ended;
 mod insert;
 mod names;
 mod query;
@@ -16,7 +15,6 @@ mod session;
 mod steps;
 
 pub use direct::Direct;
-pub use ended::Ended;
 pub use session::Session;
 pub use steps::EngineSteps;
 

@@ -1,10 +1,11 @@
 ghost use Rattle.std.specs.Prelude.{IfOk};
 ghost use Rattle.fts_steps.specs.State.{State};
+ghost use Rattle.fts_steps.specs.Running.{opened};
 ghost use Rattle.fts_engine.specs.Stands.{Stands};
 
 use crate::insert::change_of;
 use crate::names::{are_insert_columns, are_text_columns, first_unknown, is_same};
-use crate::{Direct, Ended, Session};
+use crate::{Direct, Session};
 use fts_commits::Change;
 use fts_disk::MemDisk;
 use fts_engine::{Engine, create_engine, open_engine};
@@ -186,43 +187,43 @@ fn settings_of(alloc: Global, columns: &[&str]) -> Result<Settings, AllocError> 
 }
 
 /// A database without commits of a table with a title and a body.
-fn created(alloc: Global) -> Result<MemDisk, Ended> {
+fn created(alloc: Global) -> Result<MemDisk, AllocError> {
     let Ok(settings) = settings_of(alloc, &COLUMNS) else {
-        return Err(Ended::NoMemory);
+        return Err(AllocError);
     };
     let Ok(rows) = MemDisk::from_files(alloc, Vec::new(alloc), Vec::new(alloc)) else {
-        return Err(Ended::NoMemory);
+        return Err(AllocError);
     };
     if settings.check().is_err() {
-        return Err(Ended::NoMemory);
+        return Err(AllocError);
     }
     match create_engine(alloc, &settings, rows) {
         Ok(rows) => Ok(rows),
-        Err(_) => Err(Ended::NoMemory),
+        Err(_) => Err(AllocError),
     }
 }
 
 /// The engine over it.
-fn engine(alloc: Global) -> Result<Engine<MemDisk>, Ended>
-    ensures { IfOk result (λ engine. (state : State) × Stands state engine) }
+fn engine(alloc: Global) -> Result<Engine<MemDisk>, AllocError>
+    ensures { IfOk result (λ engine. (state : State) × Stands (opened state) engine) }
 {
     match open_engine(alloc, created(alloc)?, Limits::standard()) {
         Ok(engine) => Ok(engine),
-        Err(_) => Err(Ended::NoMemory),
+        Err(_) => Err(AllocError),
     }
 }
 
-/// The outcome of one line, the first after the creation.
-fn outcome_of(alloc: Global, line: &[u8]) -> Result<Reply, Ended> {
+/// The reply to one line, the first after the creation.
+fn answer_to(alloc: Global, line: &[u8]) -> Result<Reply, AllocError> {
     let mut steps = Direct {
         engine: engine(alloc)?,
     };
-    Session::new(alloc, 1).execute(&mut steps, &OpenGate, line)
+    Ok(Session::new(alloc, 1).execute(&mut steps, &OpenGate, line))
 }
 
-/// The reply to one line, the first after the creation.
+/// The text of the reply to it.
 fn reply_of(alloc: Global, line: &str) -> Result<Vec<u8>, Fail> {
-    let reply = outcome_of(alloc, line.as_bytes())?;
+    let reply = answer_to(alloc, line.as_bytes())?;
     Ok(reply_text(alloc, &reply)?)
 }
 

@@ -1,8 +1,8 @@
 use Rattle.std.specs.Prelude.{ℕ, Result, Ok, Err}
 use Rattle.fts_steps.specs.declared.commit.CommitError.{CommitError}
-use Rattle.fts_steps.specs.declared.commit.CommitError.TheVariants.{NoMemory, Refused, LogFull, DiskFault}
+use Rattle.fts_steps.specs.declared.commit.CommitError.TheVariants.{NoMemory, Refused, LogFull, DiskFault, Stopped}
 use Rattle.fts_steps.specs.declared.view.View.{View}
-use Rattle.fts_steps.specs.Step.{Answer, committed, refused, full, found, disk_fault, no_memory}
+use Rattle.fts_steps.specs.Step.{Answer, committed, refused, full, found, disk_fault, stopped, no_memory}
 
 -- the answer that a commit's result is
 abbrev pub commit_answer_of : Result ℕ CommitError → Answer
@@ -10,7 +10,8 @@ commit_answer_of (Ok number) = committed number
 commit_answer_of (Err NoMemory) = no_memory
 commit_answer_of (Err (Refused refusal)) = refused refusal
 commit_answer_of (Err (LogFull end)) = full end
-commit_answer_of (Err DiskFault) = disk_fault
+commit_answer_of (Err (DiskFault faults)) = disk_fault faults
+commit_answer_of (Err (Stopped faults)) = stopped faults
 
 -- the answer that a view's result is
 abbrev pub view_answer_of : {E : Type 0} → Result View E → Answer

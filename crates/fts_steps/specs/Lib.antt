@@ -1,4 +1,5 @@
 pub mod State
 pub mod Fault
+pub mod Running
 pub mod Step
 pub mod Answers

@@ -1,30 +1,34 @@
-use Rattle.std.specs.Prelude.{Bool, true, false, ◌≡◌, ◌⊎◌, ℕ, ◌+◌, if◌then◌else◌, nat_lt, List, [], ◌∷◌, ◌++◌, length}
-use Rattle.std.specs.Prelude.{Result, Ok, Err}
+use Rattle.std.specs.Prelude.{Bool, true, false, ◌≡◌, ℕ, ◌+◌, if◌then◌else◌, nat_lt, List, [], ◌∷◌, length, map}
+use Rattle.std.specs.Prelude.{Option, Some, None, Result, Ok, Err, IsTrue}
+use Rattle.fts_faults.specs.Count.{CountsFault}
 use Rattle.fts_types.specs.declared.limits.Limits.{Limits}
+use Rattle.fts_types.specs.declared.settings.Settings.{Settings}
 use Rattle.fts_types.specs.Rules.{rules_of}
 use Rattle.fts_commits.specs.Commit.{Commit, Rows, after_commit, replay}
 use Rattle.fts_commits.specs.declared.refusal.Refusal.{Refusal}
 use Rattle.fts_commits.specs.Scan.{scan}
-use Rattle.fts_steps.specs.State.{State, with_commits, end_after}
+use Rattle.fts_steps.specs.State.{State, end_after}
+use Rattle.fts_steps.specs.Running.{Running, What, made, failed, Entry, grown}
 
 -- what a step is asked: to make a commit, or to look for the rows that have a word
 pub data Ask : Type 0 where
   to_commit : Commit → Ask
   to_find : List ℕ → Ask
 
--- what it answers
+-- what it answers; a disk fault tells the sum of the counts of faults, and so does each refusal that follows from it
 pub data Answer : Type 0 where
   committed : ℕ → Answer
   refused : Refusal → Answer
   full : ℕ → Answer
   found : ℕ → List ℕ → Answer
-  disk_fault : Answer
+  disk_fault : ℕ → Answer
+  stopped : ℕ → Answer
   no_memory : Answer
 
--- a step: what it was asked, and what it answered
-pub record Call : Type 0 where
-  pub ask : Ask
-  pub answer : Answer
+-- whether a device failed
+abbrev pub is_disk_fault : Answer → Bool
+is_disk_fault (disk_fault faults) = true
+is_disk_fault answer = false
 
 -- the answer to a commit that the rows refuse or accept: its number, unless the log would pass its limit
 abbrev pub commit_answer : Limits → State → Commit → Result Rows Refusal → Answer
@@ -33,67 +37,87 @@ commit_answer limits state commit (Ok rows) =
     if nat_lt limits.log_bytes (end_after state commit) then full (end_after state commit) else committed
     (length state.commits + 1)
 
--- the answer of a step that nothing outside disturbs
-abbrev pub plain_answer : Limits → State → Ask → Answer
-plain_answer limits state (to_commit commit) = commit_answer limits state commit
-    (after_commit limits commit (replay state.commits))
-plain_answer limits state (to_find word) = found (length state.commits)
-    (scan (rules_of state.settings) word (replay state.commits))
+-- after a fault nothing is written any more
+abbrev pub unless_stopped : Option ℕ → Answer → Answer
+unless_stopped None answer = answer
+unless_stopped (Some faults) answer = stopped faults
 
--- what the state is after a step, by its answer
-abbrev pub after : State → Ask → Answer → State
-after state (to_commit commit) (committed number) = with_commits state (commit ∷ [])
-after state ask answer = state
+-- the answer of a step that nothing outside disturbs
+abbrev pub plain_answer : Limits → Running → Ask → Answer
+plain_answer limits running (to_commit commit) = unless_stopped running.stopped
+    (commit_answer limits running.state commit (after_commit limits commit (replay running.state.commits)))
+plain_answer limits running (to_find word) = found (length running.state.commits)
+    (scan (rules_of running.state.settings) word (replay running.state.commits))
 
 -- the answers that a step may give: its plain one, want of memory, and a disk fault where it would have committed
-abbrev pub MayAnswer : Limits → State → Ask → Answer → Type 0
-MayAnswer limits state ask no_memory = Unit {0}
-MayAnswer limits state ask disk_fault = plain_answer limits state ask ≡ committed (length state.commits + 1)
-MayAnswer limits state ask (committed number) = plain_answer limits state ask ≡ committed number
-MayAnswer limits state ask (refused why) = plain_answer limits state ask ≡ refused why
-MayAnswer limits state ask (full end) = plain_answer limits state ask ≡ full end
-MayAnswer limits state ask (found number docs) = plain_answer limits state ask ≡ found number docs
+abbrev pub MayAnswer : Limits → Running → Ask → Answer → Type 0
+MayAnswer limits running ask no_memory = Unit {0}
+MayAnswer limits running ask (disk_fault faults) =
+    plain_answer limits running ask ≡ committed (length running.state.commits + 1)
+MayAnswer limits running ask (committed number) = plain_answer limits running ask ≡ committed number
+MayAnswer limits running ask (refused why) = plain_answer limits running ask ≡ refused why
+MayAnswer limits running ask (full end) = plain_answer limits running ask ≡ full end
+MayAnswer limits running ask (found number docs) = plain_answer limits running ask ≡ found number docs
+MayAnswer limits running ask (stopped faults) = plain_answer limits running ask ≡ stopped faults
 
--- a step on a state: it answers as it may, and what stands then stands for the state after this answer
-pub record Steps {S : Type 0} (Stands : State → S → Type 0) (limits : Limits) (state : State) (ask : Ask)
-    (answer : Answer) (new : S)
-    : Type 0 where
-  pub may : MayAnswer limits state ask answer
-  pub stands : Stands (after state ask answer) new
+-- what a step adds, by its answer
+abbrev pub changes_of : Ask → Answer → List What
+changes_of (to_commit commit) (committed number) = made commit ∷ []
+changes_of (to_commit commit) (disk_fault faults) = failed faults (commit ∷ []) ∷ []
+changes_of ask answer = []
 
--- the state after a list of steps
-abbrev pub after_all : State → List Call → State
-after_all state [] = state
-after_all state (call ∷ calls) = after_all (after state call.ask call.answer) calls
+-- the entries that a step adds, by their number's owner
+abbrev pub entries_of : ℕ → Ask → Answer → List Entry
+entries_of by ask answer = map (λ what. record { by = by; what = what }) (changes_of ask answer)
 
--- each step answered as it may, on the state that those before it left
-abbrev pub Follows : Limits → State → List Call → Type 0
-Follows limits state [] = Unit {0}
-Follows limits state (call ∷ calls) =
-    MayAnswer limits state call.ask call.answer × Follows limits (after state call.ask call.answer) calls
+-- the engine after a step
+abbrev pub after : Running → Ask → Answer → Running
+after running ask answer = grown running (entries_of 0 ask answer)
 
--- a commit that a disk fault left in doubt
-abbrev pub doubt_of : Ask → Answer → List Commit
-doubt_of (to_commit commit) disk_fault = commit ∷ []
-doubt_of ask answer = []
+-- what contracts see of what makes steps: whether others make some in between, the settings and the limits of commits,
+-- how many faults the devices had, and for which engine it stands
+pub record Sight (S : Type 0) : Type 1 where
+  pub is_shared : Bool
+  pub settings : S → Settings
+  pub limits : S → Limits
+  pub faults : S → ℕ
+  pub stands : Running → S → Type 0
 
--- the commits that a list of steps left in doubt
-abbrev pub in_doubt : List Call → List Commit
-in_doubt [] = []
-in_doubt (call ∷ calls) = doubt_of call.ask call.answer ++ in_doubt calls
+-- a step: `more` is what others added before it. It answers as it may on the engine grown so, and what stands then
+-- stands for this engine after the answer
+pub record Steps {S : Type 0} (sight : Sight S) (ask : Ask) (answer : Answer) (old new : S) : Type 0 where
+  pub more : List Entry
+  pub alone : sight.is_shared ≡ false → more ≡ []
+  pub may : (running : Running) → sight.stands running old
+      → MayAnswer (sight.limits old) (grown running more) ask answer
+  pub stands : (running : Running) → sight.stands running old → sight.stands (after (grown running more) ask answer) new
+  pub settings : sight.settings new ≡ sight.settings old
+  pub limits : sight.limits new ≡ sight.limits old
+  pub faults : CountsFault (IsTrue (is_disk_fault answer)) (sight.faults old) (sight.faults new)
+  pub sum : (n : ℕ) → answer ≡ disk_fault n → n ≡ sight.faults new
 
--- what a step leaves, by its answer: what stands for a state; or, where the device failed, what reads as the state, or
--- as the state with the commit in doubt
-abbrev pub LeftBy : {S : Type 0} → (State → S → Type 0) → (State → S → Type 0) → Ask → Answer → State → S → Type 0
-LeftBy Stands Reads ask disk_fault state new = Reads state new
-    ⊎ Reads (with_commits state (doubt_of ask disk_fault)) new
-LeftBy Stands Reads ask (committed number) state new = Stands state new
-LeftBy Stands Reads ask (refused why) state new = Stands state new
-LeftBy Stands Reads ask (full end) state new = Stands state new
-LeftBy Stands Reads ask (found number docs) state new = Stands state new
-LeftBy Stands Reads ask no_memory state new = Stands state new
+-- a step that was made: what others added before it, what it was asked, and what it answered
+pub record Call : Type 0 where
+  pub more : List Entry
+  pub ask : Ask
+  pub answer : Answer
 
--- whether the device failed
-abbrev pub is_disk_fault : Answer → Bool
-is_disk_fault disk_fault = true
-is_disk_fault answer = false
+-- the engine after a step that was made
+abbrev pub after_call : Running → Call → Running
+after_call running call = after (grown running call.more) call.ask call.answer
+
+-- the engine after a list of steps
+abbrev pub after_all : Running → List Call → Running
+after_all running [] = running
+after_all running (call ∷ calls) = after_all (after_call running call) calls
+
+-- each step answered as it may, on the engine that those before it left
+abbrev pub Follows : Limits → Running → List Call → Type 0
+Follows limits running [] = Unit {0}
+Follows limits running (call ∷ calls) =
+    MayAnswer limits (grown running call.more) call.ask call.answer × Follows limits (after_call running call) calls
+
+-- nobody else added anything in between
+abbrev pub AreAlone : List Call → Type 0
+AreAlone [] = Unit {0}
+AreAlone (call ∷ calls) = (call.more ≡ []) × AreAlone calls

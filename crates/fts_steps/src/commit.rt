@@ -15,8 +15,12 @@ pub enum CommitError {
     Refused { refusal: Refusal },
     /// The rows log would end at this place, which is past its limit. Nothing changed.
     LogFull { end: u64 },
-    /// The device failed. Whether the commit is in the log is open until the log is opened again.
-    DiskFault,
+    /// A device failed, and the devices' counts of faults are now `faults` together. Whether the
+    /// commit is in the log is open until the log is opened again.
+    DiskFault { faults: u128 },
+    /// A device failed in an earlier writing step, after which the counts were `faults` together.
+    /// Nothing changed.
+    Stopped { faults: u128 },
 }
 
 impl fmt::Display for CommitError {
@@ -25,7 +29,8 @@ impl fmt::Display for CommitError {
             CommitError::NoMemory => write!(f, "no memory"),
             CommitError::Refused { refusal } => write!(f, "{refusal}"),
             CommitError::LogFull { end } => write!(f, "log full at {end}"),
-            CommitError::DiskFault => write!(f, "disk fault"),
+            CommitError::DiskFault { .. } => write!(f, "disk fault"),
+            CommitError::Stopped { faults } => write!(f, "stopped after {faults} disk faults"),
         }
     }
 }

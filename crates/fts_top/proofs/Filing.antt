@@ -1,110 +1,62 @@
-use Rattle.std.proofs.Common.{◌≡◌, ◌⊎◌, ◌≤◌, ◌^◌, ℕ, List, [], ◌∷◌, length, refl, sym, subst, ◌∙◌, inl, inr}
-use Rattle.std.proofs.lemmas.List.{append-nil}
-use Rattle.std.specs.Prelude.{Result, Ok, Err}
+-- What was done by the steps of an engine, seen by its device.
+use Rattle.std.proofs.Common.{◌≡◌, ℕ, List, [], refl, subst}
+use Rattle.std.specs.Prelude.{false}
 use Rattle.fts_types.specs.declared.limits.Limits.{Limits}
-use Rattle.fts_io.specs.Text.{Line, lines_of}
-use Rattle.fts_schema.specs.declared.reply.Reply.{Reply}
-use Rattle.fts_steps.specs.State.{State, with_commits, IsDatabase}
-use Rattle.fts_steps.specs.Step.{Call, Follows, after_all, in_doubt}
-use Rattle.fts_sessions.specs.declared.ended.Ended.{Ended}
-use Rattle.fts_sessions.specs.declared.ended.Ended.TheVariants.{NoMemory, DiskFault}
-use Rattle.fts_sessions.specs.declared.steps.EngineSteps.{Ghosts}
-use Rattle.fts_sessions.specs.Execute.{Executes, Leaves}
+use Rattle.fts_types.specs.declared.settings.Settings.{Settings}
+use Rattle.fts_disk.specs.declared.disk.Disk as disk
+use Rattle.fts_engine.specs.Stands.{OnDevice}
+use Rattle.fts_io.specs.Text.{Line}
+use Rattle.fts_steps.specs.Running.{Running}
+use Rattle.fts_steps.specs.Step.{Sight, Follows, after_all}
+use Rattle.fts_top.specs.declared.ends.Health.{Health}
 use Rattle.fts_top.specs.declared.ends.RunEnd.{RunEnd}
 use Rattle.fts_top.specs.declared.ends.RunEnd.TheVariants as end
-use Rattle.fts_top.specs.Run.{Sides, Front, Late, Broken, Stops, Outcome}
-use Rattle.fts_top.specs.Once.{files}
+use Rattle.fts_top.specs.Run.{Sides, Front, Reads, Stops, Outcome}
+use Rattle.fts_top.specs.Talk.{Talks}
+use Rattle.fts_top.specs.Once.{device_sight}
 
--- what was done by the steps of an engine, seen by the file of its device
-module _ {S : Type 0} (steps : Ghosts S) (limits : Limits) (file_of : S → List ℕ)
-    (stands : (state : State) (s : S) → steps.stands state s → IsDatabase state (file_of s))
-    (reads : (state : State) (s : S) → steps.reads state s → IsDatabase state (file_of s)) where
-  -- the same sides with the file in place of the steps
-  abbrev pub filed : Sides S → Sides (List ℕ)
-  filed here = record { left = here.left; held = here.held; steps = file_of here.steps }
+module _ {S D : Type 0} (sight : Sight S) (single : sight.is_shared ≡ false) (ghosts : disk.Ghosts D) (settings : Settings) (limits : Limits) (device_of : S → D)
+    (held : (running : Running) (s : S) → sight.stands running s → OnDevice ghosts running (device_of s)) (start : Running) (script : List Line) (before now : Sides S) (first : D)
+    (same_settings : sight.settings before.steps ≡ settings) (same_limits : sight.limits before.steps ≡ limits) where
+  -- the same sides with a device in place of the steps: before, as it was before the opening
+  abbrev begun : Sides D
+  begun = record { left = before.left; held = before.held; steps = first }
 
-  abbrev front_on_file : (start : State) (script ahead : List Line) (before now : Sides S) → steps.limits before.steps ≡ limits
-      → Front steps start script ahead before now → Front (files limits) start script ahead (filed before) (filed now)
-  front_on_file start script ahead before now same front = record {
+  abbrev done : Sides D
+  done = record { left = now.left; held = now.held; steps = device_of now.steps }
+
+  abbrev front_on : (ahead : List Line) → Front sight start script ahead before now
+      → Front (device_sight ghosts settings limits) start script ahead begun done
+  front_on ahead front = record {
     lines = front.lines;
     calls = front.calls;
+    replies = front.replies;
     text = front.text;
     front = front.front;
     written = front.written;
-    talks = front.talks;
-    follows = subst (λ (n : Limits). Follows n start front.calls) same front.follows;
+    talks = subst (λ (s : Settings). Talks s front.lines front.calls front.replies) same_settings front.talks;
+    alone = λ e. front.alone single;
+    follows = subst (λ (n : Limits). Follows n start front.calls) same_limits front.follows;
+    settings = refl;
     limits = refl;
-    stands = stands (after_all start front.calls) now.steps front.stands;
+    stands = held (after_all start front.calls) now.steps front.stands;
+    going = λ e calm. front.going single calm;
   }
 
-  leaves_on_file : (outcome : Result Reply Ended) (state : State) (calls : List Call) (new : S) → Leaves steps outcome state calls new
-      → Leaves (files limits) outcome state calls (file_of new)
-  leaves_on_file (Ok reply) state calls new leaves = stands state new leaves
-  leaves_on_file (Err NoMemory) state calls new leaves = stands state new leaves
-  leaves_on_file (Err DiskFault) state calls new (inl leaves) = inl (reads state new leaves)
-  leaves_on_file (Err DiskFault) state calls new (inr leaves) = inr (reads (with_commits state (in_doubt calls)) new leaves)
+  abbrev reads_on : (met : Health) → Reads sight met start script before now → Reads (device_sight ghosts settings limits) met start script begun done
+  reads_on met reads = record { front = front_on [] reads.front; whole = reads.whole; met_is = reads.met_is; empty = reads.empty }
 
-  executes_on_file : (state : State) (line : Line) (old new : S) (outcome : Result Reply Ended) → steps.limits old ≡ limits
-      → Executes steps state line old outcome new → Executes (files limits) state line (file_of old) outcome (file_of new)
-  executes_on_file state line old new outcome same executes = record {
-    calls = executes.calls;
-    says = executes.says;
-    follows = subst (λ (n : Limits). Follows n state executes.calls) same executes.follows;
-    leaves = leaves_on_file outcome (after_all state executes.calls) executes.calls new executes.leaves;
-  }
-
-  late_on_file : (start : State) (script : List Line) (n : ℕ) (before now : Sides S) → steps.limits before.steps ≡ limits
-      → Late steps start script n before now → Late (files limits) start script n (filed before) (filed now)
-  late_on_file start script n before now same late = record {
-    line = late.line;
-    ahead = late.ahead;
-    middle = filed late.middle;
-    front = front_on_file start script (late.line ∷ late.ahead) before late.middle same late.front;
-    answers = record {
-      reply = late.answers.reply;
-      executes = executes_on_file (after_all start late.front.calls) late.line late.middle.steps now.steps (Ok late.answers.reply)
-          (late.front.limits ∙ same) late.answers.executes;
-      written = late.answers.written;
-    };
-    rest = late.rest;
-  }
-
-  broken_on_file : (start : State) (script : List Line) (ended : Ended) (before now : Sides S) → steps.limits before.steps ≡ limits
-      → Broken steps start script ended before now → Broken (files limits) start script ended (filed before) (filed now)
-  broken_on_file start script ended before now same broken = record {
-    line = broken.line;
-    ahead = broken.ahead;
-    middle = filed broken.middle;
-    front = front_on_file start script (broken.line ∷ broken.ahead) before broken.middle same broken.front;
-    breaks = record {
-      executes = executes_on_file (after_all start broken.front.calls) broken.line broken.middle.steps now.steps (Err ended)
-          (broken.front.limits ∙ same) broken.breaks.executes;
-      written = broken.breaks.written;
-    };
-    rest = broken.rest;
-  }
-
-  abbrev stops_on_file : (start : State) (script : List Line) (n : ℕ) (before now : Sides S) → steps.limits before.steps ≡ limits
-      → Stops steps start script n before now → Stops (files limits) start script n (filed before) (filed now)
-  stops_on_file start script n before now same stops = record {
-    ahead = stops.ahead;
-    front = front_on_file start script stops.ahead before now same stops.front;
-    begun = stops.begun;
-  }
+  abbrev stops_on : (n : ℕ) → Stops sight start script n before now → Stops (device_sight ghosts settings limits) start script n begun done
+  stops_on n stops = record { ahead = stops.ahead; front = front_on stops.ahead stops.front; whole = stops.whole; begun = stops.begun }
 
   -- the outcome of a run
-  pub outcome_on_file : (result : RunEnd) (start : State) (script : List Line) (before now : Sides S) → steps.limits before.steps ≡ limits
-      → Outcome steps result start script before now → Outcome (files limits) result start script (filed before) (filed now)
-  outcome_on_file end.Done start script before now same outcome = (front_on_file start script [] before now same outcome.0, outcome.1)
-  outcome_on_file end.ReadFault start script before now same outcome = stops_on_file start script 0 before now same outcome
-  outcome_on_file (end.ScriptTooLong lines bytes) start script before now same outcome =
-      (stops_on_file start script 1 before now same outcome.0, outcome.1)
-  outcome_on_file end.WriteFault start script before now same outcome =
-      (outcome.0, late_on_file start script outcome.0 before now same outcome.1)
-  outcome_on_file end.DiskFault start script before now same outcome = broken_on_file start script DiskFault before now same outcome
-  outcome_on_file end.NoMemory start script before now same (inl (ahead, front, rest)) =
-      inl (ahead, front_on_file start script ahead before now same front, rest)
-  outcome_on_file end.NoMemory start script before now same (inr (inl late)) =
-      inr (inl (late_on_file start script 0 before now same late))
-  outcome_on_file end.NoMemory start script before now same (inr (inr broken)) =
-      inr (inr (broken_on_file start script NoMemory before now same broken))
+  pub outcome_on : (result : RunEnd) → Outcome sight result start script before now
+      → Outcome (device_sight ghosts settings limits) result start script begun done
+  outcome_on end.Done outcome = reads_on _ outcome
+  outcome_on end.ShortOfMemory outcome = reads_on _ outcome
+  outcome_on end.DiskFault outcome = reads_on _ outcome
+  outcome_on end.ReadFault outcome = stops_on 0 outcome
+  outcome_on (end.ScriptTooLong lines bytes) outcome = (stops_on 1 outcome.0, outcome.1)
+  outcome_on end.WriteFault (n, late) = (n, record { ahead = late.ahead; front = front_on late.ahead late.front; cut = late.cut; rest = late.rest })
+  outcome_on end.NoMemory starves =
+      record { ahead = starves.ahead; front = front_on starves.ahead starves.front; written = starves.written; rest = starves.rest }

@@ -1,144 +1,154 @@
-use Rattle.std.proofs.Common.{◌≡◌, ℕ, ◌+◌, List, [], ◌∷◌, ◌++◌, length, refl, ap, subst, sym, ◌∙◌, append_assoc, inl, inr}
+use Rattle.std.proofs.Common.{◌≡◌, ℕ, ◌+◌, List, [], ◌∷◌, ◌++◌, length, take, refl, ap, subst, sym, ◌∙◌, append_assoc, inl, inr}
 use Rattle.std.proofs.lemmas.List.{append-nil, length_push}
 use Rattle.std.specs.Prelude.{Ok, Err}
 use Rattle.fts_types.specs.declared.limits.Limits.{Limits}
+use Rattle.fts_types.specs.declared.settings.Settings.{Settings}
 use Rattle.fts_io.specs.Text.{Line}
 use Rattle.fts_schema.specs.declared.reply.Reply.{Reply}
 use Rattle.fts_schema.specs.Reply.{text_of}
-use Rattle.fts_steps.specs.State.{State}
-use Rattle.fts_steps.specs.Step.{Call, after_all, Follows}
-use Rattle.fts_sessions.specs.declared.steps.EngineSteps.{Ghosts}
-use Rattle.fts_sessions.specs.Request.{Request, IsRequest}
-use Rattle.fts_sessions.specs.Conversation.{Converses}
+use Rattle.fts_steps.specs.Running.{Running}
+use Rattle.fts_steps.specs.Step.{Sight, after_all, Follows}
 use Rattle.fts_sessions.specs.Execute.{Executes, Says}
-use Rattle.fts_top.specs.declared.ends.RunEnd.{RunEnd}
-use Rattle.fts_top.specs.declared.ends.RunEnd.TheVariants as end
-use Rattle.fts_top.specs.Run.{Sides, Stays, Front, OneLine, Outcome}
-use Rattle.fts_top.proofs.Talking.{settings_stay, after_more, follows_more, talks_more}
+use Rattle.fts_top.specs.declared.ends.Health.{Health}
+use Rattle.fts_top.specs.declared.ends.Health.TheVariants.{Sound, Short, Failed}
+use Rattle.fts_top.specs.declared.ends.Halt.{Halt}
+use Rattle.fts_top.specs.declared.ends.Halt.TheVariants as halt
+use Rattle.fts_top.specs.Health.{health_of, worse, health_of_all, end_of, read_end}
+use Rattle.fts_top.specs.Run.{Sides, Stays, Front, IsWhole, IsCut, Reads, OneLine, Outcome}
+use Rattle.fts_top.proofs.Health.{health_more, failed_before, failed_now}
+use Rattle.fts_top.proofs.Talking.{after_more, follows_more, alone_more, talks_more, texts_more, line_still}
 
-module _ {S : Type 0} (steps : Ghosts S) (start : State) (script : List Line) where
+module _ {S : Type 0} (sight : Sight S) (start : Running) (script : List Line) where
   -- before the first line
-  abbrev pub nothing_yet : (here : Sides S) → steps.stands start here.steps → Front steps start script script here here
+  abbrev pub nothing_yet : (here : Sides S) → sight.stands start here.steps → Front sight start script script here here
   nothing_yet here stands = record {
     lines = [];
     calls = [];
+    replies = [];
     text = [];
     front = refl;
     written = sym (append-nil here.held);
     talks = (refl, refl);
+    alone = λ e. tt;
     follows = tt;
+    settings = refl;
     limits = refl;
     stands = stands;
+    going = λ e calm. refl;
   }
 
   -- the same front, seen by equal lines, and by what holds as much
-  abbrev pub again : (ahead ahead' : List Line) (before now now' : Sides S) → Front steps start script ahead before now
-      → ahead ≡ ahead' → Stays now now' → Front steps start script ahead' before now'
+  abbrev pub again : (ahead ahead' : List Line) (before now now' : Sides S) → Front sight start script ahead before now
+      → ahead ≡ ahead' → Stays now now' → Front sight start script ahead' before now'
   again ahead ahead' before now now' front same_ahead stays = record {
     lines = front.lines;
     calls = front.calls;
+    replies = front.replies;
     text = front.text;
     front = front.front ∙ ap (λ (a : List Line). front.lines ++ a) same_ahead;
     written = stays.unwritten ∙ front.written;
     talks = front.talks;
+    alone = front.alone;
     follows = front.follows;
-    limits = ap steps.limits stays.unmade ∙ front.limits;
-    stands = subst (λ (s : S). steps.stands (after_all start front.calls) s) (sym stays.unmade) front.stands;
+    settings = ap sight.settings stays.unmade ∙ front.settings;
+    limits = ap sight.limits stays.unmade ∙ front.limits;
+    stands = subst (λ (s : S). sight.stands (after_all start front.calls) s) (sym stays.unmade) front.stands;
+    going = front.going;
   }
 
-  -- the same front, seen by equal lines
-  abbrev pub on : (ahead ahead' : List Line) (before now : Sides S) → Front steps start script ahead before now
-      → ahead ≡ ahead' → Front steps start script ahead' before now
-  on ahead ahead' before now front same = again ahead ahead' before now now front same (record { unwritten = refl; unmade = refl })
-
-  -- a reply was given, so the line was a request, and no want of memory came before it
-  pub said : (line : Line) (calls : List Call) (reply : Reply) (state : State) → Says state.settings line calls (Ok reply)
-      → (request : Request) × IsRequest line request × Converses state.settings request [] calls (Ok reply)
-  said line calls reply state (inl says) = says
-  said line calls reply state (inr none) = absurd (let e = none.1 in cc)
-
-  -- one line more was executed, and its reply written
-  abbrev pub one_more : (line : Line) (ahead : List Line) (before middle now : Sides S) (reply : Reply)
-      (front : Front steps start script (line ∷ ahead) before middle)
-      → Executes steps (after_all start front.calls) line middle.steps (Ok reply) now.steps → now.held ≡ middle.held ++ text_of reply
-      → steps.limits now.steps ≡ steps.limits middle.steps → Front steps start script ahead before now
-  one_more line ahead before middle now reply front executes written limit =
-      let says = said line executes.calls reply (after_all start front.calls) executes.says in
+  -- one line more was executed, and a part of its reply written
+  abbrev pub one_more : (line : Line) (ahead ahead' : List Line) (before middle now : Sides S) (reply : Reply) (part : List ℕ)
+      (front : Front sight start script ahead before middle) → ahead ≡ line ∷ ahead' → Executes sight line middle.steps reply now.steps
+      → now.held ≡ middle.held ++ part → Front sight start script ahead' before now
+  one_more line ahead ahead' before middle now reply part front same executes written =
+      let says = subst (λ (s : Settings). Says s line executes.calls reply) front.settings executes.says in
       record {
         lines = front.lines ++ line ∷ [];
         calls = front.calls ++ executes.calls;
-        text = front.text ++ text_of reply;
-        front = front.front ∙ sym (append_assoc front.lines (line ∷ []) ahead);
-        written = written ∙ ap (λ (t : List ℕ). t ++ text_of reply) front.written ∙ append_assoc before.held front.text (text_of reply);
-        talks = talks_more start.settings front.lines front.calls front.text line says.0 executes.calls reply front.talks
-            says.1 (subst (λ (s : _). Converses s says.0 [] executes.calls (Ok reply)) (settings_stay start front.calls) says.2);
-        follows = follows_more (steps.limits before.steps) start front.calls executes.calls front.follows
-            (subst (λ (n : Limits). Follows n (after_all start front.calls) executes.calls) front.limits executes.follows);
-        limits = limit ∙ front.limits;
-        stands = subst (λ (s : State). steps.stands s now.steps) (sym (after_more start front.calls executes.calls)) executes.leaves;
+        replies = front.replies ++ reply ∷ [];
+        text = front.text ++ part;
+        front = front.front ∙ ap (λ (a : List Line). front.lines ++ a) same ∙ sym (append_assoc front.lines (line ∷ []) ahead');
+        written = written ∙ ap (λ (t : List ℕ). t ++ part) front.written ∙ append_assoc before.held front.text part;
+        talks = talks_more (sight.settings before.steps) front.lines front.calls front.replies line executes.calls reply front.talks says;
+        alone = λ single. alone_more front.calls executes.calls (front.alone single) (executes.alone single);
+        follows = follows_more (sight.limits before.steps) start front.calls executes.calls front.follows
+            (subst (λ (n : Limits). Follows n (after_all start front.calls) executes.calls) front.limits (executes.follows (after_all start front.calls) front.stands));
+        settings = executes.settings ∙ front.settings;
+        limits = executes.limits ∙ front.limits;
+        stands = subst (λ (r : Running). sight.stands r now.steps) (sym (after_more start front.calls executes.calls))
+            (executes.stands (after_all start front.calls) front.stands);
+        going = λ single calm.
+            ap (λ (r : Running). r.stopped) (after_more start front.calls executes.calls)
+            ∙ line_still (sight.settings before.steps) line executes.calls reply (after_all start front.calls) says (executes.alone single)
+            (λ is. calm (health_more front.replies reply ∙ failed_now (health_of_all front.replies) (health_of reply) (ap health_of is)))
+            ∙ front.going single (λ is. calm (health_more front.replies reply ∙ failed_before (health_of_all front.replies) (health_of reply) is));
       }
 
-  -- a turn that goes on
-  abbrev pub goes_on : (ahead behind : List Line) (before middle now : Sides S) (front : Front steps start script ahead before middle)
-      → OneLine steps (Ok tt) (after_all start front.calls) ahead behind middle now → steps.limits now.steps ≡ steps.limits middle.steps
-      → Front steps start script behind before now
-  goes_on ahead behind before middle now front turn limit =
-      one_more turn.0 behind before middle now turn.2.0 (on ahead (turn.0 ∷ behind) before middle front turn.1) turn.2.1 turn.2.2 limit
+  -- a run so far: each reply was written whole, and the lines met this
+  pub record SoFar (ahead : List Line) (met : Health) (count : ℕ) (before now : Sides S) : Type 0 where
+    pub front : Front sight start script ahead before now
+    pub whole : IsWhole front.replies front.text
+    pub met_is : health_of_all front.replies ≡ met
+    pub counted : length front.lines ≡ count
 
-  -- a turn that goes on executes one line more
-  pub numbered : (ahead behind : List Line) (before middle now : Sides S) (front : Front steps start script ahead before middle)
-      → OneLine steps (Ok tt) (after_all start front.calls) ahead behind middle now → steps.limits now.steps ≡ steps.limits middle.steps
-      → (n m : ℕ) → length front.lines ≡ n → m ≡ n + 1
-      → (more : Front steps start script behind before now) × (length more.lines ≡ m)
-  numbered ahead behind before middle now front turn limit n m number next = (
-    goes_on ahead behind before middle now front turn limit,
-    length_push front.lines turn.0 ∙ ap (λ (k : ℕ). k + 1) number ∙ sym next,
-  )
+  -- one line more
+  pub goes_on : (ahead behind : List Line) (met now_met next : Health) (count more : ℕ) (before middle now : Sides S) → SoFar ahead met count before middle
+      → OneLine sight (Ok now_met) ahead behind middle now → next ≡ worse met now_met → more ≡ count + 1 → SoFar behind next more before now
+  goes_on ahead behind met now_met next count more before middle now far turn worst one = record {
+    front = one_more turn.0 ahead behind before middle now turn.2.0 (text_of turn.2.0) far.front turn.1 turn.2.1 turn.2.2;
+    whole = ap (λ (t : List ℕ). t ++ text_of turn.2.0) far.whole ∙ sym (texts_more far.front.replies turn.2.0);
+    met_is = health_more far.front.replies turn.2.0 ∙ ap (λ (h : Health). worse h (health_of turn.2.0)) far.met_is ∙ ap (worse met) (sym turn.2.3) ∙ sym worst;
+    counted = length_push far.front.lines turn.0 ∙ ap (λ (k : ℕ). k + 1) far.counted ∙ sym one;
+  }
+
+  -- the script was read to its end
+  read : (met : Health) (before now : Sides S) → Reads sight met start script before now → Outcome sight (read_end met) start script before now
+  read Sound before now reads = reads
+  read Short before now reads = reads
+  read Failed before now reads = reads
 
   -- a turn that ends the run
-  pub ends : (result : RunEnd) (ahead behind : List Line) (before middle now : Sides S) (front : Front steps start script ahead before middle)
-      → OneLine steps (Err result) (after_all start front.calls) ahead behind middle now
-      → ((number bytes : ℕ) → result ≡ end.ScriptTooLong number bytes → number ≡ length front.lines)
-      → Outcome steps result start script before now
-  ends end.Done ahead behind before middle now front turn number = (again ahead [] before middle now front turn.0 turn.2, turn.1)
-  ends end.ReadFault ahead behind before middle now front turn number =
-      record { ahead = ahead; front = again ahead ahead before middle now front refl turn.1; begun = turn.0 }
-  ends (end.ScriptTooLong lines bytes) ahead behind before middle now front turn number =
-      (record { ahead = ahead; front = again ahead ahead before middle now front refl turn.1; begun = turn.0 }, number lines bytes refl)
-  ends end.WriteFault ahead behind before middle now front turn number = (
+  pub ends : (why : Halt) (ahead behind : List Line) (met : Health) (count : ℕ) (before middle now : Sides S) → SoFar ahead met count before middle
+      → OneLine sight (Err why) ahead behind middle now
+      → ((number bytes : ℕ) → why ≡ halt.TooLong number bytes → number ≡ count)
+      → Outcome sight (end_of why met) start script before now
+  ends halt.End ahead behind met count before middle now far turn number = read met before now (record {
+    front = again ahead [] before middle now far.front turn.0 turn.2;
+    whole = far.whole;
+    met_is = far.met_is;
+    empty = turn.1;
+  })
+  ends halt.ReadFault ahead behind met count before middle now far turn number =
+      record { ahead = ahead; front = again ahead ahead before middle now far.front refl turn.1; whole = far.whole; begun = turn.0 }
+  ends (halt.TooLong lines bytes) ahead behind met count before middle now far turn number =
+      (record { ahead = ahead; front = again ahead ahead before middle now far.front refl turn.1; whole = far.whole; begun = turn.0 }, number lines bytes refl ∙ sym far.counted)
+  ends halt.WriteFault ahead behind met count before middle now far turn number = (
     turn.2.0,
     record {
-      line = turn.0;
       ahead = behind;
-      middle = middle;
-      front = on ahead (turn.0 ∷ behind) before middle front turn.1;
-      answers = turn.2.1;
+      front = one_more turn.0 ahead behind before middle now turn.2.1.reply (take turn.2.0 (text_of turn.2.1.reply)) far.front turn.1 turn.2.1.executes turn.2.1.written;
+      cut = cut_of far.front.replies far.front.text turn.2.0 turn.2.1.reply far.whole;
       rest = turn.3;
     },
   )
-  ends end.DiskFault ahead behind before middle now front turn number = record {
-    line = turn.0;
-    ahead = behind;
-    middle = middle;
-    front = on ahead (turn.0 ∷ behind) before middle front turn.1;
-    breaks = turn.2;
-    rest = turn.3;
-  }
-  ends end.NoMemory ahead behind before middle now front (rest, inl turn) number =
-      inl (behind, again ahead behind before middle now front turn.0 turn.1, rest)
-  ends end.NoMemory ahead behind before middle now front (rest, inr (line, one, inl answers)) number = inr (inl (record {
-    line = line;
-    ahead = behind;
-    middle = middle;
-    front = on ahead (line ∷ behind) before middle front one;
-    answers = answers;
-    rest = rest;
-  }))
-  ends end.NoMemory ahead behind before middle now front (rest, inr (line, one, inr breaks)) number = inr (inr (record {
-    line = line;
-    ahead = behind;
-    middle = middle;
-    front = on ahead (line ∷ behind) before middle front one;
-    breaks = breaks;
-    rest = rest;
-  }))
+    where
+      cut_of : (replies : List Reply) (text : List ℕ) (n : ℕ) (reply : Reply) → IsWhole replies text → IsCut n (replies ++ reply ∷ []) (text ++ take n (text_of reply))
+      cut_of replies text n reply whole = record { earlier = replies; last = reply; replies_are = refl; text_is = ap (λ (t : List ℕ). t ++ take n (text_of reply)) whole }
+  ends halt.NoMemory ahead behind met count before middle now far (rest, inl turn) number =
+      record { ahead = behind; front = again ahead behind before middle now far.front turn.0 turn.1; written = inl far.whole; rest = rest }
+  ends halt.NoMemory ahead behind met count before middle now far (rest, inr (line, one, met_no_fault)) number =
+      let replies = met_no_fault.0 in
+      record {
+        ahead = behind;
+        front = one_more line ahead behind before middle now replies.reply (take 0 (text_of replies.reply)) far.front one replies.executes replies.written;
+        written = inr (
+          record {
+            earlier = far.front.replies;
+            last = replies.reply;
+            replies_are = refl;
+            text_is = ap (λ (t : List ℕ). t ++ take 0 (text_of replies.reply)) far.whole;
+          },
+          met_no_fault.1,
+        );
+        rest = rest;
+      }

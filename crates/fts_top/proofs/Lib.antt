@@ -5,3 +5,4 @@ pub mod Fronts
 pub mod Opening
 pub mod Filing
 pub mod Asking
+pub mod Health

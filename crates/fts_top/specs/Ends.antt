@@ -1,8 +1,5 @@
-use Rattle.std.specs.Prelude.{ℕ}
 use Rattle.fts_engine.specs.declared.error.OpenError.{OpenError}
 use Rattle.fts_engine.specs.declared.error.OpenError.TheVariants as opening
-use Rattle.fts_sessions.specs.declared.ended.Ended.{Ended}
-use Rattle.fts_sessions.specs.declared.ended.Ended.TheVariants as ended
 use Rattle.fts_top.specs.declared.status.Status.{Status}
 use Rattle.fts_top.specs.declared.status.Status.TheVariants as status
 use Rattle.fts_top.specs.declared.status.Device.TheVariants.{Rows}
@@ -10,22 +7,20 @@ use Rattle.fts_top.specs.declared.ends.RunEnd.{RunEnd}
 use Rattle.fts_top.specs.declared.ends.RunEnd.TheVariants as run_end
 use Rattle.fts_top.specs.declared.ends.CreateEnd.{CreateEnd}
 use Rattle.fts_top.specs.declared.ends.CreateEnd.TheVariants as create_end
+use Rattle.fts_top.specs.declared.ends.Halt.{Halt}
+use Rattle.fts_top.specs.declared.ends.Halt.TheVariants as halt
 use Rattle.fts_top.specs.declared.ends.Unsent.{Unsent}
 use Rattle.fts_top.specs.declared.ends.Unsent.TheVariants as unsent
 
--- the end of a run whose reply was not written whole
-abbrev pub end_of_unsent : Unsent → RunEnd
-end_of_unsent unsent.NoMemory = run_end.NoMemory
-end_of_unsent unsent.WriteFault = run_end.WriteFault
-
--- the end of a run that a line ended
-abbrev pub end_of_line : Ended → RunEnd
-end_of_line ended.NoMemory = run_end.NoMemory
-end_of_line ended.DiskFault = run_end.DiskFault
+-- what ends the lines where a reply was not written whole
+abbrev pub halt_of_unsent : Unsent → Halt
+halt_of_unsent unsent.NoMemory = halt.NoMemory
+halt_of_unsent unsent.WriteFault = halt.WriteFault
 
 -- the status of a run's end
 abbrev pub status_of_run : RunEnd → Status
 status_of_run run_end.Done = status.Done
+status_of_run run_end.ShortOfMemory = status.NoMemory
 status_of_run run_end.NoMemory = status.NoMemory
 status_of_run run_end.ReadFault = status.ReadFault
 status_of_run run_end.WriteFault = status.WriteFault

@@ -1,19 +1,22 @@
-use Rattle.std.specs.Prelude.{◌≡◌, ◌⊎◌, ◌<◌, ◌+◌, ◌^◌, ℕ, List, [], ◌∷◌, ◌++◌, length, take, Ok, Err, Result}
-use Rattle.fts_io.specs.Text.{Line, lines_of}
+use Rattle.std.specs.Prelude.{◌≡◌, ◌⊎◌, ◌<◌, ◌+◌, ◌^◌, ℕ, false, List, [], ◌∷◌, ◌++◌, length, take, Ok, Err, Result}
+use Rattle.fts_io.specs.Text.{Line}
 use Rattle.fts_io.specs.Reading.{OnlyBegun, lines_from}
 use Rattle.fts_schema.specs.declared.reply.Reply.{Reply}
+use Rattle.fts_schema.specs.declared.reply.Reply.TheVariants.{DiskFault}
 use Rattle.fts_schema.specs.Reply.{text_of}
-use Rattle.fts_steps.specs.State.{State}
-use Rattle.fts_steps.specs.Step.{Call, Follows, after_all}
-use Rattle.fts_sessions.specs.declared.ended.Ended.{Ended}
-use Rattle.fts_sessions.specs.declared.ended.Ended.TheVariants.{NoMemory, DiskFault}
-use Rattle.fts_sessions.specs.declared.steps.EngineSteps.{Ghosts}
+use Rattle.fts_steps.specs.Running.{Running}
+use Rattle.fts_steps.specs.Step.{Call, Sight, AreAlone, Follows, after_all}
 use Rattle.fts_sessions.specs.Execute.{Executes}
+use Rattle.fts_top.specs.declared.ends.Health.{Health}
+use Rattle.fts_top.specs.declared.ends.Health.TheVariants as health
+use Rattle.fts_top.specs.declared.ends.Halt.{Halt}
+use Rattle.fts_top.specs.declared.ends.Halt.TheVariants as halt
 use Rattle.fts_top.specs.declared.ends.RunEnd.{RunEnd}
 use Rattle.fts_top.specs.declared.ends.RunEnd.TheVariants as end
 use Rattle.fts_top.specs.declared.ends.Unsent.{Unsent}
 use Rattle.fts_top.specs.declared.ends.Unsent.TheVariants as unsent
-use Rattle.fts_top.specs.Talk.{Talks}
+use Rattle.fts_top.specs.Health.{health_of, health_of_all}
+use Rattle.fts_top.specs.Talk.{Talks, texts_of}
 
 -- a run at one time: what the source has left, what the sink holds, and the steps
 pub record Sides (S : Type 0) : Type 0 where
@@ -29,98 +32,110 @@ pub record Stays {S : Type 0} (before after : Sides S) : Type 0 where
   pub unwritten : after.held ≡ before.held
   pub unmade : after.steps ≡ before.steps
 
--- the lines from the front of the script that were executed, each with its reply written, and what is ahead
-pub record Front {S : Type 0} (steps : Ghosts S) (start : State) (script ahead : List Line) (before after : Sides S)
+-- the lines from the front of the script that were executed, what is ahead, and the text that was written. While no
+-- line met a fault, commits are taken
+pub record Front {S : Type 0} (sight : Sight S) (start : Running) (script ahead : List Line) (before after : Sides S)
     : Type 0 where
   pub lines : List Line
   pub calls : List Call
+  pub replies : List Reply
   pub text : List ℕ
   pub front : script ≡ lines ++ ahead
   pub written : after.held ≡ before.held ++ text
-  pub talks : Talks start.settings lines calls text
-  pub follows : Follows (steps.limits before.steps) start calls
-  pub limits : steps.limits after.steps ≡ steps.limits before.steps
-  pub stands : steps.stands (after_all start calls) after.steps
+  pub talks : Talks (sight.settings before.steps) lines calls replies
+  pub alone : sight.is_shared ≡ false → AreAlone calls
+  pub follows : Follows (sight.limits before.steps) start calls
+  pub settings : sight.settings after.steps ≡ sight.settings before.steps
+  pub limits : sight.limits after.steps ≡ sight.limits before.steps
+  pub stands : sight.stands (after_all start calls) after.steps
+  pub going : sight.is_shared ≡ false → (health_of_all replies ≡ health.Failed → ⊥)
+      → (after_all start calls).stopped ≡ start.stopped
 
--- a line was executed, and of its reply the first n bytes were written
-pub record Replies {S : Type 0} (steps : Ghosts S) (state : State) (line : Line) (n : ℕ) (before after : Sides S)
-    : Type 0 where
-  pub reply : Reply
-  pub executes : Executes steps state line before.steps (Ok reply) after.steps
-  pub written : after.held ≡ before.held ++ take n (text_of reply)
+-- each reply was written, to the end
+abbrev pub IsWhole : List Reply → List ℕ → Type 0
+IsWhole replies text = text ≡ texts_of replies
 
--- a line was ended by a fault or by want of memory, and nothing was written
-pub record Breaks {S : Type 0} (steps : Ghosts S) (state : State) (line : Line) (ended : Ended) (before after : Sides S)
-    : Type 0 where
-  pub executes : Executes steps state line before.steps (Err ended) after.steps
-  pub written : after.held ≡ before.held
+-- of the last reply only the first n bytes were written
+pub record IsCut (n : ℕ) (replies : List Reply) (text : List ℕ) : Type 0 where
+  pub earlier : List Reply
+  pub last : Reply
+  pub replies_are : replies ≡ earlier ++ last ∷ []
+  pub text_is : text ≡ texts_of earlier ++ take n (text_of last)
 
 -- the lines ahead are those of what the source has left, behind bytes that were read and not used
 abbrev pub IsLeft : List Line → List ℕ → Type 0
 IsLeft ahead left = (begun unused : List ℕ) × (ahead ≡ lines_from begun (unused ++ left))
 
--- behind the front, one more line was executed and its reply not wholly written
-pub record Late {S : Type 0} (steps : Ghosts S) (start : State) (script : List Line) (n : ℕ) (before after : Sides S)
-    : Type 0 where
-  pub line : Line
-  pub ahead : List Line
-  pub middle : Sides S
-  pub front : Front steps start script (line ∷ ahead) before middle
-  pub answers : Replies steps (after_all start front.calls) line n middle after
-  pub rest : IsLeft ahead after.left
-
--- behind the front, a line was ended by a fault or by want of memory
-pub record Broken {S : Type 0} (steps : Ghosts S) (start : State) (script : List Line) (ended : Ended)
-    (before after : Sides S) : Type 0 where
-  pub line : Line
-  pub ahead : List Line
-  pub middle : Sides S
-  pub front : Front steps start script (line ∷ ahead) before middle
-  pub breaks : Breaks steps (after_all start front.calls) line ended middle after
-  pub rest : IsLeft ahead after.left
-
 -- of the lines ahead only the first was begun; n bytes behind its begun part were read and not looked at
 abbrev pub Begun : ℕ → List Line → List ℕ → Type 0
 Begun n ahead left = (kept : List ℕ) × (length kept ≡ n) × OnlyBegun ahead (kept ++ left)
 
+-- the script was read to its end, and its lines met this
+pub record Reads {S : Type 0} (sight : Sight S) (met : Health) (start : Running) (script : List Line)
+    (before after : Sides S) : Type 0 where
+  pub front : Front sight start script [] before after
+  pub whole : IsWhole front.replies front.text
+  pub met_is : health_of_all front.replies ≡ met
+  pub empty : after.left ≡ []
+
 -- whole lines from the front were executed, and of those ahead no whole one was read: of the first some bytes,
 -- and behind it n bytes that were not looked at
-pub record Stops {S : Type 0} (steps : Ghosts S) (start : State) (script : List Line) (n : ℕ) (before after : Sides S)
+pub record Stops {S : Type 0} (sight : Sight S) (start : Running) (script : List Line) (n : ℕ) (before after : Sides S)
     : Type 0 where
   pub ahead : List Line
-  pub front : Front steps start script ahead before after
+  pub front : Front sight start script ahead before after
+  pub whole : IsWhole front.replies front.text
   pub begun : Begun n ahead after.left
 
+-- lines from the front were executed, and of the last one's reply n bytes written
+pub record Late {S : Type 0} (sight : Sight S) (start : Running) (script : List Line) (n : ℕ) (before after : Sides S)
+    : Type 0 where
+  pub ahead : List Line
+  pub front : Front sight start script ahead before after
+  pub cut : IsCut n front.replies front.text
+  pub rest : IsLeft ahead after.left
+
+-- memory ran out for a line or for a reply: the lines before it were executed and each reply written; or it too was
+-- executed, which met no fault, and nothing of its reply written
+pub record Starves {S : Type 0} (sight : Sight S) (start : Running) (script : List Line) (before after : Sides S)
+    : Type 0 where
+  pub ahead : List Line
+  pub front : Front sight start script ahead before after
+  pub written : IsWhole front.replies front.text
+      ⊎ ((cut : IsCut 0 front.replies front.text) × (cut.last ≡ DiskFault → ⊥))
+  pub rest : IsLeft ahead after.left
+
 -- what a run has done with these lines, by its end
-abbrev pub Outcome : {S : Type 0} → Ghosts S → RunEnd → State → List Line → Sides S → Sides S → Type 0
-Outcome steps end.Done start script before after = Front steps start script [] before after × (after.left ≡ [])
-Outcome steps end.ReadFault start script before after = Stops steps start script 0 before after
-Outcome steps (end.ScriptTooLong lines bytes) start script before after =
-    (stops : Stops steps start script 1 before after) × (lines ≡ length stops.front.lines)
-Outcome steps end.WriteFault start script before after = (n : ℕ) × Late steps start script n before after
-Outcome steps end.DiskFault start script before after = Broken steps start script DiskFault before after
-Outcome steps end.NoMemory start script before after =
-    ((ahead : List Line) × Front steps start script ahead before after × IsLeft ahead after.left)
-    ⊎ (Late steps start script 0 before after ⊎ Broken steps start script NoMemory before after)
+abbrev pub Outcome : {S : Type 0} → Sight S → RunEnd → Running → List Line → Sides S → Sides S → Type 0
+Outcome sight end.Done start script before after = Reads sight health.Sound start script before after
+Outcome sight end.ShortOfMemory start script before after = Reads sight health.Short start script before after
+Outcome sight end.DiskFault start script before after = Reads sight health.Failed start script before after
+Outcome sight end.ReadFault start script before after = Stops sight start script 0 before after
+Outcome sight (end.ScriptTooLong lines bytes) start script before after =
+    (stops : Stops sight start script 1 before after) × (lines ≡ length stops.front.lines)
+Outcome sight end.WriteFault start script before after = (n : ℕ) × Late sight start script n before after
+Outcome sight end.NoMemory start script before after = Starves sight start script before after
+
+-- a line was executed, and of its reply the first n bytes were written
+pub record Replies {S : Type 0} (sight : Sight S) (line : Line) (n : ℕ) (before after : Sides S) : Type 0 where
+  pub reply : Reply
+  pub executes : Executes sight line before.steps reply after.steps
+  pub written : after.held ≡ before.held ++ take n (text_of reply)
 
 -- one line of a run, which goes on or ends: from the lines ahead to those behind it
-abbrev pub OneLine : {S : Type 0} → Ghosts S → Result (Unit {0}) RunEnd → State → List Line → List Line
-    → Sides S → Sides S → Type 0
-OneLine steps (Ok done) state ahead behind before after = (line : Line) × (ahead ≡ line ∷ behind)
-    × ((reply : Reply) × Executes steps state line before.steps (Ok reply) after.steps
-    × (after.held ≡ before.held ++ text_of reply))
-OneLine steps (Err end.Done) state ahead behind before after = (ahead ≡ []) × (after.left ≡ []) × Stays before after
-OneLine steps (Err end.ReadFault) state ahead behind before after = Begun 0 ahead after.left × Stays before after
-OneLine steps (Err (end.ScriptTooLong lines bytes)) state ahead behind before after =
-    Begun 1 ahead after.left × Stays before after
-OneLine steps (Err end.WriteFault) state ahead behind before after = (line : Line) × (ahead ≡ line ∷ behind)
-    × ((n : ℕ) × Replies steps state line n before after) × IsLeft behind after.left
-OneLine steps (Err end.DiskFault) state ahead behind before after = (line : Line) × (ahead ≡ line ∷ behind)
-    × Breaks steps state line DiskFault before after × IsLeft behind after.left
-OneLine steps (Err end.NoMemory) state ahead behind before after =
+abbrev pub OneLine : {S : Type 0} → Sight S → Result Health Halt → List Line → List Line → Sides S → Sides S → Type 0
+OneLine sight (Ok met) ahead behind before after = (line : Line) × (ahead ≡ line ∷ behind)
+    × ((reply : Reply) × Executes sight line before.steps reply after.steps
+    × (after.held ≡ before.held ++ text_of reply) × (met ≡ health_of reply))
+OneLine sight (Err halt.End) ahead behind before after = (ahead ≡ []) × (after.left ≡ []) × Stays before after
+OneLine sight (Err halt.ReadFault) ahead behind before after = Begun 0 ahead after.left × Stays before after
+OneLine sight (Err (halt.TooLong lines bytes)) ahead behind before after = Begun 1 ahead after.left × Stays before after
+OneLine sight (Err halt.WriteFault) ahead behind before after = (line : Line) × (ahead ≡ line ∷ behind)
+    × ((n : ℕ) × Replies sight line n before after) × IsLeft behind after.left
+OneLine sight (Err halt.NoMemory) ahead behind before after =
     IsLeft behind after.left × (((ahead ≡ behind) × Stays before after)
     ⊎ ((line : Line) × (ahead ≡ line ∷ behind)
-    × (Replies steps state line 0 before after ⊎ Breaks steps state line NoMemory before after)))
+    × ((replies : Replies sight line 0 before after) × (replies.reply ≡ DiskFault → ⊥))))
 
 -- the script was too long: more than 2^40 bytes of it were taken, and the rest is left
 abbrev pub PassesLimit : ℕ → List ℕ → List ℕ → Type 0

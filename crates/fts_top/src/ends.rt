@@ -1,27 +1,112 @@
 //! How the parts of a call end. Each end has its status.
 ghost use Rattle.std.specs.Prelude.{◌≡◌};
-ghost use Rattle.fts_top.specs.Ends.{end_of_unsent, end_of_line, status_of_create};
+ghost use Rattle.fts_top.specs.Ends.{halt_of_unsent, status_of_create};
 ghost use Rattle.fts_top.specs.Ends.{status_of_opening, status_of_run};
+ghost use Rattle.fts_top.specs.Health.{end_of as the_end_of, worse as the_worse};
+ghost use Rattle.fts_top.specs.Health.{health_of as the_health_of};
 
 use crate::{Device, Status};
 use fts_engine::{CreateError, OpenError};
-use fts_sessions::Ended;
+use fts_schema::Reply;
 
 /// How the execution of a script ends.
 #[derive(Clone, Copy, Debug, PartialEq, Eq)]
 pub enum RunEnd {
-    /// The script was read to its end.
+    /// The script was read to its end, and no line was refused by a fault or for want of memory.
     Done,
-    /// Memory ran out.
+    /// The script was read to its end. A line was refused for want of memory, and none by a fault.
+    ShortOfMemory,
+    /// The script was read to its end. A device failed at a line.
+    DiskFault,
+    /// Memory ran out for the bytes of a line or of a reply.
     NoMemory,
     /// The source of the script failed.
     ReadFault,
     /// The sink of the replies failed.
     WriteFault,
-    /// The device of the database failed.
-    DiskFault,
     /// The script has more than 2^40 bytes. `lines` and `bytes` were taken.
     ScriptTooLong { lines: u64, bytes: u64 },
+}
+
+/// What the lines of a script met so far.
+#[derive(Clone, Copy, Debug, PartialEq, Eq)]
+pub enum Health {
+    /// No want of memory, and no fault.
+    Sound,
+    /// Want of memory.
+    Short,
+    /// A fault of a device.
+    Failed,
+}
+
+/// Why no more lines are executed.
+#[derive(Clone, Copy, Debug, PartialEq, Eq)]
+pub enum Halt {
+    /// There are no more.
+    End,
+    /// Memory ran out for the bytes of a line or of a reply.
+    NoMemory,
+    /// The source failed.
+    ReadFault,
+    /// The sink failed.
+    WriteFault,
+    /// The script has more than 2^40 bytes. `lines` and `bytes` were taken.
+    TooLong { lines: u64, bytes: u64 },
+}
+
+/// What a line met, by its reply.
+pub fn health_of(reply: &Reply) -> Health
+    ensures { result ≡ the_health_of reply.now }
+{
+    match reply {
+        Reply::NoMemory => Health::Short,
+        Reply::DiskFault => Health::Failed,
+        Reply::Committed { .. } => Health::Sound,
+        Reply::Found { .. } => Health::Sound,
+        Reply::Refused { .. } => Health::Sound,
+        Reply::LogFull { .. } => Health::Sound,
+        Reply::Nothing => Health::Sound,
+        Reply::Syntax { .. } => Health::Sound,
+        Reply::NoSuchTable { .. } => Health::Sound,
+        Reply::NoSuchColumn { .. } => Health::Sound,
+        Reply::WrongColumns => Health::Sound,
+        Reply::QuerySyntax { .. } => Health::Sound,
+        Reply::LineTooLong => Health::Sound,
+        Reply::Stopped { .. } => Health::Sound,
+    }
+}
+
+impl Health {
+    /// The worse of two: a fault, then want of memory.
+    pub fn worse(self, other: Health) -> Health
+        ensures { result ≡ the_worse self other }
+    {
+        match (self, other) {
+            (Health::Failed, _) => Health::Failed,
+            (Health::Short, Health::Failed) => Health::Failed,
+            (Health::Short, _) => Health::Short,
+            (Health::Sound, other) => other,
+        }
+    }
+}
+
+impl Halt {
+    /// The end of a script whose lines met this.
+    pub fn end_of(self, met: Health) -> RunEnd
+        ensures { result ≡ the_end_of self met }
+    {
+        match self {
+            Halt::End => match met {
+                Health::Sound => RunEnd::Done,
+                Health::Short => RunEnd::ShortOfMemory,
+                Health::Failed => RunEnd::DiskFault,
+            },
+            Halt::NoMemory => RunEnd::NoMemory,
+            Halt::ReadFault => RunEnd::ReadFault,
+            Halt::WriteFault => RunEnd::WriteFault,
+            Halt::TooLong { lines, bytes } => RunEnd::ScriptTooLong { lines, bytes },
+        }
+    }
 }
 
 /// How `create` ends.
@@ -48,24 +133,13 @@ pub enum Unsent {
     WriteFault,
 }
 
-impl From<Unsent> for RunEnd {
-    ghost from_gives = { λ unsent end. end ≡ end_of_unsent unsent };
+impl From<Unsent> for Halt {
+    ghost from_gives = { λ unsent halt. halt ≡ halt_of_unsent unsent };
 
     fn from(unsent: Unsent) -> Self {
         match unsent {
-            Unsent::NoMemory => RunEnd::NoMemory,
-            Unsent::WriteFault => RunEnd::WriteFault,
-        }
-    }
-}
-
-impl From<Ended> for RunEnd {
-    ghost from_gives = { λ ended end. end ≡ end_of_line ended };
-
-    fn from(ended: Ended) -> Self {
-        match ended {
-            Ended::NoMemory => RunEnd::NoMemory,
-            Ended::DiskFault => RunEnd::DiskFault,
+            Unsent::NoMemory => Halt::NoMemory,
+            Unsent::WriteFault => Halt::WriteFault,
         }
     }
 }
@@ -76,6 +150,7 @@ impl From<RunEnd> for Status {
     fn from(end: RunEnd) -> Self {
         match end {
             RunEnd::Done => Status::Done,
+            RunEnd::ShortOfMemory => Status::NoMemory,
             RunEnd::NoMemory => Status::NoMemory,
             RunEnd::ReadFault => Status::ReadFault,
             RunEnd::WriteFault => Status::WriteFault,

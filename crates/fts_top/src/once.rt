@@ -1,4 +1,4 @@
-ghost use Rattle.std.specs.Prelude.{◌≡◌, ◌⊎◌, ℕ, map, IsTrue, IfOk, IfErr, Ok, Err};
+ghost use Rattle.std.specs.Prelude.{◌≡◌, ◌⊎◌, ◌≤◌, ℕ, map, IfOk, IfErr, Ok};
 ghost use Rattle.std.specs.String.{string_bytes};
 ghost use Rattle.fts_faults.specs.Count.{CountsFault};
 ghost use Rattle.fts_types.specs.declared.settings.Settings.{Settings};
@@ -7,7 +7,7 @@ ghost use Rattle.fts_types.specs.Limits.{standard_limits};
 ghost use Rattle.fts_args.specs.Asked.{Asks};
 ghost use Rattle.fts_args.specs.declared.command.Command.{Command};
 ghost use Rattle.fts_engine.specs.Bounds.{AreWithin};
-ghost use Rattle.fts_top.specs.Once.{outside, sink_seen, device_seen, CreateEnds, Creates};
+ghost use Rattle.fts_top.specs.Once.{outside, sink_seen, CreateEnds, Creates};
 ghost use Rattle.fts_top.specs.Once.{Executed, RunEnds, Unopened};
 ghost use Rattle.fts_top.specs.Once.{CountsFaults, NoneRose, CanFinish, Finishes};
 
@@ -33,18 +33,15 @@ pub(crate) fn run_script<I: Source, O: Sink, D: Disk, G: Gate>(
     gate: &G,
 ) -> (Result<RunEnd, OpenError>, D)
     requires { AreWithin standard_limits limits }
-    ensures executed { IfOk result.0 (λ end. Executed limits end
-        (outside I.Source O.Sink D.Disk input.old out.old rows)
-        (outside I.Source O.Sink D.Disk input.new out.new result.1)) }
-    ensures unopened { IfErr result.0 (λ error. Unopened error
-        ((input.new ≡ input.old) × (out.new ≡ out.old))
-        (device_seen D.Disk rows) (device_seen D.Disk result.1)) }
+    ensures executed { IfOk result.0 (λ end. Executed D.Disk limits end
+        (outside I.Source O.Sink input.old out.old rows)
+        (outside I.Source O.Sink input.new out.new result.1)) }
+    ensures unopened { IfErr result.0 (λ error. Unopened D.Disk error
+        ((input.new ≡ input.old) × (out.new ≡ out.old)) rows result.1) }
     ensures read { CountsFault (result.0 ≡ Ok RunEnd.ReadFault)
         (I.faults input.old) (I.faults input.new) }
     ensures write { CountsFault (result.0 ≡ Ok RunEnd.WriteFault)
         (O.faults out.old) (O.faults out.new) }
-    ensures disk { CountsFault ((result.0 ≡ Ok RunEnd.DiskFault)
-        ⊎ (result.0 ≡ Err OpenError.DiskFault)) (D.faults rows) (D.faults result.1) }
 {
     match open_engine(alloc, rows, limits) {
         Ok(engine) => {
@@ -65,9 +62,8 @@ fn create<O: Sink, D: Disk>(
     rows: D,
 ) -> (CreateEnd, D)
     requires { AreSettings settings.now }
-    ensures creates { Creates result.0 settings.now (out.new ≡ out.old)
-        (sink_seen O.Sink out.old) (sink_seen O.Sink out.new)
-        (device_seen D.Disk rows) (device_seen D.Disk result.1) }
+    ensures creates { Creates D.Disk result.0 settings.now (out.new ≡ out.old)
+        (sink_seen O.Sink out.old) (sink_seen O.Sink out.new) rows result.1 }
     ensures write { CountsFault (result.0 ≡ CreateEnd.WriteFault)
         (O.faults out.old) (O.faults out.new) }
     ensures disk { CountsFault (result.0 ≡ CreateEnd.DiskFault)
@@ -109,21 +105,22 @@ pub fn fts_once<I: Source, O: Sink, D: Disk, E: Disk, G: Gate>(
     // What each command has done, by its status.
     ensures creates { (settings : Settings)
         → Asks (map string_bytes words.now) (Command.Create settings)
-        → (input.new ≡ input.old) × CreateEnds result.0 settings (out.new ≡ out.old)
-        (outside I.Source O.Sink D.Disk input.old out.old rows)
-        (outside I.Source O.Sink D.Disk input.new out.new result.1) }
-    ensures runs { Asks (map string_bytes words.now) Command.Run → RunEnds standard_limits result.0
+        → (input.new ≡ input.old) × CreateEnds D.Disk result.0 settings (out.new ≡ out.old)
+        (outside I.Source O.Sink input.old out.old rows)
+        (outside I.Source O.Sink input.new out.new result.1) }
+    ensures runs { Asks (map string_bytes words.now) Command.Run → RunEnds D.Disk
+        standard_limits result.0
         ((input.new ≡ input.old) × (out.new ≡ out.old))
-        (outside I.Source O.Sink D.Disk input.old out.old rows)
-        (outside I.Source O.Sink D.Disk input.new out.new result.1) }
+        (outside I.Source O.Sink input.old out.old rows)
+        (outside I.Source O.Sink input.new out.new result.1) }
 
-    // When a fault is told, and that all is done without one, but for want of memory.
-    ensures faults { CountsFaults result.0 (outside I.Source O.Sink D.Disk input.old out.old rows)
-        (outside I.Source O.Sink D.Disk input.new out.new result.1) }
-    ensures complete { CanFinish (map string_bytes words.now)
-        (outside I.Source O.Sink D.Disk input.old out.old rows)
-        → NoneRose (outside I.Source O.Sink D.Disk input.old out.old rows)
-        (outside I.Source O.Sink D.Disk input.new out.new result.1)
+    // When a stream's fault is told, and that without any all is done, but for want of memory.
+    ensures faults { CountsFaults result.0 (outside I.Source O.Sink input.old out.old rows)
+        (outside I.Source O.Sink input.new out.new result.1) }
+    ensures complete { CanFinish D.Disk (map string_bytes words.now)
+        (outside I.Source O.Sink input.old out.old rows)
+        → NoneRose D.Disk (outside I.Source O.Sink input.old out.old rows)
+        (outside I.Source O.Sink input.new out.new result.1)
         → Finishes result.0 }
 
     ensures index { result.2 ≡ index }

@@ -1,18 +1,20 @@
-ghost use Rattle.std.specs.Prelude.{◌≡◌, ◌^◌, ◌<◌, ◌≤◌, ◌+◌, ℕ, [], length, IsTrue, IsOk, Err};
+ghost use Rattle.std.specs.Prelude.{◌≡◌, ◌^◌, ◌<◌, ◌≤◌, ◌+◌, ℕ, [], length, IsTrue, IsOk, Ok, Err};
 ghost use Rattle.fts_faults.specs.Count.{CountsFault};
 ghost use Rattle.fts_io.specs.Text.{lines_of};
 ghost use Rattle.fts_io.specs.Reading.{ahead, given_by, taken_by, work_left};
-ghost use Rattle.fts_steps.specs.State.{State};
+ghost use Rattle.fts_steps.specs.Running.{Running};
+ghost use Rattle.fts_top.specs.Health.{IsRead};
 ghost use Rattle.fts_top.specs.Run.{Outcome, OneLine, PassesLimit, Sends, sides};
 
-use crate::ends::{RunEnd, Unsent};
+use crate::ends::{Halt, Health, RunEnd, Unsent, health_of};
 use fts_io::{Gate, Lines, Next, Sink, Source, write_whole};
-use fts_schema::{Reply, reply_text};
+use fts_schema::{Reply, fixed_text, reply_text};
 use fts_sessions::{EngineSteps, Session};
 use std::alloc::Global;
 
 /// Executes the lines of the source in order. Each reply is written before the next line is
-/// executed.
+/// executed. A refused line ends nothing, also where it is refused for want of memory or by a fault
+/// of a device.
 pub fn run<I: Source, O: Sink, S: EngineSteps, G: Gate>(
     alloc: Global,
     input: &mut I,
@@ -20,35 +22,37 @@ pub fn run<I: Source, O: Sink, S: EngineSteps, G: Gate>(
     steps: &mut S,
     gate: &G,
 ) -> RunEnd
-    ensures runs { IsTrue I.tells → IsTrue O.tells → IsTrue S.tells → (start : State)
-        → S.stands start steps.old
-        → Outcome S.EngineSteps result start (lines_of (I.left input.old))
+    ensures runs { IsTrue I.tells → IsTrue O.tells → (start : Running)
+        → S.sight.stands start steps.old
+        → Outcome S.sight result start (lines_of (I.left input.old))
         (sides (I.left input.old) (O.holds out.old) steps.old)
         (sides (I.left input.new) (O.holds out.new) steps.new) }
     ensures read { CountsFault (result ≡ RunEnd.ReadFault) (I.faults input.old)
         (I.faults input.new) }
     ensures write { CountsFault (result ≡ RunEnd.WriteFault) (O.faults out.old) (O.faults out.new) }
-    ensures disk { CountsFault (result ≡ RunEnd.DiskFault) (S.faults steps.old)
-        (S.faults steps.new) }
+    ensures disk { IsRead result → CountsFault (result ≡ RunEnd.DiskFault)
+        (S.sight.faults steps.old) (S.sight.faults steps.new) }
+    ensures never_falls { S.sight.faults steps.old ≤ S.sight.faults steps.new }
     ensures too_long { (lines bytes : ℕ) → result ≡ RunEnd.ScriptTooLong lines bytes
         → IsTrue I.tells
         → PassesLimit bytes (I.left input.old) (I.left input.new) }
-    ensures whole { IsTrue I.tells → result ≡ RunEnd.Done → length (I.left input.old) ≤ 2 ^ 40 }
+    ensures whole { IsTrue I.tells → IsRead result → length (I.left input.old) ≤ 2 ^ 40 }
 {
     let mut lines = match Lines::new(alloc) {
         Ok(lines) => lines,
         Err(_) => return RunEnd::NoMemory,
     };
     let mut session = Session::new(alloc, 1);
+    let mut met = Health::Sound;
     'lines: loop {
         match one_line(alloc, &mut lines, input, out, &mut session, steps, gate) {
-            Ok(()) => {}
-            Err(end) => return end,
+            Ok(now) => met = met.worse(now),
+            Err(halt) => return halt.end_of(met),
         }
     }
 }
 
-// Reads a line, executes it and writes its reply; or tells how the run ends.
+// Reads a line, executes it and writes its reply: what it met, or why no more lines are executed.
 fn one_line<I: Source, O: Sink, S: EngineSteps, G: Gate>(
     alloc: Global,
     lines: &mut Lines,
@@ -57,54 +61,68 @@ fn one_line<I: Source, O: Sink, S: EngineSteps, G: Gate>(
     session: &mut Session,
     steps: &mut S,
     gate: &G,
-) -> Result<(), RunEnd>
-    ensures line { IsTrue I.tells → IsTrue O.tells → IsTrue S.tells → (state : State)
-        → S.stands state steps.old
-        → OneLine S.EngineSteps result state
+) -> Result<Health, Halt>
+    ensures line { IsTrue I.tells → IsTrue O.tells → OneLine S.sight result
         (ahead lines.old (I.left input.old)) (ahead lines.new (I.left input.new))
         (sides (I.left input.old) (O.holds out.old) steps.old)
         (sides (I.left input.new) (O.holds out.new) steps.new) }
-    ensures limits { S.limits steps.new ≡ S.limits steps.old }
     ensures progress { IsOk result → work_left lines.new < work_left lines.old }
     ensures counts { IsTrue I.tells
         → taken_by lines.new + length (I.left input.new)
         ≡ taken_by lines.old + length (I.left input.old) }
-    ensures read { CountsFault (result ≡ Err RunEnd.ReadFault)
+    ensures read { CountsFault (result ≡ Err Halt.ReadFault)
         (I.faults input.old) (I.faults input.new) }
-    ensures write { CountsFault (result ≡ Err RunEnd.WriteFault)
+    ensures write { CountsFault (result ≡ Err Halt.WriteFault)
         (O.faults out.old) (O.faults out.new) }
-    ensures disk { CountsFault (result ≡ Err RunEnd.DiskFault)
-        (S.faults steps.old) (S.faults steps.new) }
+    ensures disk { (result ≡ Err Halt.WriteFault → ⊥) → CountsFault (result ≡ Ok Health.Failed)
+        (S.sight.faults steps.old) (S.sight.faults steps.new) }
+    ensures never_falls { S.sight.faults steps.old ≤ S.sight.faults steps.new }
     ensures given { IsOk result → given_by lines.new ≡ given_by lines.old + 1 }
-    ensures too_long { (number bytes : ℕ) → result ≡ Err (RunEnd.ScriptTooLong number bytes)
+    ensures too_long { (number bytes : ℕ) → result ≡ Err (Halt.TooLong number bytes)
         → (number ≡ given_by lines.old) × (bytes ≡ taken_by lines.new) × (2 ^ 40 < bytes) }
-    ensures whole { IsTrue I.tells → result ≡ Err RunEnd.Done
+    ensures whole { IsTrue I.tells → result ≡ Err Halt.End
         → (I.left input.new ≡ []) × (taken_by lines.new ≤ 2 ^ 40) }
 {
     match lines.next_line(input) {
-        Next::Line(line) => match session.execute(steps, gate, &line) {
-            Ok(reply) => match send(alloc, out, &reply) {
-                Ok(()) => Ok(()),
-                Err(unsent) => Err(RunEnd::from(unsent)),
-            },
-            Err(ended) => Err(RunEnd::from(ended)),
-        },
+        Next::Line(line) => {
+            let reply = session.execute(steps, gate, &line);
+            match send(alloc, out, &reply) {
+                Ok(()) => Ok(health_of(&reply)),
+                Err(unsent) => Err(Halt::from(unsent)),
+            }
+        }
         Next::TooLong { line: _ } => match send(alloc, out, &Reply::LineTooLong) {
-            Ok(()) => Ok(()),
-            Err(unsent) => Err(RunEnd::from(unsent)),
+            Ok(()) => Ok(Health::Sound),
+            Err(unsent) => Err(Halt::from(unsent)),
         },
-        Next::End => Err(RunEnd::Done),
-        Next::Endless { bytes } => Err(RunEnd::ScriptTooLong {
+        Next::End => Err(Halt::End),
+        Next::Endless { bytes } => Err(Halt::TooLong {
             lines: lines.given(),
             bytes,
         }),
-        Next::ReadFault => Err(RunEnd::ReadFault),
-        Next::NoMemory => Err(RunEnd::NoMemory),
+        Next::ReadFault => Err(Halt::ReadFault),
+        Next::NoMemory => Err(Halt::NoMemory),
     }
 }
 
-// Writes a reply.
+// Writes a reply. That of a fault takes no memory.
 fn send<O: Sink>(alloc: Global, out: &mut O, reply: &Reply) -> Result<(), Unsent>
+    ensures sends { IsTrue O.tells → Sends result reply.now (O.holds out.old) (O.holds out.new) }
+    ensures fault { result ≡ Err Unsent.NoMemory → reply.now ≡ Reply.DiskFault → ⊥ }
+    ensures write { CountsFault (result ≡ Err Unsent.WriteFault)
+        (O.faults out.old) (O.faults out.new) }
+{
+    match fixed_text(reply) {
+        Some(text) => match write_whole(out, text.as_bytes()) {
+            Ok(()) => Ok(()),
+            Err(_) => Err(Unsent::WriteFault),
+        },
+        None => send_written(alloc, out, reply),
+    }
+}
+
+// Writes a reply with a number or a name.
+fn send_written<O: Sink>(alloc: Global, out: &mut O, reply: &Reply) -> Result<(), Unsent>
     ensures sends { IsTrue O.tells → Sends result reply.now (O.holds out.old) (O.holds out.new) }
     ensures write { CountsFault (result ≡ Err Unsent.WriteFault)
         (O.faults out.old) (O.faults out.new) }

@@ -31,6 +31,12 @@ fn numbers_are_told(rt: HostRuntime) -> Result<(), Fail> {
         (Reply::LineTooLong, "ERROR line too long\n"),
         (Reply::Nothing, ""),
         (Reply::WrongColumns, "ERROR columns and values do not fit\n"),
+        (Reply::NoMemory, "ERROR no memory\n"),
+        (Reply::DiskFault, "ERROR disk fault\n"),
+        (
+            Reply::Stopped { faults: 1 },
+            "ERROR stopped after 1 disk faults\n",
+        ),
     ] {
         tells(&rt, alloc, reply, wanted)?;
     }

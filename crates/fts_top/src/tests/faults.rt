@@ -47,44 +47,63 @@ fn each_failing_call_of_create_ends_it_with_a_disk_fault(rt: HostRuntime) -> Res
     Ok(())
 }
 
-/// Calls of the device by which an INSERT fails, how many bytes of file 0 it leaves, and what a
-/// search then finds.
-const INSERT_FAULTS: [(Kind, u64, usize, &str); 8] = [
-    (Kind::Sync, 1, 34, "OK as of 0: none\n"),
-    (Kind::Len, 1, 34, "OK as of 0: none\n"),
-    (Kind::Read, 1, 34, "OK as of 0: none\n"),
-    (Kind::Read, 2, 34, "OK as of 0: none\n"),
-    (Kind::Write, 1, 34, "OK as of 0: none\n"),
-    (Kind::Sync, 2, 63, "OK as of 0: none\n"),
-    (Kind::Write, 2, 63, "OK as of 0: none\n"),
-    (Kind::Sync, 3, 63, "OK as of 1: 1\n"),
+const FAULT: &str = "ERROR disk fault\n";
+
+/// Calls of the device by which a run of an INSERT fails: what the run writes, how many bytes of
+/// file 0 it leaves, and what a search then finds. The first four are calls of the opening.
+const INSERT_FAULTS: [(Kind, u64, &str, usize, &str); 8] = [
+    (Kind::Sync, 1, "", 34, "OK as of 0: none\n"),
+    (Kind::Len, 1, "", 34, "OK as of 0: none\n"),
+    (Kind::Read, 1, "", 34, "OK as of 0: none\n"),
+    (Kind::Read, 2, "", 34, "OK as of 0: none\n"),
+    (Kind::Write, 1, FAULT, 34, "OK as of 0: none\n"),
+    (Kind::Sync, 2, FAULT, 63, "OK as of 0: none\n"),
+    (Kind::Write, 2, FAULT, 63, "OK as of 0: none\n"),
+    (Kind::Sync, 3, FAULT, 63, "OK as of 1: 1\n"),
 ];
 
-/// A run ends with a disk fault at one call of the device, and leaves so many bytes, in which a
-/// search finds this.
+/// A run ends with a disk fault where one call of the device fails: it writes this, and leaves so
+/// many bytes, in which a search finds this.
 fn insert_fails(
     rt: &impl Abort,
     alloc: Global,
     fails: (Kind, u64),
+    text: &str,
     left: usize,
     found: &str,
 ) -> Result<(), Fail> {
     let made = created(alloc)?;
     let device = failing(alloc, made.file(0), fails)?;
     let run = call(alloc, RUN, INSERT.as_bytes(), device)?;
-    ended(rt, &run, &Status::DiskFault, "", "an INSERT");
+    ended(rt, &run, &Status::DiskFault, text, "an INSERT");
     assert_eq!(rt; run.rows.file(0).len(), left, "{fails:?}");
     finds(rt, alloc, run.rows.file(0), found)
 }
 
 #[test]
-fn each_failing_call_of_an_insert_ends_the_run_with_a_disk_fault(
-    rt: HostRuntime,
-) -> Result<(), Fail> {
-    for (kind, number, left, found) in INSERT_FAULTS {
-        insert_fails(&rt, rt.alloc(), (kind, number), left, found)?;
+fn each_failing_call_of_an_insert_is_the_status_of_the_run(rt: HostRuntime) -> Result<(), Fail> {
+    for (kind, number, text, left, found) in INSERT_FAULTS {
+        insert_fails(&rt, rt.alloc(), (kind, number), text, left, found)?;
     }
     Ok(())
+}
+
+/// Three INSERTs and a search.
+const THREE: &str = "INSERT INTO docs (id, body) VALUES (1, 'apple pie')\n\
+    INSERT INTO docs (id, body) VALUES (2, 'apple pie')\n\
+    INSERT INTO docs (id, body) VALUES (3, 'apple pie')\n\
+    SELECT FTS_DOC_ID FROM docs WHERE MATCH (body) AGAINST ('pie' IN BOOLEAN MODE)\n";
+
+const STOPPED: &str =
+    "OK commit 1\nERROR disk fault\nERROR stopped after 1 disk faults\nOK as of 1: 1\n";
+
+#[test]
+fn a_run_goes_on_behind_a_fault_and_takes_no_commit(rt: HostRuntime) -> Result<(), Fail> {
+    let made = created(rt.alloc())?;
+    let device = failing(rt.alloc(), made.file(0), (Kind::Sync, 5))?;
+    let run = call(rt.alloc(), RUN, THREE.as_bytes(), device)?;
+    ended(&rt, &run, &Status::DiskFault, STOPPED, "the second INSERT");
+    finds(&rt, rt.alloc(), run.rows.file(0), "OK as of 2: 1 2\n")
 }
 
 /// An INSERT and a search, of which the second read, behind nine bytes of the search, fails.
@@ -102,6 +121,17 @@ fn a_failed_read_ends_the_run_behind_the_whole_lines_before(rt: HostRuntime) -> 
     let run = call_over(rt.alloc(), RUN, source, sink, created(rt.alloc())?)?;
     ended(&rt, &run, &Status::ReadFault, "OK commit 1\n", "a read");
     finds(&rt, rt.alloc(), run.rows.file(0), "OK as of 1: 1\n")
+}
+
+#[test]
+fn a_failed_read_is_told_before_a_disk_fault(rt: HostRuntime) -> Result<(), Fail> {
+    let source = failing_source(rt.alloc())?;
+    let sink = MemSink::new(rt.alloc(), Vec::new(rt.alloc()));
+    let made = created(rt.alloc())?;
+    let device = failing(rt.alloc(), made.file(0), (Kind::Write, 1))?;
+    let run = call_over(rt.alloc(), RUN, source, sink, device)?;
+    ended(&rt, &run, &Status::ReadFault, FAULT, "a read");
+    Ok(())
 }
 
 /// A sink that takes seven bytes, and then fails.

@@ -1,5 +1,5 @@
-use Rattle.std.proofs.Common.{◌≡◌, ℕ, List, ◌<◌, sym, ap, ◌∙◌, arith}
-use Rattle.std.specs.Prelude.{Err, length}
+use Rattle.std.proofs.Common.{◌≡◌, ℕ, List, sym, ap, ◌∙◌, arith}
+use Rattle.std.specs.Prelude.{Err}
 use Rattle.fts_log.specs.Record.{gate_at}
 use Rattle.fts_log.specs.Records.{records_magic}
 use Rattle.fts_log.proofs.Reading.{as_many}

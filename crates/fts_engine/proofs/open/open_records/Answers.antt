@@ -1,21 +1,24 @@
-use Rattle.std.proofs.Common.{◌≡◌, ℕ, ◌<◌, List, [], length, inl, inr, ap, sym, subst, ◌∙◌, map, arith}
+use Rattle.std.proofs.Common.{◌≡◌, ℕ, List, inr, ap, sym, subst, ◌∙◌, refl, arith}
 use Rattle.std.proofs.lemmas.Result.{IfErr-weaker}
 use Rattle.fts_types.specs.declared.limits.Limits.{Limits}
 use Rattle.fts_types.specs.Limits.{standard_limits}
 use Rattle.fts_disk.specs.Device.{Files}
 use Rattle.fts_log.specs.Record.{IsLog, IsBrokenBehind, log_end}
 use Rattle.fts_log.specs.Log.{StandsFor, device_of}
-use Rattle.fts_log.specs.Records.{Hold, records_device, records_magic}
+use Rattle.fts_log.specs.Records.{records_device}
 use Rattle.fts_log.specs.Scan.{IsFoundIn}
 use Rattle.fts_log.proofs.Reading.{as_many}
 use Rattle.fts_steps.specs.State.{rows_magic, IsCreated}
 use Rattle.fts_engine.specs.Bounds.{AreWithin}
-use Rattle.std.specs.Prelude.{IsTrue, Err}
+use Rattle.std.specs.Prelude.{IsTrue, Err, None}
 use Rattle.fts_steps.specs.Fault.{IsFaultAt}
 use Rattle.fts_engine.specs.Opening.{IsDamaged, IsNoDatabase}
 use Rattle.fts_engine.specs.Loading.{IsWrongEntry}
 use Rattle.fts_engine.specs.declared.error.OpenError.TheVariants.{Damaged}
 use Rattle.fts_engine.proofs.Gates.{closed_not_created, none_torn, broken_no_database, wrong_damaged, torn_damaged}
+use Rattle.fts_steps.specs.Running.{opened}
+use Rattle.fts_engine.specs.Stands.{Keeps}
+use Rattle.fts_engine.proofs.Committing.{on_device}
 use Rattle.fts_engine.proofs.Loading.{loaded_all}
 use Rattle.fts_engine.proofs.open.open_records.Goals as goal
 
@@ -51,20 +54,25 @@ returns-in-Ok-into_log-clause-opened g c told =
     let loaded = c.in-Ok-load.ensures.loaded told all (c.requires.ready told).1 in
     let stands = c.in-Ok-into_log.ensures.whole told all holds in
     let whole = loaded_all all c.in-Ok-load.kept loaded in
-    let magic = c.in-Ok-into_log.ensures.kept.0 ∙ c.in-Ok-load.ensures.same.magic ∙ c.requires.magic in (
+    let magic = c.in-Ok-into_log.ensures.kept.0 ∙ c.in-Ok-load.ensures.same.magic ∙ c.requires.magic in
+    let keeps : Keeps loaded.state (record { alloc = c.args.alloc; log = c.in-Ok-into_log.log; kept = c.set_limits.new.self; stopped = None }) =
+    record {
+      sound = loaded.sound;
+      settings = loaded.same ∙ sym c.set_limits.ensures.settings;
+      rows = c.set_limits.ensures.rows ∙ loaded.rows;
+      within = subst (λ (l : Limits). AreWithin standard_limits l) (sym c.set_limits.ensures.limits) c.requires.within;
+      count = stands.count ∙ sym loaded.count;
+      «end» = stands.«end» ∙ ap (λ (magic : List ℕ). log_end magic all) magic ∙ ap (log_end rows_magic) (sym whole);
+      limit = c.in-Ok-into_log.ensures.kept.1 ∙ ap (λ (l : Limits). l.log_bytes) (sym c.set_limits.ensures.limits);
+      magic = magic;
+    } in
+    let entries = subst (λ (entries : List (List ℕ)). StandsFor entries c.in-Ok-into_log.log) (sym whole) stands in (
       loaded.state,
       record {
-        keeps = record {
-          sound = loaded.sound;
-          settings = loaded.same ∙ sym c.set_limits.ensures.settings;
-          rows = c.set_limits.ensures.rows ∙ loaded.rows;
-          within = subst (λ (l : Limits). AreWithin standard_limits l) (sym c.set_limits.ensures.limits) c.requires.within;
-          count = stands.count ∙ sym loaded.count;
-          «end» = stands.«end» ∙ ap (λ (magic : List ℕ). log_end magic all) magic ∙ ap (log_end rows_magic) (sym whole);
-          limit = c.in-Ok-into_log.ensures.kept.1 ∙ ap (λ (l : Limits). l.log_bytes) (sym c.set_limits.ensures.limits);
-          magic = magic;
-        };
-        log = subst (λ (entries : List (List ℕ)). StandsFor entries c.in-Ok-into_log.log) (sym whole) stands;
+        keeps = keeps;
+        stopped = refl;
+        logs = λ again going. record { entries = entries; sure = refl };
+        device = λ again. on_device (opened loaded.state) _ keeps entries;
       },
     )
 

@@ -1,4 +1,4 @@
-use Rattle.std.proofs.Common.{◌≡◌, sym, subst}
+use Rattle.std.proofs.Common.{◌≡◌, subst}
 use Rattle.fts_engine.proofs.Gates.{fault_damaged}
 use Rattle.fts_engine.specs.Opening.{IsDamaged}
 use Rattle.fts_engine.proofs.open.tell_damage.Goals as goal

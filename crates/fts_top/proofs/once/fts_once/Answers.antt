@@ -1,10 +1,10 @@
-use Rattle.std.proofs.Common.{◌≡◌, map, refl, subst, ⊎_elim}
+use Rattle.std.proofs.Common.{◌≡◌, map, refl, subst, ⊎_elim, arith}
 use Rattle.std.specs.String.{string_bytes}
 use Rattle.fts_types.specs.declared.settings.Settings.{Settings}
 use Rattle.fts_args.specs.Asked.{Asks}
 use Rattle.fts_args.specs.declared.command.Command.TheVariants.{Create, Run}
 use Rattle.fts_top.specs.declared.ends.CreateEnd.TheVariants.{NoMemory}
-use Rattle.fts_top.specs.Once.{Creates, sink_seen, device_seen}
+use Rattle.fts_top.specs.Once.{Creates, sink_seen}
 use Rattle.fts_top.proofs.Asking.{not_asked, is_asked, one_settings}
 use Rattle.fts_top.proofs.once.fts_once.Goals as goal
 
@@ -27,15 +27,15 @@ returns-in-Ok-Some-Create-clause-unasked g c none = absurd (none (Create c.in-Ok
 pub returns-in-Ok-Some-Create-clause-creates : goal.returns-in-Ok-Some-Create-clause-creates
 returns-in-Ok-Some-Create-clause-creates g c settings asks = (
   refl,
-  (
-    c.create-end.result.0,
-    c.from.ensures,
-    subst (λ (s : Settings). Creates c.create-end.result.0 s (c.create-end.new.out ≡ c.args.out.now)
-        (sink_seen g.O.Sink c.args.out.now) (sink_seen g.O.Sink c.create-end.new.out)
-        (device_seen g.D.Disk c.args.rows) (device_seen g.D.Disk c.create-end.result.1))
+  record {
+    end = c.create-end.result.0;
+    told = c.from.ensures;
+    creates = subst (λ (s : Settings). Creates g.D.Disk c.create-end.result.0 s (c.create-end.new.out ≡ c.args.out.now)
+        (sink_seen g.O.Sink c.args.out.now) (sink_seen g.O.Sink c.create-end.new.out) c.args.rows c.create-end.result.1)
         (one_settings (map string_bytes c.args.words.now) c.in-Ok-Some-Create.settings settings (is_asked (Asks (map string_bytes c.args.words.now)) c.in-Ok-Some-Create.field-0 c.in-Ok-Some-Create.field-0-0 (Create c.in-Ok-Some-Create.settings) c.in-Ok-Some-Create.field-0-is c.in-Ok-Some-Create.field-0-0-is c.in-Ok-Some-Create.ensures.found) asks)
-        c.create-end.ensures.creates,
-  ),
+        c.create-end.ensures.creates;
+    fault = c.create-end.ensures.disk;
+  },
 )
 
 pub returns-in-Ok-clause-unasked : goal.returns-in-Ok-clause-unasked
@@ -45,4 +45,12 @@ pub returns-in-Err-end-clause-unasked : goal.returns-in-Err-end-clause-unasked
 returns-in-Err-end-clause-unasked g c none = absurd (none Run (is_asked (Asks (map string_bytes c.args.words.now)) c.in-Ok-Some-Run.field-0 c.in-Ok-Some-Run.field-0-0 Run c.in-Ok-Some-Run.field-0-is c.in-Ok-Some-Run.field-0-0-is c.in-Ok-Some-Run.ensures.found))
 
 pub returns-in-Err-clause-creates : goal.returns-in-Err-clause-creates
-returns-in-Err-clause-creates g c settings asks = (refl, (NoMemory, refl, (refl, refl)))
+returns-in-Err-clause-creates g c settings asks = (
+  refl,
+  record {
+    end = NoMemory;
+    told = refl;
+    creates = (refl, refl);
+    fault = record { rose = λ is. absurd cc; calm = λ no. refl; never_falls = omega arith };
+  },
+)

@@ -1,57 +1,78 @@
-use Rattle.std.proofs.Common.{arith, inl, refl, ap, sym, ◌∙◌, []}
+use Rattle.std.proofs.Common.{◌≡◌, arith, inl, refl, ap, sym, subst, ◌∙◌, []}
 use Rattle.std.specs.Prelude.{Err}
 use Rattle.fts_io.specs.Text.{lines_of}
 use Rattle.fts_io.specs.Reading.{ahead, given_by}
-use Rattle.fts_steps.specs.Step.{after_all}
-use Rattle.fts_top.specs.Run.{sides}
-use Rattle.fts_top.proofs.Fronts.{nothing_yet, on, numbered, ends}
+use Rattle.fts_top.specs.declared.ends.RunEnd.{RunEnd}
+use Rattle.fts_top.specs.Run.{sides, Outcome}
+use Rattle.fts_top.proofs.Fronts.{nothing_yet, again, goes_on, ends}
+use Rattle.fts_faults.specs.Count.{CountsFault}
+use Rattle.fts_top.specs.declared.ends.Health.{Health}
+use Rattle.fts_top.specs.declared.ends.Health.TheVariants.{Failed}
+use Rattle.fts_top.proofs.Health.{counted_more, counted_line}
 use Rattle.fts_top.proofs.script.run.Goals as goal
 
 pub returns-in-Err-clause-runs : goal.returns-in-Err-clause-runs
-returns-in-Err-clause-runs g c tells_input tells_out tells_steps start stands =
+returns-in-Err-clause-runs g c tells_input tells_out start stands =
     let left = g.I.Source.left c.args.input.now in
-    inl (lines_of left, nothing_yet g.S.EngineSteps start (lines_of left) (sides left (g.O.Sink.holds c.args.out.now) c.args.steps.now) stands, ([], [], refl))
+    record {
+      ahead = lines_of left;
+      front = nothing_yet g.S.EngineSteps.sight start (lines_of left) (sides left (g.O.Sink.holds c.args.out.now) c.args.steps.now) stands;
+      written = inl refl;
+      rest = ([], [], refl);
+    }
 
 pub lines-init : goal.lines-init
 lines-init g c = record {
-  front = λ tells_input tells_out tells_steps start stands.
+  front = λ tells_input tells_out start stands.
       let left = g.I.Source.left c.args.input.now in
-      let here = sides left (g.O.Sink.holds c.args.out.now) c.args.steps.now in (
-        on g.S.EngineSteps start (lines_of left) (lines_of left) (ahead c.in-Ok.lines left) here here
-            (nothing_yet g.S.EngineSteps start (lines_of left) here stands) (sym (c.in-Ok.ensures.lines left)),
-        sym c.in-Ok.ensures.given,
-      );
+      let here = sides left (g.O.Sink.holds c.args.out.now) c.args.steps.now in
+      record {
+        front = again g.S.EngineSteps.sight start (lines_of left) (lines_of left) (ahead c.in-Ok.lines left) here here here
+            (nothing_yet g.S.EngineSteps.sight start (lines_of left) here stands) (sym (c.in-Ok.ensures.lines left)) (record { unwritten = refl; unmade = refl });
+        whole = refl;
+        met_is = refl;
+        counted = sym c.in-Ok.ensures.given;
+      };
   counts = λ tells. omega (arith, c.in-Ok.ensures.taken);
   input_calm = refl;
   out_calm = refl;
-  steps_calm = refl;
+  steps_counted = record { rose = λ is. absurd cc; calm = λ no. refl; never_falls = omega arith };
 }
 
 pub lines-preserved : goal.lines-preserved
 lines-preserved g c = record {
-  front = λ tells_input tells_out tells_steps start stands.
-      let front = c.lines.invariant.front tells_input tells_out tells_steps start stands in
-      numbered g.S.EngineSteps start (lines_of (g.I.Source.left c.args.input.now))
+  front = λ tells_input tells_out start stands.
+      goes_on g.S.EngineSteps.sight start (lines_of (g.I.Source.left c.args.input.now))
       (ahead c.lines.lines (g.I.Source.left c.lines.input)) (ahead c.one_line.new.lines (g.I.Source.left c.one_line.new.input))
+      c.lines.met c.in-Ok-one_line.now c.worse-met.result (given_by c.lines.lines) (given_by c.one_line.new.lines)
       (sides (g.I.Source.left c.args.input.now) (g.O.Sink.holds c.args.out.now) c.args.steps.now)
       (sides (g.I.Source.left c.lines.input) (g.O.Sink.holds c.lines.out) c.lines.steps)
-      (sides (g.I.Source.left c.one_line.new.input) (g.O.Sink.holds c.one_line.new.out) c.one_line.new.steps) front.0
-      (c.in-Ok-one_line.ensures.line tells_input tells_out tells_steps (after_all start front.0.calls) front.0.stands)
-      c.one_line.ensures.limits
-      (given_by c.lines.lines) (given_by c.one_line.new.lines) front.1 (c.in-Ok-one_line.ensures.given refl);
+      (sides (g.I.Source.left c.one_line.new.input) (g.O.Sink.holds c.one_line.new.out) c.one_line.new.steps)
+      (c.lines.invariant.front tells_input tells_out start stands) (c.in-Ok-one_line.ensures.line tells_input tells_out)
+      c.worse-met.ensures (c.in-Ok-one_line.ensures.given refl);
   counts = λ tells. let one = c.one_line.ensures.counts tells in let old = c.lines.invariant.counts tells in omega arith;
   input_calm = c.one_line.ensures.read.calm (λ e. let is = c.in-Ok-one_line.is in cc) ∙ c.lines.invariant.input_calm;
   out_calm = c.one_line.ensures.write.calm (λ e. let is = c.in-Ok-one_line.is in cc) ∙ c.lines.invariant.out_calm;
-  steps_calm = c.one_line.ensures.disk.calm (λ e. let is = c.in-Ok-one_line.is in cc) ∙ c.lines.invariant.steps_calm;
+  steps_counted =
+      let sight = g.S.EngineSteps.sight in
+      let old = sight.faults c.args.steps.now in
+      let mid = sight.faults c.lines.steps in
+      let new = sight.faults c.one_line.new.steps in
+      subst (λ (h : Health). CountsFault (h ≡ Failed) old new) (sym c.worse-met.ensures)
+      (counted_more c.lines.met c.in-Ok-one_line.now old mid new c.lines.invariant.steps_counted
+      (counted_line c.in-Ok-one_line.now mid new (c.in-Ok-one_line.ensures.disk (λ e. cc))));
 }
 
 pub returns-in-Err-one_line-clause-runs : goal.returns-in-Err-one_line-clause-runs
-returns-in-Err-one_line-clause-runs g c tells_input tells_out tells_steps start stands =
-    let front = c.lines.invariant.front tells_input tells_out tells_steps start stands in
-    ends g.S.EngineSteps start (lines_of (g.I.Source.left c.args.input.now)) c.in-Err-one_line.end
+returns-in-Err-one_line-clause-runs g c tells_input tells_out start stands =
+    let sight = g.S.EngineSteps.sight in
+    let script = lines_of (g.I.Source.left c.args.input.now) in
+    let before = sides (g.I.Source.left c.args.input.now) (g.O.Sink.holds c.args.out.now) c.args.steps.now in
+    let middle = sides (g.I.Source.left c.lines.input) (g.O.Sink.holds c.lines.out) c.lines.steps in
+    let now = sides (g.I.Source.left c.one_line.new.input) (g.O.Sink.holds c.one_line.new.out) c.one_line.new.steps in
+    subst (λ (e : RunEnd). Outcome sight e start script before now) (sym c.end_of.ensures)
+    (ends sight start script c.in-Err-one_line.halt
     (ahead c.lines.lines (g.I.Source.left c.lines.input)) (ahead c.one_line.new.lines (g.I.Source.left c.one_line.new.input))
-    (sides (g.I.Source.left c.args.input.now) (g.O.Sink.holds c.args.out.now) c.args.steps.now)
-    (sides (g.I.Source.left c.lines.input) (g.O.Sink.holds c.lines.out) c.lines.steps)
-    (sides (g.I.Source.left c.one_line.new.input) (g.O.Sink.holds c.one_line.new.out) c.one_line.new.steps) front.0
-    (c.in-Err-one_line.ensures.line tells_input tells_out tells_steps (after_all start front.0.calls) front.0.stands)
-    (λ number bytes e. (c.in-Err-one_line.ensures.too_long number bytes (ap Err e)).0 ∙ sym front.1)
+    c.lines.met (given_by c.lines.lines) before middle now
+    (c.lines.invariant.front tells_input tells_out start stands) (c.in-Err-one_line.ensures.line tells_input tells_out)
+    (λ number bytes e. (c.in-Err-one_line.ensures.too_long number bytes (ap Err e)).0))

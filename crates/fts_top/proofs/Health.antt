@@ -1,0 +1,97 @@
+-- What replies tell of the lines.
+use Rattle.std.proofs.Common.{◌≡◌, ◌⊎◌, ℕ, ◌≤◌, List, [], ◌∷◌, ◌++◌, refl, ap, sym, ◌∙◌, inl, inr, ⊎_elim, arith}
+use Rattle.std.specs.Prelude.{Result, Ok}
+use Rattle.fts_faults.specs.Count.{CountsFault, Rose}
+use Rattle.fts_schema.specs.declared.reply.Reply.{Reply}
+use Rattle.fts_sessions.specs.Calm.{IsCalm}
+use Rattle.fts_top.specs.declared.ends.Health.{Health}
+use Rattle.fts_top.specs.declared.ends.Health.TheVariants.{Sound, Short, Failed}
+use Rattle.fts_top.specs.declared.ends.Halt.{Halt}
+use Rattle.fts_top.specs.Health.{health_of, worse, health_of_all}
+
+worse_sound : (a : Health) → worse a Sound ≡ a
+worse_sound Sound = refl
+worse_sound Short = refl
+worse_sound Failed = refl
+
+worse_more : (a b c : Health) → worse (worse a b) c ≡ worse a (worse b c)
+worse_more Failed b c = refl
+worse_more Sound b c = refl
+worse_more Short Failed c = refl
+worse_more Short Sound c = refl
+worse_more Short Short Failed = refl
+worse_more Short Short Short = refl
+worse_more Short Short Sound = refl
+
+-- one reply more
+pub health_more : (replies : List Reply) (reply : Reply) → health_of_all (replies ++ reply ∷ []) ≡ worse (health_of_all replies) (health_of reply)
+health_more [] reply = worse_sound (health_of reply)
+health_more (first ∷ replies) reply =
+    ap (worse (health_of first)) (health_more replies reply) ∙ sym (worse_more (health_of first) (health_of_all replies) (health_of reply))
+
+-- the worse of two is a fault where one is
+pub failed_before : (a b : Health) → a ≡ Failed → worse a b ≡ Failed
+failed_before Sound b is = absurd cc
+failed_before Short b is = absurd cc
+failed_before Failed b is = refl
+
+pub failed_now : (a b : Health) → b ≡ Failed → worse a b ≡ Failed
+failed_now Sound b is = is
+failed_now Short Sound is = absurd cc
+failed_now Short Short is = absurd cc
+failed_now Short Failed is = refl
+failed_now Failed b is = refl
+
+failed_in : (a b : Health) → worse a b ≡ Failed → (a ≡ Failed) ⊎ (b ≡ Failed)
+failed_in Sound b is = inr is
+failed_in Short Sound is = absurd cc
+failed_in Short Short is = absurd cc
+failed_in Short Failed is = inr refl
+failed_in Failed b is = inl refl
+
+-- the worse of two is sound where both are
+pub sound_before : (a b : Health) → worse a b ≡ Sound → a ≡ Sound
+sound_before Sound b is = refl
+sound_before Short Sound is = absurd cc
+sound_before Short Short is = absurd cc
+sound_before Short Failed is = absurd cc
+sound_before Failed b is = absurd cc
+
+pub sound_behind : (a b : Health) → worse a b ≡ Sound → b ≡ Sound
+sound_behind Sound b is = is
+sound_behind Short Sound is = refl
+sound_behind Short Short is = absurd cc
+sound_behind Short Failed is = absurd cc
+sound_behind Failed b is = absurd cc
+
+-- the reply of a sound line is calm
+pub sound_calm : (reply : Reply) → health_of reply ≡ Sound → IsCalm reply
+sound_calm reply is = record {
+  no_want = λ e. let no : ◌≡◌ {A = Health} Short Sound = sym (ap health_of e) ∙ is in cc;
+  no_fault = λ e. let no : ◌≡◌ {A = Health} Failed Sound = sym (ap health_of e) ∙ is in cc;
+}
+
+-- a count over two parts of a run
+pub counted_more : (first next : Health) (old mid new : ℕ) → CountsFault (first ≡ Failed) old mid → CountsFault (next ≡ Failed) mid new
+    → CountsFault (worse first next ≡ Failed) old new
+counted_more first next old mid new before behind = record {
+  rose = λ is. ⊎_elim (λ e. rose_before (before.rose e) behind.never_falls) (λ e. rose_behind before.never_falls (behind.rose e)) (failed_in first next is);
+  calm = λ no. behind.calm (λ e. no (failed_now first next e)) ∙ before.calm (λ e. no (failed_before first next e));
+  never_falls = let a = before.never_falls in let b = behind.never_falls in omega arith;
+}
+  where
+    rose_before : Rose old mid → mid ≤ new → Rose old new
+    rose_before (inl less) up = inl (omega (arith, less, up))
+    rose_before (inr most) up = inr (omega (arith, most, up))
+
+    rose_behind : old ≤ mid → Rose mid new → Rose old new
+    rose_behind up (inl less) = inl (omega (arith, less, up))
+    rose_behind up (inr most) = inr most
+
+-- the count of a line that went on
+pub counted_line : (now : Health) (old new : ℕ) → CountsFault (◌≡◌ {A = Result Health Halt} (Ok now) (Ok Failed)) old new → CountsFault (now ≡ Failed) old new
+counted_line now old new counts = record {
+  rose = λ is. counts.rose (ap Ok is);
+  calm = λ no. counts.calm (λ is. no (let same = is in cc));
+  never_falls = counts.never_falls;
+}
