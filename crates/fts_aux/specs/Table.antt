@@ -1,9 +1,9 @@
 -- One table of words.
 use Rattle.std.specs.Prelude.{◌≡◌, ◌≢◌, ℕ, ◌+◌, ◌≤◌, Bool, true, false, cond, if◌then◌else◌, nat_eq, List, [], ◌∷◌}
-use Rattle.std.specs.Prelude.{length, ◌⊎◌}
+use Rattle.std.specs.Prelude.{length, ◌⊎◌, ◌++◌}
 use Rattle.std.specs.Prelude.{Option, Some, None, is_some}
 use Rattle.std.specs.Global.{Vec}
-use Rattle.std.specs.List.{All, starts_with, list_any, slice_get}
+use Rattle.std.specs.List.{All, AllByRecursion, starts_with, list_any, slice_get}
 use Rattle.std.specs.List.Sorted.{IsStrictlySortedBy}
 use Rattle.std.specs.Option.{unwrap_or}
 use Rattle.std.specs.Ordering.{is_gt}
@@ -108,6 +108,20 @@ pub record IsNext (nodes : List ℕ → List Docs) (word next : List ℕ) : Type
 -- no word behind this one has nodes
 abbrev pub IsLast : (List ℕ → List Docs) → List ℕ → Type 0
 IsLast nodes word = (other : List ℕ) → byte_order word other ≡ Less → nodes other ≡ []
+
+-- ---- a walk over words
+
+-- the words up to one, in byte order, with their nodes: those that have some
+pub record IsWalked (nodes : List ℕ → List Docs) (at : List ℕ) (done : List (List ℕ × List Docs)) : Type 0 where
+  pub ascending : IsStrictlySortedBy byte_order (keys_of done)
+  pub filled : AllByRecursion (λ e. e.1 ≢ []) done
+  pub within : AllByRecursion (λ e. is_gt (byte_order e.0 at) ≡ false) done
+  pub exact : (word : List ℕ) → is_gt (byte_order word at) ≡ false → nodes_at word done ≡ nodes word
+
+-- a step of a walk: one more word was walked, or there is none and these are all words
+abbrev pub IsStep : (List ℕ → List Docs) → List (List ℕ × List Docs) → Option (List ℕ × List Docs) → Type 0
+IsStep nodes done None = IsListing nodes [] done
+IsStep nodes done (Some e) = IsWalked nodes e.0 (done ++ e ∷ [])
 
 -- ---- what is kept beside the words
 
