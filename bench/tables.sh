@@ -1,13 +1,31 @@
 #!/bin/sh
 # Times 30 batches of 29,000 words each into the auxiliary tables, a word with one node of five documents in a batch, as 1,000
-# mails have them: `reserve`, and `install_batch` with the drop of the batch. bench/tables.sh [COMMIT ..]
+# mails have them: `reserve`, and `install_batch`, with the drop of the batch where it takes it. bench/tables.sh [COMMIT ..]
 # It does so for the tree as it stands, and for each commit that is named, one after another in one run; it needs `rt`, and
 # proves fts_aux with the test that takes the times. A batch is installed in seven parts, by ascending words.
 top=$(CDPATH='' cd -- "$(dirname -- "$0")/.." && pwd) || exit 1
 folder=$(mktemp -d) || exit 1
 trap 'rm -rf "$folder"' EXIT
 
-# The test, whose last line fails and tells the times. $1 is how an install takes its batch, $2 what is done behind it.
+# What stands before the test, in place of the crate's own tests, which would be proved again.
+head_of_test() {
+    cat <<'TEST'
+ghost use Rattle.std.specs.Prelude.{◌<◌, OnOk};
+ghost use Rattle.fts_aux.specs.Tables.{HasRoom};
+
+mod checks;
+
+use super::*;
+use checks::{ascend, come_after};
+use fts_ilist::{Ilist, Node, Nodes, WordNodes};
+use fts_types::Word;
+use std::alloc::Global;
+use std::process::Abort;
+use std::test::Fail;
+TEST
+}
+
+# The test, whose last line fails and tells the times. $1 is how an install takes its batch.
 timed_test() {
     cat <<TEST
 use std::rt::Clock;
@@ -81,7 +99,6 @@ fn installed(rt: &(impl Abort + Clock), tables: &mut Tables, batch: Nodes) -> Re
     assert!(rt; come_after(tables, &batch));
     let start = Instant::now(rt)?;
     tables.install_batch($1batch);
-    $2
     since(rt, start)
 }
 
@@ -118,10 +135,13 @@ TEST
 # Times the tree in this folder.
 run() {
     cd "$1/crates/fts_aux" || exit 1
+    if grep -q '^mod checks;' src/tests.rt; then
+        head_of_test >src/tests.rt
+    fi
     if grep -q 'install_batch(&mut self, batch: &' src/tables.rt; then
-        timed_test '\&' 'drop(batch);' | sed 's/\\&/\&/' >>src/tests.rt
+        timed_test '&' >>src/tests.rt
     else
-        timed_test '' '' >>src/tests.rt
+        timed_test '' >>src/tests.rt
     fi
     rt test 2>&1 | grep -E 'error|no proof|not proved' | head -20
     ./out/fts_aux_tests tests::times 2>&1 | grep left

@@ -7,8 +7,10 @@ use Rattle.std.specs.Str.{bytes_eq}
 use Rattle.std.specs.BTreeSet.{BTreeSet, contains}
 use Rattle.fts_ilist.specs.Node.{Docs, byte_order}
 use Rattle.fts_ilist.specs.NodeList.{NodeState, Takes}
-use Rattle.fts_aux.specs.Table.{Entries, find, list_in, nodes_in, is_key, is_key_at, Room, room_of, no_room, IsListed, IsFilledBut, IsNotedBut, IsTable, Becomes, Enters, Includes, Drops}
+use Rattle.fts_aux.specs.Table.{Entries, find, list_in, nodes_in, is_key, is_key_at, Room, room_of, no_room, IsListed, IsFilledBut, IsNotedBut, IsTable, Becomes, Enters, Lists, Drops}
+use Rattle.std.specs.BTreeMap.{is_at}
 use Rattle.fts_aux.proofs.Finds.{which_word, list_other}
+use Rattle.fts_aux.proofs.Ordered.{equal_itself, apart_in_order}
 
 any_left : {X : Type 0} (p : X → Bool) (xs : List X) (x : X) → list_any p xs ≡ true → list_any p (xs ++ x ∷ []) ≡ true
 any_left p [] x e = absurd (true≢false (sym e))
@@ -59,18 +61,11 @@ key_there (e ∷ es) (suc n) w at = or_there (bytes_eq w e.0.items) (key_there e
     or_there true h = refl
     or_there false h = h
 
-pub are_written : (es new : Entries) (word : List ℕ) (l : NodeState) (n : ℕ) → Becomes es word (Some l) new → is_key_at (keys_of es) n word ≡ true → (w : List ℕ) → is_key new w ≡ is_key es w
-are_written es new word l n b at w =
-    ⊎_elim
-    (λ (h : (bytes_eq w word ≡ true) × (w ≡ word)). ap is_some (b w ∙ ap (λ (t : Bool). cond t (Some l) (find w es)) h.0) ∙ sym (ap (is_key es) h.1 ∙ key_there es n word at))
-    (λ (h : (bytes_eq w word ≡ false) × (w ≢ word)). key_after es new word (Some l) b w h.1)
-    (which_word w word)
-
 module _ (es new : Entries) (order : BTreeSet (List ℕ)) (fresh : List (List ℕ)) (notes : List ℕ) (word : List ℕ) (is : IsTable es order fresh notes)
     (keys : keys_of new ≡ keys_of es) (are : (w : List ℕ) → is_key new w ≡ is_key es w) (others : (w : List ℕ) → w ≢ word → list_in new w ≡ list_in es w)
     (nodes : nodes_in new word ≡ [] → nodes_in es word ≡ []) where
   listed_still : IsListed new order
-  listed_still w k = is.listed w (sym (are w) ∙ k)
+  listed_still w = is.listed w ∙ sym (are w)
 
   filled_still : IsFilledBut new fresh
   filled_still w k none =
@@ -104,14 +99,54 @@ module _ (es new : Entries) (order : BTreeSet (List ℕ)) (fresh : List (List �
         (which_word w word);
   }
 
+-- ---- the words in byte order
+
+some_of : (b : Bool) (o p : Option NodeState) → cond b (is_some o) (is_some p) ≡ is_some (cond b o p)
+some_of true o p = refl
+some_of false o p = refl
+
+-- a word comes or goes in both
+pub listed_one : (es new : Entries) (order order' : BTreeSet (List ℕ)) (word : List ℕ) (o : Option NodeState)
+    → Becomes es word o new → Lists order word (is_some o) order' → IsListed es order → IsListed new order'
+listed_one es new order order' word o becomes lists listed w =
+    lists w ∙ ap (λ (b : Bool). cond (bytes_eq w word) (is_some o) b) (listed w) ∙ some_of (bytes_eq w word) o (find w es) ∙ sym (ap is_some (becomes w))
+
+-- the order finds a word where its bytes are the same
+is_at_word : (word w : List ℕ) → is_at (byte_order word) w ≡ bytes_eq w word
+is_at_word word w =
+    ⊎_elim
+    (λ (h : (bytes_eq w word ≡ true) × (w ≡ word)). ap (λ (x : List ℕ). is_at (byte_order word) x) h.1 ∙ equal_itself word ∙ sym h.0)
+    (λ (h : (bytes_eq w word ≡ false) × (w ≢ word)). apart_in_order word w h.1 ∙ sym h.0)
+    (which_word w word)
+
+pub lists_by : (order order' : BTreeSet (List ℕ)) (word : List ℕ) (has : Bool)
+    → ((w : List ℕ) → contains byte_order order' w ≡ cond (is_at (byte_order word) w) has (contains byte_order order w)) → Lists order word has order'
+lists_by order order' word has updates w = updates w ∙ ap (λ (b : Bool). cond b has (contains byte_order order w)) (is_at_word word w)
+
+-- a word that was there stays, with another list
+pub kept_one : (es new : Entries) (word : List ℕ) (l : NodeState) → Becomes es word (Some l) new → is_key es word ≡ true → (w : List ℕ) → is_key new w ≡ is_key es w
+kept_one es new word l becomes there w =
+    ⊎_elim
+    (λ (h : (bytes_eq w word ≡ true) × (w ≡ word)). ap is_some (becomes w ∙ ap (λ (t : Bool). cond t (Some l) (find w es)) h.0) ∙ sym (ap (is_key es) h.1 ∙ there))
+    (λ (h : (bytes_eq w word ≡ false) × (w ≢ word)). key_after es new word (Some l) becomes w h.1)
+    (which_word w word)
+
+pub are_written : (es new : Entries) (word : List ℕ) (l : NodeState) (n : ℕ) → Becomes es word (Some l) new → is_key_at (keys_of es) n word ≡ true → (w : List ℕ) → is_key new w ≡ is_key es w
+are_written es new word l n becomes at = kept_one es new word l becomes (key_there es n word at)
+
+pub listed_kept : (es new : Entries) (order : BTreeSet (List ℕ)) (word : List ℕ) (l : NodeState) → Becomes es word (Some l) new → is_key es word ≡ true → IsListed es order → IsListed new order
+listed_kept es new order word l becomes there listed w = listed w ∙ sym (kept_one es new word l becomes there w)
+
+-- the same set has the same words
+pub listed_same : (es new : Entries) (order order' : BTreeSet (List ℕ)) → new ≡ es → order'.keys ≡ order.keys → IsListed es order → IsListed new order'
+listed_same es new order order' same keys listed w =
+    ap (λ (ks : List (List ℕ)). list_any (is_at (byte_order w)) ks) keys ∙ listed w ∙ ap (λ (t : Entries). is_key t w) (sym same)
+
 -- a word was entered
 pub table_entered : (es new : Entries) (order order' : BTreeSet (List ℕ)) (fresh : List (List ℕ)) (notes : List ℕ) (word : List ℕ) (l : NodeState)
-    → IsTable es order fresh notes → Enters es new word l → Includes order order' word → IsTable new order' (fresh ++ word ∷ []) (notes ++ length es ∷ [])
+    → IsTable es order fresh notes → Enters es new word l → Lists order word true order' → IsTable new order' (fresh ++ word ∷ []) (notes ++ length es ∷ [])
 table_entered es new order order' fresh notes word l is en inc = record {
-  listed = λ w k. ⊎_elim
-      (λ (h : (bytes_eq w word ≡ true) × (w ≡ word)). ap (contains byte_order order') h.1 ∙ inc.last)
-      (λ (h : (bytes_eq w word ≡ false) × (w ≢ word)). inc.others w (is.listed w (sym (key_after es new word (Some l) en.becomes w h.1) ∙ k)))
-      (which_word w word);
+  listed = listed_one es new order order' word (Some l) en.becomes inc is.listed;
   filled = λ w k none. ⊎_elim
       (λ (h : (bytes_eq w word ≡ true) × (w ≡ word)). any_last (bytes_eq w) fresh word h.0)
       (λ (h : (bytes_eq w word ≡ false) × (w ≢ word)). any_left (bytes_eq w) fresh word (is.filled w (sym (key_after es new word (Some l) en.becomes w h.1) ∙ k) (ap (λ (x : NodeState). x.nodes) (sym (list_other es new word (Some l) en.becomes w h.1)) ∙ none)))

@@ -10,3 +10,4 @@ mod Nexts
 mod Batches
 mod Rooms
 mod Ascending
+mod Walks

@@ -72,7 +72,7 @@ module _ {X : Type 0} where
       ap (λ o. cond (is_eq o) (Some e.1) (lookup (is_at (byte_order q)) es)) (subst (λ z. byte_order z e.0 ≡ Less) same h.0)
       ∙ not_behind w q es h.1 same
 
-is_Equal : (o : Ordering) → is_eq o ≡ true → o ≡ Equal
+pub is_Equal : (o : Ordering) → is_eq o ≡ true → o ≡ Equal
 is_Equal Less e = absurd (false≢true e)
 is_Equal Equal e = refl
 is_Equal Greater e = absurd (false≢true e)

@@ -67,7 +67,7 @@ seen_all t order listed q =
     (λ (has : list_any (is_at (byte_order q)) order.keys ≡ true). nodes_at_seen t order.keys q has)
     (λ (has : list_any (is_at (byte_order q)) order.keys ≡ false).
     not_seen t order.keys q has
-    ∙ sym (no_nodes t q (not_true (is_key t q) (λ (k : is_key t q ≡ true). true≢false (sym (listed q k) ∙ has)))))
+    ∙ sym (no_nodes t q (not_true (is_key t q) (λ (k : is_key t q ≡ true). true≢false (sym (listed q ∙ k) ∙ has)))))
     (cases_Bool (list_any (is_at (byte_order q)) order.keys))
 
 next_over : (f g : List ℕ → List Docs) (w x : List ℕ) → ((q : List ℕ) → f q ≡ g q) → IsNext f w x → IsNext g w x

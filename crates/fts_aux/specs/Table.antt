@@ -1,9 +1,9 @@
 -- One table of words.
 use Rattle.std.specs.Prelude.{◌≡◌, ◌≢◌, ℕ, ◌+◌, ◌≤◌, Bool, true, false, cond, if◌then◌else◌, nat_eq, List, [], ◌∷◌}
-use Rattle.std.specs.Prelude.{length}
+use Rattle.std.specs.Prelude.{length, ◌⊎◌, ◌++◌}
 use Rattle.std.specs.Prelude.{Option, Some, None, is_some}
 use Rattle.std.specs.Global.{Vec}
-use Rattle.std.specs.List.{All, starts_with, list_any, slice_get}
+use Rattle.std.specs.List.{All, AllByRecursion, starts_with, list_any, slice_get}
 use Rattle.std.specs.List.Sorted.{IsStrictlySortedBy}
 use Rattle.std.specs.Option.{unwrap_or}
 use Rattle.std.specs.Ordering.{is_gt}
@@ -109,11 +109,25 @@ pub record IsNext (nodes : List ℕ → List Docs) (word next : List ℕ) : Type
 abbrev pub IsLast : (List ℕ → List Docs) → List ℕ → Type 0
 IsLast nodes word = (other : List ℕ) → byte_order word other ≡ Less → nodes other ≡ []
 
+-- ---- a walk over words
+
+-- the words up to one, in byte order, with their nodes: those that have some
+pub record IsWalked (nodes : List ℕ → List Docs) (at : List ℕ) (done : List (List ℕ × List Docs)) : Type 0 where
+  pub ascending : IsStrictlySortedBy byte_order (keys_of done)
+  pub filled : AllByRecursion (λ e. e.1 ≢ []) done
+  pub within : AllByRecursion (λ e. is_gt (byte_order e.0 at) ≡ false) done
+  pub exact : (word : List ℕ) → is_gt (byte_order word at) ≡ false → nodes_at word done ≡ nodes word
+
+-- a step of a walk: one more word was walked, or there is none and these are all words
+abbrev pub IsStep : (List ℕ → List Docs) → List (List ℕ × List Docs) → Option (List ℕ × List Docs) → Type 0
+IsStep nodes done None = IsListing nodes [] done
+IsStep nodes done (Some e) = IsWalked nodes e.0 (done ++ e ∷ [])
+
 -- ---- what is kept beside the words
 
--- the words in byte order have each word of the table
+-- the words in byte order are the words of the table
 abbrev pub IsListed : Entries → BTreeSet (List ℕ) → Type 0
-IsListed table order = (word : List ℕ) → is_key table word ≡ true → contains byte_order order word ≡ true
+IsListed table order = (word : List ℕ) → contains byte_order order word ≡ is_key table word
 
 -- a word without nodes is one of the fresh ones, which were entered for their room
 abbrev pub IsFilledBut : Entries → List (List ℕ) → Type 0
@@ -154,10 +168,15 @@ pub record Drops (old new : Entries) (word : List ℕ) : Type 0 where
   pub are : (w : List ℕ) → is_key new w ≡ true → is_key old w ≡ true
   pub gone : is_key new word ≡ true → nodes_in new word ≢ []
 
--- the words in byte order have one more, and all that they had
-pub record Includes (old new : BTreeSet (List ℕ)) (word : List ℕ) : Type 0 where
-  pub last : contains byte_order new word ≡ true
-  pub others : (w : List ℕ) → contains byte_order old w ≡ true → contains byte_order new w ≡ true
+-- the words in byte order have this one now, or have it no more, and all else stays
+abbrev pub Lists : BTreeSet (List ℕ) → List ℕ → Bool → BTreeSet (List ℕ) → Type 0
+Lists old word has new = (w : List ℕ) → contains byte_order new w
+    ≡ (if bytes_eq w word then has else contains byte_order old w)
+
+-- all words keep their nodes, and no other word was entered
+pub record KeepsNodes (old new : Entries) (word : List ℕ) : Type 0 where
+  pub nodes : (w : List ℕ) → nodes_in new w ≡ nodes_in old w
+  pub keys : (w : List ℕ) → is_key new w ≡ true → (is_key old w ≡ true) ⊎ (w ≡ word)
 
 -- the word has so much more room, and no other word has another
 abbrev pub AddsRoom : Entries → Entries → List ℕ → Room → Type 0

@@ -1,16 +1,16 @@
 //! One of the six tables.
 ghost use Rattle.std.specs.Prelude.{◌≡◌, ◌≢◌, ℕ, ◌≤◌, ◌++◌, [], map, List, length, ◌+◌, OnOk, IfOk};
-ghost use Rattle.std.specs.Prelude.{OnErr, IfSome, IfNone, slice_get, true, false, Some, None, ◌⊎◌};
+ghost use Rattle.std.specs.Prelude.{OnErr, IfSome, IfNone, slice_get, true, false, Some, None};
 ghost use Rattle.std.specs.Prelude.{if◌then◌else◌};
-ghost use Rattle.std.specs.BTreeSet.{contains};
-ghost use Rattle.fts_ilist.specs.Node.{byte_order};
+ghost use Rattle.std.specs.BTreeSet.{IsUnchanged};
 ghost use Rattle.std.specs.Option.{option_map};
 ghost use Rattle.std.specs.Map.{keys_of};
 ghost use Rattle.fts_ilist.specs.NodeList.{with_nodes, nodes_size, Takes};
 ghost use Rattle.fts_aux.specs.Table.{find, list_in, nodes_in, is_key, is_key_at, room_of, no_room};
 ghost use Rattle.fts_aux.specs.Table.{with_room, filled, filled_as, front, seen, IsListing, IsNext};
-ghost use Rattle.fts_aux.specs.Table.{IsLast, IsListed, Becomes, Enters, Writes, no_list, Includes};
+ghost use Rattle.fts_aux.specs.Table.{IsLast, IsListed, Becomes, Enters, Writes, no_list, Lists};
 ghost use Rattle.fts_aux.specs.Table.{IsNotedBut, IsFilledBut, Drops, AddsRoom, IsWithin, needs};
+ghost use Rattle.fts_aux.specs.Table.{KeepsNodes};
 
 use fts_ilist::{Node, NodeList, NodeSlice};
 use fts_types::Word;
@@ -29,7 +29,7 @@ type Words = IndexMap<Vec<u8>, NodeList>;
 pub struct Table {
     alloc: Global,
     words: Words,
-    // The words in byte order. Some of them may have left.
+    // The words in byte order.
     order: BTreeSet<Word>,
     // The words that were entered for their room since room was last given up.
     fresh: Vec<Word>,
@@ -171,8 +171,7 @@ fn take_out(words: &mut Words, word: &[u8])
 
 /// Takes a word out of those in byte order.
 fn take_out_of(order: &mut BTreeSet<Word>, word: &Word)
-    ensures { (w : List ℕ) → w ≢ word.now → contains byte_order order.old w ≡ true
-        → contains byte_order order.new w ≡ true }
+    ensures { Lists order.old word.now false order.new }
 {
     order.remove(word);
 }
@@ -189,9 +188,8 @@ fn enter(
     ensures ok { OnOk result (Enters words.old.entries words.new.entries word.now
         (record no_list { node_room = nodes; byte_room = bytes })) }
     ensures err { OnErr result (words.new.entries ≡ words.old.entries) }
-    ensures order { OnOk result (Includes order.old order.new word.now) }
-    ensures stay { (w : List ℕ) → contains byte_order order.old w ≡ true
-        → contains byte_order order.new w ≡ true }
+    ensures order { OnOk result (Lists order.old word.now true order.new) }
+    ensures stay { OnErr result (IsUnchanged order.old order.new) }
 {
     let alloc = *words.allocator();
     words.reserve(1)?;
@@ -200,7 +198,7 @@ fn enter(
     let key = Vec::from_slice(alloc, word)?;
     let entered = Word::copied(alloc, word)?;
     order.insert(entered)?;
-    words.insert(key, list)?;
+    words.insert(key, list).unwrap();
     Ok(())
 }
 
@@ -391,11 +389,9 @@ impl Table {
 
     /// Makes room for so many more nodes and bytes of a word, beside the room that there is.
     pub fn reserve(&mut self, word: &[u8], nodes: usize, bytes: usize) -> Result<(), AllocError>
-        ensures nodes { (w : List ℕ) → nodes_in self.new w ≡ nodes_in self.old w }
+        ensures stay { KeepsNodes self.old self.new word.now }
         ensures room { OnOk result (AddsRoom self.old self.new word.now
             (record { nodes = nodes; bytes = bytes })) }
-        ensures keys { (w : List ℕ) → is_key self.new w ≡ true
-            → (is_key self.old w ≡ true) ⊎ (w ≡ word.now) }
     {
         self.notes.reserve(1)?;
         match number_of(&self.words, word) {
@@ -411,11 +407,9 @@ impl Table {
     /// Enters a word with room for nodes.
     fn enter(&mut self, word: &[u8], nodes: usize, bytes: usize) -> Result<(), AllocError>
         requires absent { find word.now self.old ≡ None }
-        ensures nodes { (w : List ℕ) → nodes_in self.new w ≡ nodes_in self.old w }
+        ensures stay { KeepsNodes self.old self.new word.now }
         ensures room { OnOk result (AddsRoom self.old self.new word.now
             (record { nodes = nodes; bytes = bytes })) }
-        ensures keys { (w : List ℕ) → is_key self.new w ≡ true
-            → (is_key self.old w ≡ true) ⊎ (w ≡ word.now) }
     {
         self.notes.reserve(1)?;
         self.fresh.reserve(1)?;

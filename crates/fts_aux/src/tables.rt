@@ -6,7 +6,9 @@ ghost use Rattle.std.specs.Map.{keys_of};
 ghost use Rattle.fts_types.specs.Table.{table_of};
 ghost use Rattle.fts_ilist.specs.Node.{NodesAfter, last_of, byte_order, nodes_for};
 ghost use Rattle.fts_aux.specs.Table.{needs, no_room, with_room, IsWithin, IsListing, IsNext};
-ghost use Rattle.fts_aux.specs.Table.{IsLast};
+ghost use Rattle.fts_aux.specs.Table.{IsLast, IsWalked, IsStep};
+ghost use Rattle.fts_ilist.specs.Node.{Docs};
+ghost use Rattle.std.specs.Option.{option_map};
 ghost use Rattle.fts_aux.specs.Tables.{nodes, room, HasRoom, HasRoomOf, HasNoOther, ComesAfter};
 ghost use Rattle.fts_aux.specs.Tables.{IsNextIn, IsLastIn, IsGivenUp, Stays, GainsRoom, UsesRoom};
 
@@ -124,6 +126,23 @@ impl Tables {
         match next_in(later, word) {
             Some(next) => Some(next),
             None => self.tables[0].next_after(word),
+        }
+    }
+
+    /// A step of a walk over all words, in byte order: the word that `next_after` gives, with its
+    /// nodes. A walk begins at the empty word, which has no nodes, with no words walked; where a
+    /// step gives nothing, it has given each word that has nodes once. A step takes logarithmic
+    /// time, and the walk no memory.
+    pub fn next_entry(&self, word: &Word) -> Option<(&Word, NodeSlice<'_>)>
+        ensures found { IfSome result (λ e. IsNext (nodes self.now) word.now e.0.now
+            × (e.1 ≡ nodes self.now e.0.now)) }
+        ensures none { IfNone result (IsLast (nodes self.now) word.now) }
+        ensures walk { (done : List (List ℕ × List Docs)) → IsWalked (nodes self.now) word.now done
+            → IsStep (nodes self.now) done (option_map (λ e. (e.0.now, e.1)) result) }
+    {
+        match self.next_after(word) {
+            Some(next) => Some((next, self.nodes_of(next.as_bytes()))),
+            None => None,
         }
     }
 

@@ -86,6 +86,19 @@ fn holds(rt: &impl Abort, alloc: Global, tables: &Tables, plain: &Plain) -> Resu
     Ok(())
 }
 
+// A walk gives these words, one after another, with these nodes, and no others.
+fn walks(rt: &impl Abort, alloc: Global, tables: &Tables, plain: &Plain) -> Result<(), Fail> {
+    let mut before = Word::copied(alloc, b"")?;
+    for (word, ids) in plain {
+        let (next, nodes) = tables.next_entry(&before).expect(rt, "a word");
+        assert_eq!(rt; next.as_bytes(), word.as_bytes());
+        begin_with(rt, nodes, ids);
+        before = Word::copied(alloc, word.as_bytes())?;
+    }
+    assert!(rt; tables.next_entry(&before).is_none());
+    Ok(())
+}
+
 // Notes one more node of a word.
 fn note(alloc: Global, plain: &mut Plain, word: &[u8], id: u64) -> Result<(), Fail> {
     let key = Word::copied(alloc, word)?;
@@ -175,6 +188,14 @@ fn a_batch_lies_behind_what_is_held(rt: HostRuntime) -> Result<(), Fail> {
     let tables = filled(&rt, alloc, &mut plain)?;
     assert_eq!(rt; plain.len(), 13);
     holds(&rt, alloc, &tables, &plain)
+}
+
+#[test]
+fn a_walk_goes_over_all_words_in_byte_order(rt: HostRuntime) -> Result<(), Fail> {
+    let alloc = rt.alloc();
+    let mut plain = BTreeMap::new(alloc);
+    let tables = filled(&rt, alloc, &mut plain)?;
+    walks(&rt, alloc, &tables, &plain)
 }
 
 #[test]

@@ -11,3 +11,5 @@ pub mod Shown
 pub mod Numbers
 pub mod Holding
 pub mod Rows
+mod Used
+mod Prefixed

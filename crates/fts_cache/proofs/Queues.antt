@@ -1,4 +1,5 @@
 -- Words are the same or not, and what a call's result says.
+use Rattle.std.specs.Result.{IsOk}
 use Rattle.std.proofs.Common.{◌≡◌, ◌≢◌, ◌⊎◌, inl, inr, ℕ, Bool, true, false, List, Result, Ok, Err, OnOk, OnErr, refl, sym, subst, ◌∙◌, true≢false}
 use Rattle.std.specs.Str.{bytes_eq}
 use Rattle.std.proofs.lemmas.Slice.Eq.{bytes_eq-Decides}
@@ -25,3 +26,7 @@ on_ok (Err e) P Q f h = tt
 pub on_err : {X E : Type 0} (r : Result X E) (P Q : Type 0) → (P → Q) → OnErr r P → OnErr r Q
 on_err (Ok x) P Q f h = tt
 on_err (Err e) P Q f h = f h
+
+pub ok_holds : {X E : Type 0} (r : Result X E) (P : Type 0) → IsOk r → OnOk r P → P
+ok_holds (Ok x) P i h = h
+ok_holds (Err e) P i h = absurd (let never : false ≡ true = i in cc)

@@ -1,99 +1,30 @@
 -- The words that a call gives: which they are, and that they ascend once they are sorted.
-use Rattle.std.proofs.Common.{◌≡◌, ◌≢◌, ◌⊎◌, inl, inr, ⊎_elim, ◌↔◌, ℕ, suc, ◌+◌, ◌<◌, ◌≤◌, Bool, true, false, cond, ◌&&◌, ◌||◌, IsTrue, nat_eq, nat_le, nat_lt, List, [], ◌∷◌, ◌++◌, length, map, filter, take, get_or, slice_get, Option, Some, None, option_map, refl, sym, ap, subst, ◌∙◌, arith}
+use Rattle.std.proofs.Common.{◌≡◌, ◌≢◌, ◌⊎◌, inl, inr, ⊎_elim, ◌↔◌, ℕ, suc, ◌<◌, ◌≤◌, Bool, true, false, cond, ◌&&◌, ◌||◌, nat_eq, nat_le, nat_lt, List, [], ◌∷◌, ◌++◌, length, map, get_or, Option, Some, None, refl, sym, ap, subst, ◌∙◌, arith}
 use Rattle.std.specs.Borrow.{Bor}
 use Rattle.std.specs.Global.{Vec}
 use Rattle.std.specs.Cmp.Lexicographic.{slice_cmp}
-use Rattle.std.specs.List.{IsDistinct, cons_option, list_any, starts_with, AllByRecursion}
+use Rattle.std.specs.List.{IsDistinct, cons_option, list_any, AllByRecursion}
 use Rattle.std.specs.List.Sorted.{IsSortedBy, IsStrictlySortedBy, IsPermutation}
-use Rattle.std.specs.Map.{keys_of, lookup}
-use Rattle.std.specs.Option.{unwrap_or, option_to_list}
+use Rattle.std.specs.Option.{option_to_list}
 use Rattle.std.specs.Ordering.{nat_cmp, is_lt, is_eq, ordering_reverse}
 use Rattle.std.specs.declared.cmp.Ordering.{Ordering}
 use Rattle.std.specs.declared.cmp.Ordering.TheVariants.{Less, Equal, Greater}
 use Rattle.std.specs.Str.{bytes_eq}
 use Rattle.std.proofs.lemmas.Bool.{lt-ltb, ltb-true}
 use Rattle.std.proofs.lemmas.Cmp.{nat_list_cmp_total}
-use Rattle.std.proofs.lemmas.List.{map-append}
-use Rattle.std.proofs.lemmas.List.Elements.{filter_more}
 use Rattle.std.proofs.lemmas.List.Sorted.{ranks_by, sorted_far, list_any-IsPermutation, IsPermutation-map}
 use Rattle.std.proofs.lemmas.Map.Keys.{IsDistinct-IsPermutation}
-use Rattle.std.proofs.lemmas.Map.Made.{IsDistinct-keys_filter}
 use Rattle.std.proofs.lemmas.Map.Text.{is_eq-slice_cmp}
-use Rattle.std.proofs.lemmas.Option.{slice_get_within, unwrap_or-slice_get}
 use Rattle.fts_ilist.specs.Spelling.{Posting, PostingsAfter, HasFirstId}
 use Rattle.fts_ilist.specs.Queue.{Queue}
 use Rattle.fts_cache.specs.declared.words.CachedWord.{CachedWord}
-use Rattle.fts_cache.specs.Words.{Entries, Slots, slot_in, number_in, queue_at, queue_in, no_queue, IsTable, has_number, postings_until, words_by, shows, leaves, leaving_word, leaving_words}
+use Rattle.fts_cache.specs.Words.{Entries, Slots, slot_in, number_in, queue_in, IsTable, has_number, postings_until, leaves, leaving_word, leaving_words}
 use Rattle.fts_cache.specs.Sorted.{IsAmong, AscendByBytes}
 use Rattle.fts_cache.proofs.Queues.{which_word, is_same}
-use Rattle.fts_cache.proofs.Table.{which_number, some_is, none_is_not, queue_of_number, queue_of_none}
+use Rattle.fts_cache.proofs.Table.{which_number, some_is, none_is_not, queue_of_number}
 
 abbrev Numbers : Type 0
 Numbers = List (Vec ℕ × ℕ)
-
--- ---- one entry after another
-
-pub shown_more : (test : List ℕ → ℕ → Bool) (es : Numbers) (i : ℕ) (e : Vec ℕ × ℕ) → slice_get es i ≡ Some e
-    → words_by test (take (i + 1) es) ≡ words_by test (take i es) ++ (cond (test e.0.items e.1) (e.0.items ∷ []) [])
-shown_more test es i e at =
-    let tests : Vec ℕ × ℕ → Bool = λ x. test x.0.items x.1 in
-    let word : Vec ℕ × ℕ → List ℕ = λ x. x.0.items in
-    let same : get_or es i e ≡ e = sym (unwrap_or-slice_get es i e) ∙ ap (λ (o : Option (Vec ℕ × ℕ)). unwrap_or o e) at in
-    ap (map word) (filter_more tests es i e (slice_get_within es i e at))
-    ∙ ap (λ (x : Vec ℕ × ℕ). map word (filter tests (take i es) ++ cond (tests x) (x ∷ []) [])) same
-    ∙ map-append word (filter tests (take i es)) (cond (tests e) (e ∷ []) [])
-    ∙ ap (λ (ws : List (List ℕ)). words_by test (take i es) ++ ws) (by (tests e))
-  where
-    by : (b : Bool) → map (λ (x : Vec ℕ × ℕ). x.0.items) (cond b (e ∷ []) []) ≡ cond b (e.0.items ∷ []) []
-    by true = refl
-    by false = refl
-
--- ---- which words show
-
--- no later entry has the key of the first
-key_absent : (k : Vec ℕ) (es : Numbers) (w : List ℕ) → IsDistinct (λ (x y : Vec ℕ). bytes_eq x.items y.items) (k ∷ keys_of es) → w ≡ k.items → lookup (λ x. bytes_eq w x.items) es ≡ None
-unfolding IsDistinct
-key_absent k [] w u e = refl
-key_absent k (f ∷ fs) w u e =
-    ap (λ (b : Bool). cond b (Some f.1) (lookup (λ x. bytes_eq w x.items) fs)) (ap (λ (x : List ℕ). bytes_eq x f.0.items) e ∙ u.0.0)
-    ∙ key_absent k fs w (u.0.1, u.1.1) e
-
-distinct_rest : (k : Vec ℕ) (es : Numbers) → IsDistinct (λ (x y : Vec ℕ). bytes_eq x.items y.items) (k ∷ keys_of es) → IsDistinct (λ (x y : Vec ℕ). bytes_eq x.items y.items) (keys_of es)
-unfolding IsDistinct
-distinct_rest k es u = u.1
-
--- whether a word with this number passes
-abbrev pub passes : (List ℕ → ℕ → Bool) → List ℕ → Option ℕ → Bool
-passes test w None = false
-passes test w (Some n) = test w n
-
-among_shown : (test : List ℕ → ℕ → Bool) (es : Numbers) → IsDistinct (λ (x y : Vec ℕ). bytes_eq x.items y.items) (keys_of es)
-    → (w : List ℕ) → list_any (bytes_eq w) (words_by test es) ≡ passes test w (lookup (λ k. bytes_eq w k.items) es)
-among_shown test [] u w = refl
-among_shown test (e ∷ es) u w =
-    let rest = among_shown test es (distinct_rest e.0 es u) w in
-    ⊎_elim
-    (λ (m : (bytes_eq w e.0.items ≡ true) × (w ≡ e.0.items)).
-    let none : list_any (bytes_eq w) (words_by test es) ≡ false = rest ∙ ap (passes test w) (key_absent e.0 es w u m.1) in
-    first (test e.0.items e.1) m.0 none
-    ∙ ap (λ (x : List ℕ). test x e.1) (sym m.1)
-    ∙ ap (λ (b : Bool). passes test w (cond b (Some e.1) (lookup (λ k. bytes_eq w k.items) es))) (sym m.0))
-    (λ (m : (bytes_eq w e.0.items ≡ false) × (w ≢ e.0.items)).
-    later (test e.0.items e.1) m.0
-    ∙ rest
-    ∙ ap (λ (b : Bool). passes test w (cond b (Some e.1) (lookup (λ k. bytes_eq w k.items) es))) (sym m.0))
-    (which_word w e.0.items)
-  where
-    first : (b : Bool) → bytes_eq w e.0.items ≡ true → list_any (bytes_eq w) (words_by test es) ≡ false
-        → list_any (bytes_eq w) (map (λ (x : Vec ℕ × ℕ). x.0.items) (cond b (e ∷ filter (λ (x : Vec ℕ × ℕ). test x.0.items x.1) es) (filter (λ (x : Vec ℕ × ℕ). test x.0.items x.1) es))) ≡ b
-    first true same none = ap (λ (b : Bool). b || list_any (bytes_eq w) (words_by test es)) same
-    first false same none = none
-
-    later : (b : Bool) → bytes_eq w e.0.items ≡ false
-        → list_any (bytes_eq w) (map (λ (x : Vec ℕ × ℕ). x.0.items) (cond b (e ∷ filter (λ (x : Vec ℕ × ℕ). test x.0.items x.1) es) (filter (λ (x : Vec ℕ × ℕ). test x.0.items x.1) es)))
-        ≡ list_any (bytes_eq w) (words_by test es)
-    later true other = ap (λ (b : Bool). b || list_any (bytes_eq w) (words_by test es)) other
-    later false other = refl
 
 above : (id doc : ℕ) → nat_le id doc ≡ false → doc < id
 above id doc e = grind arith
@@ -107,35 +38,17 @@ none_until doc before (p ∷ ps) h lt =
     not_until : (id doc : ℕ) → doc < id → nat_le id doc ≡ false
     not_until id doc lt = grind arith
 
-some_posting : (ps : List Posting) → ps ≢ [] → nat_lt 0 (length ps) ≡ true
+pub some_posting : (ps : List Posting) → ps ≢ [] → nat_lt 0 (length ps) ≡ true
 some_posting [] h = absurd (h refl)
 some_posting (p ∷ ps) h = lt-ltb 0 (length (p ∷ ps)) (omega arith)
 
-some_from : (ps : List Posting) → nat_lt 0 (length ps) ≡ true → ps ≢ []
+pub some_from : (ps : List Posting) → nat_lt 0 (length ps) ≡ true → ps ≢ []
 some_from ps e none = absurd (omega (arith, ap length none, ltb-true 0 (length ps) e))
 
-both : (a b : Bool) → (a && b) ≡ true → (a ≡ true) × (b ≡ true)
+pub both : (a b : Bool) → (a && b) ≡ true → (a ≡ true) × (b ≡ true)
 both true true e = (refl, refl)
 both true false e = (refl, e)
 both false b e = (e, absurd cc)
-
-number_shows : (es : Entries) (prefix w : List ℕ) → passes (shows es.slots prefix) w (number_in es w) ≡ true ↔ (IsTrue (starts_with nat_eq w prefix) × ((queue_in es w).postings ≢ []))
-number_shows es prefix w = by (number_in es w) refl
-  where
-    by : (o : Option ℕ) → number_in es w ≡ o → passes (shows es.slots prefix) w o ≡ true ↔ (IsTrue (starts_with nat_eq w prefix) × ((queue_in es w).postings ≢ []))
-    by None e = (
-      λ t. absurd cc,
-      λ h. absurd (h.1 (ap (λ (q : Queue). q.postings) (queue_of_none es w e))),
-    )
-    by (Some n) e =
-        let queue : queue_in es w ≡ queue_at es.slots n = ap (λ (o : Option ℕ). queue_by o) e in (
-          λ t. let h = both (starts_with nat_eq w prefix) (nat_lt 0 (length (queue_at es.slots n).postings)) t in
-              (h.0, λ none. some_from (queue_at es.slots n).postings h.1 (sym (ap (λ (q : Queue). q.postings) queue) ∙ none)),
-          λ h. ap (λ (b : Bool). b && nat_lt 0 (length (queue_at es.slots n).postings)) h.0 ∙ some_posting (queue_at es.slots n).postings (λ none. h.1 (ap (λ (q : Queue). q.postings) queue ∙ none)),
-        )
-      where
-        queue_by : Option ℕ → Queue
-        queue_by o = unwrap_or (option_map (queue_at es.slots) o) no_queue
 
 -- whether documents that begin with this id have one up to doc
 pub leaves_by_first : (doc id : ℕ) (q : Queue) → PostingsAfter 0 q.postings → HasFirstId q.postings id → nat_le id doc ≡ leaves doc q
@@ -175,17 +88,7 @@ all_strict [] far u = tt
 all_strict (w ∷ ws) far u =
     (head_strict w.now ws (λ j d lt. far 0 (suc j) d (omega arith) (omega (arith, lt))) u.0, all_strict ws (λ i j d le lt. far (suc i) (suc j) d (omega (arith, le)) (omega (arith, lt))) u.1)
 
--- the words differ, as the keys do
-keys_differ : (es : Numbers) → IsDistinct (λ (x y : Vec ℕ). bytes_eq x.items y.items) (keys_of es) → IsDistinct bytes_eq (map (λ (e : Vec ℕ × ℕ). e.0.items) es)
-unfolding IsDistinct
-keys_differ [] u = tt
-keys_differ (e ∷ es) u = (others es u.0, keys_differ es u.1)
-  where
-    others : (fs : Numbers) → AllByRecursion (λ (y : Vec ℕ). bytes_eq e.0.items y.items ≡ false) (keys_of fs) → AllByRecursion (λ (y : List ℕ). bytes_eq e.0.items y ≡ false) (map (λ (f : Vec ℕ × ℕ). f.0.items) fs)
-    others [] h = tt
-    others (f ∷ fs) h = (h.0, others fs h.1)
-
-flips : (x y : List ℕ) → bytes_eq x y ≡ bytes_eq y x
+pub flips : (x y : List ℕ) → bytes_eq x y ≡ bytes_eq y x
 flips x y =
     ⊎_elim
     (λ (m : (bytes_eq x y ≡ true) × (x ≡ y)). m.0 ∙ sym (subst (λ (z : List ℕ). bytes_eq z x ≡ true) m.1 (is_same x)))
@@ -208,22 +111,6 @@ among_sorted : (found sorted : List (Bor (List ℕ))) → IsPermutation found so
 among_sorted found sorted moved w =
     let word : Bor (List ℕ) → List ℕ = λ x. x.now in
     sym (list_any-IsPermutation (bytes_eq w) (map word found) (map word sorted) (IsPermutation-map word found sorted moved))
-
--- ---- the words that begin so
-
-pub shown_differ : (test : List ℕ → ℕ → Bool) (es : Numbers) (found : List (Bor (List ℕ))) → IsDistinct (λ (x y : Vec ℕ). bytes_eq x.items y.items) (keys_of es)
-    → map (λ (w : Bor (List ℕ)). w.now) found ≡ words_by test es → IsDistinct bytes_eq (map (λ (w : Bor (List ℕ)). w.now) found)
-shown_differ test es found u is =
-    subst (IsDistinct bytes_eq) (sym is) (keys_differ (filter (λ e. test e.0.items e.1) es) (IsDistinct-keys_filter (λ (x y : Vec ℕ). bytes_eq x.items y.items) (λ e. test e.0.items e.1) es u))
-
-pub shown_are : (es : Entries) (prefix : List ℕ) (found sorted : List (Bor (List ℕ))) → IsDistinct (λ (x y : Vec ℕ). bytes_eq x.items y.items) (keys_of es.numbers)
-    → map (λ (w : Bor (List ℕ)). w.now) found ≡ words_by (shows es.slots prefix) es.numbers → IsPermutation found sorted
-    → (w : List ℕ) → IsAmong w sorted ↔ (IsTrue (starts_with nat_eq w prefix) × ((queue_in es w).postings ≢ []))
-shown_are es prefix found sorted u is moved w =
-    let same : list_any (bytes_eq w) (map (λ (x : Bor (List ℕ)). x.now) sorted) ≡ passes (shows es.slots prefix) w (number_in es w)
-    = among_sorted found sorted moved w ∙ ap (list_any (bytes_eq w)) is ∙ among_shown (shows es.slots prefix) es.numbers u w in
-    let h = number_shows es prefix w in
-    (λ e. h.0 (sym same ∙ e), λ e. same ∙ h.1 e)
 
 -- ---- the words of the documents that leave
 
@@ -254,15 +141,15 @@ still_in w (Some v) rest e = or_right (bytes_eq w v) (list_any (bytes_eq w) rest
 pub record IsLeaving (doc : ℕ) (o : Option CachedWord) (w : List ℕ) : Type 0 where
   pub s : CachedWord
   pub at : o ≡ Some s
-  pub word : s.word.items ≡ w
+  pub word : s.word ≡ w
   pub leaves : leaves doc s.queue ≡ true
 
 leaving_some : (doc : ℕ) (o : Option CachedWord) (w : List ℕ) → leaving_word doc o ≡ Some w → IsLeaving doc o w
 leaving_some doc None w e = none_is_not w _ e
 leaving_some doc (Some s) w e = by (leaves doc s.queue) refl e
   where
-    by : (b : Bool) → leaves doc s.queue ≡ b → cond b (Some s.word.items) None ≡ Some w → IsLeaving doc (Some s) w
-    by true l f = record { s = s; at = refl; word = some_is s.word.items w f; leaves = l }
+    by : (b : Bool) → leaves doc s.queue ≡ b → cond b (Some s.word) None ≡ Some w → IsLeaving doc (Some s) w
+    by true l f = record { s = s; at = refl; word = some_is s.word w f; leaves = l }
     by false l f = none_is_not w _ f
 
 -- a word that leaves has its number among these
@@ -297,7 +184,7 @@ left_to es doc (m ∷ ms) w n t e h some =
     let some_left : leaves doc f.0.queue ≡ true
     = some_posting (postings_until doc f.0.queue.postings) (λ none. some (ap (λ (q : Queue). postings_until doc q.postings) (queue_of_number es w n f.0 e f.1) ∙ none)) in
     let word : leaving_word doc (slot_in es.slots m) ≡ Some w
-    = ap (leaving_word doc) at ∙ ap (λ (b : Bool). cond b (Some f.0.word.items) None) some_left ∙ ap Some f.2 in
+    = ap (leaving_word doc) at ∙ ap (λ (b : Bool). cond b (Some f.0.word) None) some_left ∙ ap Some f.2 in
     ap (λ (o : Option (List ℕ)). list_any (bytes_eq w) (cons_option o (leaving_words es.slots doc ms))) word
     ∙ or_left (bytes_eq w w) (list_any (bytes_eq w) (leaving_words es.slots doc ms)) (is_same w))
     (λ (x : (nat_eq n m ≡ false) × (n ≢ m)).

@@ -1,13 +1,13 @@
 -- The table of words: each by its number, as calls change it.
-use Rattle.std.proofs.Common.{◌≡◌, ◌≢◌, ◌⊎◌, inl, inr, ⊎_elim, ℕ, ◌≤◌, length, Bool, true, false, cond, nat_eq, List, [], ◌∷◌, Option, Some, None, slice_set, Result, Ok, Err, OnOk, OnErr, ◌<◌, zero, suc, refl, sym, ap, ◌∙◌, arith}
+use Rattle.std.proofs.Common.{◌≡◌, ◌≢◌, ◌⊎◌, inl, inr, ⊎_elim, ℕ, ◌≤◌, length, Bool, true, false, cond, ◌&&◌, nat_eq, List, [], ◌∷◌, Option, Some, None, slice_set, Result, Ok, Err, OnOk, OnErr, ◌<◌, zero, suc, refl, sym, ap, ◌∙◌, arith}
 use Rattle.std.proofs.lemmas.List.{get_or-set_same, get_or-set_other}
 use Rattle.std.specs.Global.{Vec}
 use Rattle.std.specs.Map.{lookup, KeepsOthers}
-use Rattle.std.specs.Option.{unwrap_or, option_map}
+use Rattle.std.specs.Option.{unwrap_or, option_map, option_map_or}
 use Rattle.std.specs.Str.{bytes_eq}
 use Rattle.fts_ilist.specs.Queue.{Queue}
 use Rattle.fts_cache.specs.declared.words.CachedWord.{CachedWord}
-use Rattle.fts_cache.specs.Words.{Entries, Slots, slot_in, number_in, no_queue, queue_at, queue_in, IsTable, Alters, with_queue, Changes, Stays, Enters, IsLess, LetsGo, IsDropped, without}
+use Rattle.fts_cache.specs.Words.{Entries, Slots, slot_in, number_in, no_queue, queue_at, queue_in, is_spent, is_spent_at, IsTable, Alters, with_queue, Changes, Stays, Enters, IsLess, LetsGo, IsDropped, without}
 use Rattle.fts_cache.proofs.Queues.{which_word, is_same, same_word}
 
 pub which_number : (m n : ℕ) → ((nat_eq m n ≡ true) × (m ≡ n)) ⊎ ((nat_eq m n ≡ false) × (m ≢ n))
@@ -89,26 +89,26 @@ mapped_some change None s e = none_is_not s _ e
 mapped_some change (Some x) s e = (x, refl, ap (λ (y : CachedWord). y.word) (sym (some_is (with_queue change x) s e)))
 
 altered_found : (n : ℕ) (change : Queue → Queue) (numbers : List (Vec ℕ × ℕ)) (old new : Slots) → IsTable (record { numbers = numbers; slots = old }) → Alters n change old new
-    → (w : List ℕ) (m : ℕ) → lookup (λ k. bytes_eq w k.items) numbers ≡ Some m → (s : CachedWord) × (slot_in new m ≡ Some s) × (s.word.items ≡ w)
+    → (w : List ℕ) (m : ℕ) → lookup (λ k. bytes_eq w k.items) numbers ≡ Some m → (s : CachedWord) × (slot_in new m ≡ Some s) × (s.word ≡ w)
 altered_found n change numbers old new t h w m e =
     let f = t.found w m e in
     ⊎_elim
     (λ (x : (nat_eq m n ≡ true) × (m ≡ n)).
     let at : slot_in new m ≡ Some (with_queue change f.0) = h m ∙ ap (λ (b : Bool). cond b (option_map (with_queue change) (slot_in old m)) (slot_in old m)) x.0 ∙ ap (option_map (with_queue change)) f.1 in
-    let r : (s : CachedWord) × (slot_in new m ≡ Some s) × (s.word.items ≡ w) = (with_queue change f.0, at, f.2) in r)
+    let r : (s : CachedWord) × (slot_in new m ≡ Some s) × (s.word ≡ w) = (with_queue change f.0, at, f.2) in r)
     (λ (x : (nat_eq m n ≡ false) × (m ≢ n)).
-    let r : (s : CachedWord) × (slot_in new m ≡ Some s) × (s.word.items ≡ w) = (f.0, at_others n change old new m x.1 h ∙ f.1, f.2) in r)
+    let r : (s : CachedWord) × (slot_in new m ≡ Some s) × (s.word ≡ w) = (f.0, at_others n change old new m x.1 h ∙ f.1, f.2) in r)
     (which_number m n)
 
 altered_known : (n : ℕ) (change : Queue → Queue) (numbers : List (Vec ℕ × ℕ)) (old new : Slots) → IsTable (record { numbers = numbers; slots = old }) → Alters n change old new
-    → (m : ℕ) (s : CachedWord) → slot_in new m ≡ Some s → lookup (λ k. bytes_eq s.word.items k.items) numbers ≡ Some m
+    → (m : ℕ) (s : CachedWord) → slot_in new m ≡ Some s → lookup (λ k. bytes_eq s.word k.items) numbers ≡ Some m
 altered_known n change numbers old new t h m s e =
     ⊎_elim
     (λ (x : (nat_eq m n ≡ true) × (m ≡ n)).
     let at : option_map (with_queue change) (slot_in old m) ≡ Some s
     = sym (h m ∙ ap (λ (b : Bool). cond b (option_map (with_queue change) (slot_in old m)) (slot_in old m)) x.0) ∙ e in
     let f = mapped_some change (slot_in old m) s at in
-    ap (λ (v : Vec ℕ). lookup (λ k. bytes_eq v.items k.items) numbers) f.2 ∙ t.known m f.0 f.1)
+    ap (λ (v : List ℕ). lookup (λ k. bytes_eq v k.items) numbers) f.2 ∙ t.known m f.0 f.1)
     (λ (x : (nat_eq m n ≡ false) × (m ≢ n)). t.known m s (sym (at_others n change old new m x.1 h) ∙ e))
     (which_number m n)
 
@@ -146,7 +146,7 @@ one_word es v w n t e f =
     let g = t.found v n e in
     let h = t.found w n f in
     let same : g.0 ≡ h.0 = some_is g.0 h.0 (sym g.1 ∙ h.1) in
-    sym g.2 ∙ ap (λ (s : CachedWord). s.word.items) same ∙ h.2
+    sym g.2 ∙ ap (λ (s : CachedWord). s.word) same ∙ h.2
 
 pub altered_changes : (n : ℕ) (change : Queue → Queue) (old new : Entries) (word : List ℕ) → IsTable old → IsAltered n change old new → number_in old word ≡ Some n → Changes old word (change (queue_in old word)) new
 altered_changes n change old new word t a e w =
@@ -166,68 +166,97 @@ altered_not n old new a w =
     (λ (h : number_in old w ≢ Some n). a.others w h)
     (has_it (number_in old w) n)
 
+-- ---- a queue without documents and room
+
+nothing : {X : Type 0} (xs : List X) → nat_eq (length xs) 0 ≡ true → xs ≡ []
+nothing [] e = refl
+nothing (x ∷ xs) e = absurd (let never : length (x ∷ xs) ≡ 0 = grind arith in omega (arith, never))
+
+pub spent_parts : (q : Queue) → is_spent q ≡ true → (q.postings ≡ []) × (q.room ≡ 0)
+spent_parts q e = by (nat_eq (length q.postings) 0) refl e
+  where
+    by : (b : Bool) → nat_eq (length q.postings) 0 ≡ b → (b && nat_eq q.room 0) ≡ true → (q.postings ≡ []) × (q.room ≡ 0)
+    by true f g = (nothing q.postings f, grind arith)
+    by false f g = absurd (let never : false ≡ true = g in cc)
+
+pub unspent : (es : Entries) (n : ℕ) (w : List ℕ) → IsTable es → is_spent_at es.slots n ≡ false → number_in es w ≡ Some n → is_spent (queue_in es w) ≡ false
+unspent es n w t none e =
+    let f = t.found w n e in
+    ap is_spent (queue_of_number es w n f.0 e f.1)
+    ∙ sym (ap (λ (o : Option CachedWord). option_map_or (λ (s : CachedWord). is_spent s.queue) o false) f.1)
+    ∙ none
+
 -- ---- a word is let go of
 
 pub record LeavesLess (n : ℕ) (old new : Entries) : Type 0 where
   pub table : IsTable new
   pub less : LetsGo n old new
 
-pub lets_none : (n : ℕ) (old : Entries) → LetsGo n old old
-lets_none n old = record { less = record { numbers = λ w m e. e; postings = λ w. refl; last = λ w. omega arith }; room = λ w. omega arith; others = λ w e. refl }
+pub lets_none : (n : ℕ) (old : Entries) → IsTable old → is_spent_at old.slots n ≡ false → LetsGo n old old
+lets_none n old t none = record {
+  less = record { numbers = λ w m e. e; postings = λ w. refl; last = λ w. omega arith };
+  room = λ w. refl;
+  others = λ w e. refl;
+  used = λ w e. unspent old n w t none e;
+}
 
 pub less_not : (old : Entries) → IsLess old old
 less_not old = record { numbers = λ w n e. e; postings = λ w. refl; last = λ w. omega arith }
 
-pub let_go : (old new : Entries) (n : ℕ) (s : CachedWord) → IsTable old → slot_in old.slots n ≡ Some s → s.queue.postings ≡ []
+pub let_go : (old new : Entries) (n : ℕ) (s : CachedWord) → IsTable old → slot_in old.slots n ≡ Some s → is_spent s.queue ≡ true
     → slot_in new.slots n ≡ None → ((m : ℕ) → m ≢ n → slot_in new.slots m ≡ slot_in old.slots m)
-    → ((w : List ℕ) → number_in new w ≡ cond (bytes_eq w s.word.items) None (number_in old w))
+    → ((w : List ℕ) → number_in new w ≡ cond (bytes_eq w s.word) None (number_in old w))
     → LeavesLess n old new
-let_go old new n s t at unused gone others numbers = record {
+let_go old new n s t at spent gone others numbers = record {
   table = record {
     found = λ w m e.
         let k = kept w m e in
         let f = t.found w m k.0 in
-        let r : (x : CachedWord) × (slot_in new.slots m ≡ Some x) × (x.word.items ≡ w) = (f.0, others m k.1 ∙ f.1, f.2) in r;
+        let r : (x : CachedWord) × (slot_in new.slots m ≡ Some x) × (x.word ≡ w) = (f.0, others m k.1 ∙ f.1, f.2) in r;
     known = known;
   };
   less = record {
     less = record { numbers = λ w m e. (kept w m e).0; postings = postings; last = last };
     room = room;
     others = others_stay;
+    used = λ w e. absurd ((kept w n e).1 refl);
   };
 }
   where
-    is_word : number_in old s.word.items ≡ Some n
+    unused : s.queue.postings ≡ []
+    unused = (spent_parts s.queue spent).0
+
+    is_word : number_in old s.word ≡ Some n
     is_word = t.known n s at
 
     kept : (w : List ℕ) (m : ℕ) → number_in new w ≡ Some m → (number_in old w ≡ Some m) × (m ≢ n)
     kept w m e =
         ⊎_elim
-        (λ (h : (bytes_eq w s.word.items ≡ true) × (w ≡ s.word.items)). none_is_not m _ (sym (numbers w ∙ ap (λ (b : Bool). cond b None (number_in old w)) h.0) ∙ e))
-        (λ (h : (bytes_eq w s.word.items ≡ false) × (w ≢ s.word.items)).
+        (λ (h : (bytes_eq w s.word ≡ true) × (w ≡ s.word)). none_is_not m _ (sym (numbers w ∙ ap (λ (b : Bool). cond b None (number_in old w)) h.0) ∙ e))
+        (λ (h : (bytes_eq w s.word ≡ false) × (w ≢ s.word)).
         let o : number_in old w ≡ Some m = sym (numbers w ∙ ap (λ (b : Bool). cond b None (number_in old w)) h.0) ∙ e in
-        (o, λ (same : m ≡ n). h.1 (one_word old w s.word.items n t (o ∙ ap Some same) is_word)))
-        (which_word w s.word.items)
+        (o, λ (same : m ≡ n). h.1 (one_word old w s.word n t (o ∙ ap Some same) is_word)))
+        (which_word w s.word)
 
-    known : (m : ℕ) (x : CachedWord) → slot_in new.slots m ≡ Some x → number_in new x.word.items ≡ Some m
+    known : (m : ℕ) (x : CachedWord) → slot_in new.slots m ≡ Some x → number_in new x.word ≡ Some m
     known m x e =
         ⊎_elim
         (λ (h : (nat_eq m n ≡ true) × (m ≡ n)). none_is_not x _ (sym (ap (slot_in new.slots) h.1 ∙ gone) ∙ e))
         (λ (h : (nat_eq m n ≡ false) × (m ≢ n)).
-        let o : number_in old x.word.items ≡ Some m = t.known m x (sym (others m h.1) ∙ e) in
+        let o : number_in old x.word ≡ Some m = t.known m x (sym (others m h.1) ∙ e) in
         ⊎_elim
-        (λ (g : (bytes_eq x.word.items s.word.items ≡ true) × (x.word.items ≡ s.word.items)). absurd (h.1 (some_is m n (sym o ∙ ap (number_in old) g.1 ∙ is_word))))
-        (λ (g : (bytes_eq x.word.items s.word.items ≡ false) × (x.word.items ≢ s.word.items)). numbers x.word.items ∙ ap (λ (b : Bool). cond b None (number_in old x.word.items)) g.0 ∙ o)
-        (which_word x.word.items s.word.items))
+        (λ (g : (bytes_eq x.word s.word ≡ true) × (x.word ≡ s.word)). absurd (h.1 (some_is m n (sym o ∙ ap (number_in old) g.1 ∙ is_word))))
+        (λ (g : (bytes_eq x.word s.word ≡ false) × (x.word ≢ s.word)). numbers x.word ∙ ap (λ (b : Bool). cond b None (number_in old x.word)) g.0 ∙ o)
+        (which_word x.word s.word))
         (which_number m n)
 
-    stays : (w : List ℕ) → w ≢ s.word.items → number_in new w ≡ number_in old w → (o : Option ℕ) → number_in old w ≡ o → queue_in new w ≡ queue_in old w
+    stays : (w : List ℕ) → w ≢ s.word → number_in new w ≡ number_in old w → (o : Option ℕ) → number_in old w ≡ o → queue_in new w ≡ queue_in old w
     stays w differs e None f = queue_of_none new w (e ∙ f) ∙ sym (queue_of_none old w f)
     stays w differs e (Some m) f =
         let g = t.found w m f in
         queue_of_number new w m g.0 (e ∙ f) (others m (kept w m (e ∙ f)).1 ∙ g.1) ∙ sym (queue_of_number old w m g.0 f g.1)
 
-    here : (w : List ℕ) → bytes_eq w s.word.items ≡ true → w ≡ s.word.items → (queue_in new w ≡ no_queue) × (queue_in old w ≡ s.queue)
+    here : (w : List ℕ) → bytes_eq w s.word ≡ true → w ≡ s.word → (queue_in new w ≡ no_queue) × (queue_in old w ≡ s.queue)
     here w b same = (
       queue_of_none new w (numbers w ∙ ap (λ (c : Bool). cond c None (number_in old w)) b),
       queue_of_number old w n s (ap (number_in old) same ∙ is_word) at,
@@ -236,37 +265,39 @@ let_go old new n s t at unused gone others numbers = record {
     postings : (w : List ℕ) → (queue_in new w).postings ≡ (queue_in old w).postings
     postings w =
         ⊎_elim
-        (λ (h : (bytes_eq w s.word.items ≡ true) × (w ≡ s.word.items)).
+        (λ (h : (bytes_eq w s.word ≡ true) × (w ≡ s.word)).
         let q = here w h.0 h.1 in
         ap (λ (x : Queue). x.postings) q.0 ∙ sym unused ∙ ap (λ (x : Queue). x.postings) (sym q.1))
-        (λ (h : (bytes_eq w s.word.items ≡ false) × (w ≢ s.word.items)).
+        (λ (h : (bytes_eq w s.word ≡ false) × (w ≢ s.word)).
         ap (λ (x : Queue). x.postings) (stays w h.1 (numbers w ∙ ap (λ (b : Bool). cond b None (number_in old w)) h.0) (number_in old w) refl))
-        (which_word w s.word.items)
+        (which_word w s.word)
 
-    there : (w : List ℕ) → bytes_eq w s.word.items ≡ false → w ≢ s.word.items → queue_in new w ≡ queue_in old w
+    there : (w : List ℕ) → bytes_eq w s.word ≡ false → w ≢ s.word → queue_in new w ≡ queue_in old w
     there w b differs = stays w differs (numbers w ∙ ap (λ (c : Bool). cond c None (number_in old w)) b) (number_in old w) refl
 
-    room : (w : List ℕ) → (queue_in new w).room ≤ (queue_in old w).room
+    room : (w : List ℕ) → (queue_in new w).room ≡ (queue_in old w).room
     room w =
         ⊎_elim
-        (λ (h : (bytes_eq w s.word.items ≡ true) × (w ≡ s.word.items)). omega (arith, ap (λ (x : Queue). x.room) (here w h.0 h.1).0))
-        (λ (h : (bytes_eq w s.word.items ≡ false) × (w ≢ s.word.items)). omega (arith, ap (λ (x : Queue). x.room) (there w h.0 h.1)))
-        (which_word w s.word.items)
+        (λ (h : (bytes_eq w s.word ≡ true) × (w ≡ s.word)).
+        let q = here w h.0 h.1 in
+        ap (λ (x : Queue). x.room) q.0 ∙ sym (spent_parts s.queue spent).1 ∙ ap (λ (x : Queue). x.room) (sym q.1))
+        (λ (h : (bytes_eq w s.word ≡ false) × (w ≢ s.word)). ap (λ (x : Queue). x.room) (there w h.0 h.1))
+        (which_word w s.word)
 
     others_stay : (w : List ℕ) → number_in old w ≢ Some n → queue_in new w ≡ queue_in old w
     others_stay w differs =
         ⊎_elim
-        (λ (h : (bytes_eq w s.word.items ≡ true) × (w ≡ s.word.items)). absurd (differs (ap (number_in old) h.1 ∙ is_word)))
-        (λ (h : (bytes_eq w s.word.items ≡ false) × (w ≢ s.word.items)). there w h.0 h.1)
-        (which_word w s.word.items)
+        (λ (h : (bytes_eq w s.word ≡ true) × (w ≡ s.word)). absurd (differs (ap (number_in old) h.1 ∙ is_word)))
+        (λ (h : (bytes_eq w s.word ≡ false) × (w ≢ s.word)). there w h.0 h.1)
+        (which_word w s.word)
 
     last : (w : List ℕ) → (queue_in new w).last ≤ (queue_in old w).last
     last w =
         ⊎_elim
-        (λ (h : (bytes_eq w s.word.items ≡ true) × (w ≡ s.word.items)). omega (arith, ap (λ (x : Queue). x.last) (here w h.0 h.1).0))
-        (λ (h : (bytes_eq w s.word.items ≡ false) × (w ≢ s.word.items)).
+        (λ (h : (bytes_eq w s.word ≡ true) × (w ≡ s.word)). omega (arith, ap (λ (x : Queue). x.last) (here w h.0 h.1).0))
+        (λ (h : (bytes_eq w s.word ≡ false) × (w ≢ s.word)).
         omega (arith, ap (λ (x : Queue). x.last) (stays w h.1 (numbers w ∙ ap (λ (b : Bool). cond b None (number_in old w)) h.0) (number_in old w) refl)))
-        (which_word w s.word.items)
+        (which_word w s.word)
 
 -- documents were taken out of a queue, and then words were let go of
 pub dropped : (n doc : ℕ) (old now new : Entries) → IsTable old → now.numbers ≡ old.numbers → IsAltered n (without doc) old now → LetsGo n now new → (w : List ℕ) → IsDropped n doc old new w
@@ -289,7 +320,7 @@ pub record LeavesEntered (old new : Entries) (word : List ℕ) (n : ℕ) : Type 
   pub number : number_in new word ≡ Some n
   pub enters : Enters old new
 
-pub entered : (old new : Entries) (word : List ℕ) (n : ℕ) (s : CachedWord) → IsTable old → number_in old word ≡ None → s.word.items ≡ word → s.queue ≡ no_queue
+pub entered : (old new : Entries) (word : List ℕ) (n : ℕ) (s : CachedWord) → IsTable old → number_in old word ≡ None → s.word ≡ word → s.queue ≡ no_queue
     → slot_in old.slots n ≡ None → slot_in new.slots n ≡ Some s → ((m : ℕ) → m ≢ n → slot_in new.slots m ≡ slot_in old.slots m)
     → ((w : List ℕ) → number_in new w ≡ cond (bytes_eq w word) (Some n) (number_in old w))
     → LeavesEntered old new word n
@@ -308,29 +339,29 @@ entered old new word n s t absent is_word empty free at others numbers = record 
     taken : (m : ℕ) (x : CachedWord) → slot_in old.slots m ≡ Some x → m ≢ n
     taken m x e same = none_is_not x ⊥ (sym (ap (slot_in old.slots) same ∙ free) ∙ e)
 
-    found : (w : List ℕ) (m : ℕ) → number_in new w ≡ Some m → (x : CachedWord) × (slot_in new.slots m ≡ Some x) × (x.word.items ≡ w)
+    found : (w : List ℕ) (m : ℕ) → number_in new w ≡ Some m → (x : CachedWord) × (slot_in new.slots m ≡ Some x) × (x.word ≡ w)
     found w m e =
         ⊎_elim
         (λ (h : (bytes_eq w word ≡ true) × (w ≡ word)).
         let same : n ≡ m = some_is n m (sym (here w h.0) ∙ e) in
-        let r : (x : CachedWord) × (slot_in new.slots m ≡ Some x) × (x.word.items ≡ w) = (s, ap (slot_in new.slots) (sym same) ∙ at, is_word ∙ sym h.1) in r)
+        let r : (x : CachedWord) × (slot_in new.slots m ≡ Some x) × (x.word ≡ w) = (s, ap (slot_in new.slots) (sym same) ∙ at, is_word ∙ sym h.1) in r)
         (λ (h : (bytes_eq w word ≡ false) × (w ≢ word)).
         let f = t.found w m (sym (there w h.0) ∙ e) in
-        let r : (x : CachedWord) × (slot_in new.slots m ≡ Some x) × (x.word.items ≡ w) = (f.0, others m (taken m f.0 f.1) ∙ f.1, f.2) in r)
+        let r : (x : CachedWord) × (slot_in new.slots m ≡ Some x) × (x.word ≡ w) = (f.0, others m (taken m f.0 f.1) ∙ f.1, f.2) in r)
         (which_word w word)
 
-    known : (m : ℕ) (x : CachedWord) → slot_in new.slots m ≡ Some x → number_in new x.word.items ≡ Some m
+    known : (m : ℕ) (x : CachedWord) → slot_in new.slots m ≡ Some x → number_in new x.word ≡ Some m
     known m x e =
         ⊎_elim
         (λ (h : (nat_eq m n ≡ true) × (m ≡ n)).
         let same : s ≡ x = some_is s x (sym (ap (slot_in new.slots) h.1 ∙ at) ∙ e) in
-        ap (λ (y : CachedWord). number_in new y.word.items) (sym same) ∙ ap (number_in new) is_word ∙ here word (is_same word) ∙ ap Some (sym h.1))
+        ap (λ (y : CachedWord). number_in new y.word) (sym same) ∙ ap (number_in new) is_word ∙ here word (is_same word) ∙ ap Some (sym h.1))
         (λ (h : (nat_eq m n ≡ false) × (m ≢ n)).
-        let o : number_in old x.word.items ≡ Some m = t.known m x (sym (others m h.1) ∙ e) in
+        let o : number_in old x.word ≡ Some m = t.known m x (sym (others m h.1) ∙ e) in
         ⊎_elim
-        (λ (g : (bytes_eq x.word.items word ≡ true) × (x.word.items ≡ word)). none_is_not m _ (sym absent ∙ ap (number_in old) (sym g.1) ∙ o))
-        (λ (g : (bytes_eq x.word.items word ≡ false) × (x.word.items ≢ word)). there x.word.items g.0 ∙ o)
-        (which_word x.word.items word))
+        (λ (g : (bytes_eq x.word word ≡ true) × (x.word ≡ word)). none_is_not m _ (sym absent ∙ ap (number_in old) (sym g.1) ∙ o))
+        (λ (g : (bytes_eq x.word word ≡ false) × (x.word ≢ word)). there x.word g.0 ∙ o)
+        (which_word x.word word))
         (which_number m n)
 
     keeps : (w : List ℕ) (m : ℕ) → number_in old w ≡ Some m → number_in new w ≡ Some m

@@ -1,6 +1,6 @@
 -- What contracts see of a cache.
 use Rattle.std.specs.Prelude.{◌≡◌, ℕ, ◌+◌, ◌^◌, ◌<◌, ◌≤◌, List, [], ◌∷◌, length, filter, sum_by, nat_lt}
-use Rattle.std.specs.Prelude.{Bool, false, if◌then◌else◌}
+use Rattle.std.specs.Prelude.{◌≢◌, None, Bool, false, if◌then◌else◌}
 use Rattle.std.specs.List.{concat}
 use Rattle.std.specs.Option.{option_map_or}
 use Rattle.fts_ilist.specs.Spelling.{Posting}
@@ -36,6 +36,10 @@ room_of c word = (queue_in c.words word).room
 -- the size of the cache: the sum of its documents' sizes
 abbrev pub cache_size : CacheState → ℕ
 cache_size c = sum_by (λ d. d.size) c.documents
+
+-- each word that it holds has a document, or room for one
+abbrev pub HoldsNoOther : CacheState → Type 0
+HoldsNoOther c = (w : List ℕ) → number_in c.words w ≢ None → postings_of c w ≡ [] → 0 < room_of c w
 
 -- a document as the cache keeps it
 abbrev pub cached : Document → CachedDocument

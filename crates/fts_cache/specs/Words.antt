@@ -1,13 +1,15 @@
 -- The cached words, each by its number, and their queues.
-use Rattle.std.specs.Prelude.{◌≡◌, ◌≢◌, ℕ, ◌+◌, ◌-◌, ◌^◌, ◌<◌, ◌≤◌, Bool, ◌&&◌, nat_eq, nat_le, nat_lt, map, filter}
+use Rattle.std.specs.Prelude.{◌≡◌, ◌≢◌, ℕ, ◌+◌, ◌-◌, ◌^◌, ◌<◌, ◌≤◌, Bool, ◌&&◌, nat_eq, nat_le, nat_lt, filter}
 use Rattle.std.specs.Prelude.{List, [], ◌∷◌, ◌++◌, length, if◌then◌else◌}
-use Rattle.std.specs.Prelude.{Option, Some, None, slice_index_or, filter_map, true, false}
+use Rattle.std.specs.Prelude.{Option, Some, None, is_some, slice_index_or, filter_map, true, false}
 use Rattle.std.specs.Global.{Vec}
 use Rattle.std.specs.List.{starts_with, list_any}
+use Rattle.std.specs.BTreeSet.{BTreeSet, contains}
 use Rattle.std.specs.Map.{lookup}
-use Rattle.std.specs.Option.{unwrap_or, option_map}
+use Rattle.std.specs.Option.{unwrap_or, option_map, option_map_or}
 use Rattle.std.specs.Str.{bytes_eq}
 use Rattle.fts_ilist.specs.Spelling.{Posting, ArePositions}
+use Rattle.fts_ilist.specs.Node.{byte_order}
 use Rattle.fts_ilist.specs.Queue.{Queue, bytes_for, postings_behind}
 use Rattle.fts_cache.specs.Document.{WordPositions, Document, postings_from, document_postings, bytes_in}
 use Rattle.fts_cache.specs.declared.words.CachedWord.{CachedWord}
@@ -42,8 +44,36 @@ queue_in entries word = unwrap_or (option_map (queue_at entries.slots) (number_i
 -- each word is found by its number, and each number is that of its word
 pub record IsTable (entries : Entries) : Type 0 where
   pub found : (w : List ℕ) (n : ℕ) → number_in entries w ≡ Some n
-      → (s : CachedWord) × (slot_in entries.slots n ≡ Some s) × (s.word.items ≡ w)
-  pub known : (n : ℕ) (s : CachedWord) → slot_in entries.slots n ≡ Some s → number_in entries s.word.items ≡ Some n
+      → (s : CachedWord) × (slot_in entries.slots n ≡ Some s) × (s.word ≡ w)
+  pub known : (n : ℕ) (s : CachedWord) → slot_in entries.slots n ≡ Some s → number_in entries s.word ≡ Some n
+
+-- whether the queue has neither documents nor room
+abbrev pub is_spent : Queue → Bool
+is_spent q = nat_eq (length q.postings) 0 && nat_eq q.room 0
+
+-- whether there is a queue with this number that has neither
+abbrev pub is_spent_at : Slots → ℕ → Bool
+is_spent_at slots number = option_map_or (λ s. is_spent s.queue) (slot_in slots number) false
+
+-- the number is one of these
+abbrev pub has_number : ℕ → List ℕ → Bool
+has_number n numbers = list_any (nat_eq n) numbers
+
+-- a word without documents and room has one of these numbers
+abbrev pub IsUsedBut : Entries → List ℕ → Type 0
+IsUsedBut entries fresh = (w : List ℕ) (n : ℕ) → number_in entries w ≡ Some n
+    → is_spent (queue_in entries w) ≡ true → has_number n fresh ≡ true
+
+-- the words in byte order are those that have a number
+abbrev pub IsListed : List (Vec ℕ × ℕ) → BTreeSet (List ℕ) → Type 0
+IsListed numbers order = (w : List ℕ) → contains byte_order order w
+    ≡ is_some (lookup (λ k. bytes_eq w k.items) numbers)
+
+-- the fields of the words; the fresh numbers are those of words that were entered since words were let go of
+pub record AreKept (entries : Entries) (order : BTreeSet (List ℕ)) (fresh : List ℕ) : Type 0 where
+  pub table : IsTable entries
+  pub listed : IsListed entries.numbers order
+  pub used : IsUsedBut entries fresh
 
 -- the word with its queue changed so
 abbrev pub with_queue : (Queue → Queue) → CachedWord → CachedWord
@@ -106,11 +136,12 @@ pub record IsLess (old new : Entries) : Type 0 where
   pub postings : (w : List ℕ) → (queue_in new w).postings ≡ (queue_in old w).postings
   pub last : (w : List ℕ) → (queue_in new w).last ≤ (queue_in old w).last
 
--- the word with this number was let go of, if it has no document, and no other
+-- the word with this number was let go of, if it has neither documents nor room, and no other
 pub record LetsGo (number : ℕ) (old new : Entries) : Type 0 where
   pub less : IsLess old new
-  pub room : (w : List ℕ) → (queue_in new w).room ≤ (queue_in old w).room
+  pub room : (w : List ℕ) → (queue_in new w).room ≡ (queue_in old w).room
   pub others : (w : List ℕ) → number_in old w ≢ Some number → queue_in new w ≡ queue_in old w
+  pub used : (w : List ℕ) → number_in new w ≡ Some number → is_spent (queue_in new w) ≡ false
 
 -- no queue takes an id only above this one
 abbrev pub EndBy : ℕ → Entries → Type 0
@@ -145,10 +176,6 @@ AreNumbersOf entries (v ∷ vs) (n ∷ ns) = (number_in entries v.word ≡ Some 
 AreNumbersOf entries [] (n ∷ ns) = ⊥
 AreNumbersOf entries (v ∷ vs) [] = ⊥
 
--- the number is one of these
-abbrev pub has_number : ℕ → List ℕ → Bool
-has_number n numbers = list_any (nat_eq n) numbers
-
 -- the room of w, where that of the words with these numbers was given up
 pub record GivesUp (numbers : List ℕ) (old new : Entries) (w : List ℕ) : Type 0 where
   pub given : (n : ℕ) → number_in old w ≡ Some n → has_number n numbers ≡ true → (queue_in new w).room ≡ 0
@@ -166,16 +193,21 @@ leaves doc queue = nat_lt 0 (length (postings_until doc queue.postings))
 -- the word, where it has a document up to this id
 abbrev pub leaving_word : ℕ → Option CachedWord → Option (List ℕ)
 leaving_word doc None = None
-leaving_word doc (Some s) = if leaves doc s.queue then Some s.word.items else None
+leaving_word doc (Some s) = if leaves doc s.queue then Some s.word else None
 
 -- those of these words that have a document up to this id
 abbrev pub leaving_words : Slots → ℕ → List ℕ → List (List ℕ)
 leaving_words slots doc numbers = filter_map (λ n. leaving_word doc (slot_in slots n)) numbers
 
--- whether a word begins so and has a document
-abbrev pub shows : Slots → List ℕ → List ℕ → ℕ → Bool
-shows slots prefix word number = starts_with nat_eq word prefix && nat_lt 0 (length (queue_at slots number).postings)
+-- of words in byte order, the first that begin so
+abbrev pub front : List ℕ → List (List ℕ) → List (List ℕ)
+front prefix [] = []
+front prefix (w ∷ ws) = if starts_with nat_eq w prefix then w ∷ front prefix ws else []
 
--- the words that pass a test with their numbers, as they were entered
-abbrev pub words_by : (List ℕ → ℕ → Bool) → List (Vec ℕ × ℕ) → List (List ℕ)
-words_by test numbers = map (λ e. e.0.items) (filter (λ e. test e.0.items e.1) numbers)
+-- whether a document has the word
+abbrev pub has_documents : Entries → List ℕ → Bool
+has_documents entries w = nat_lt 0 (length (queue_in entries w).postings)
+
+-- those of these words that a document has
+abbrev pub with_documents : Entries → List (List ℕ) → List (List ℕ)
+with_documents entries words = filter (λ w. has_documents entries w) words

@@ -4,7 +4,7 @@ ghost use Rattle.std.specs.Prelude.{OnOk, Some, false};
 ghost use Rattle.fts_ilist.specs.Queue.{postings_behind};
 ghost use Rattle.fts_cache.specs.Document.{bytes_in, bytes_of};
 ghost use Rattle.fts_cache.specs.Words.{number_in, queue_in, has_number, AreNumbersOf, Grows};
-ghost use Rattle.fts_cache.specs.Words.{IsLess, IsAdded, KeepsNumbers, GivesUp};
+ghost use Rattle.fts_cache.specs.Words.{IsLess, IsAdded, KeepsNumbers, GivesUp, IsUsedBut};
 ghost use Rattle.std.specs.List.{concat};
 ghost use Rattle.fts_cache.specs.Cache.{AreNumbers};
 
@@ -19,11 +19,13 @@ fn reserve_words(
     numbers: &mut Vec<u32>,
     document: &DocWords,
 ) -> Result<(), AllocError>
-    requires { numbers.old.items ≡ [] }
+    requires numbers { numbers.old.items ≡ [] }
+    requires used { IsUsedBut words.old [] }
     ensures room { OnOk result ((w : List ℕ)
         → (queue_in words.new w).room
         ≡ (queue_in words.old w).room + bytes_in w document.now.words) }
     ensures numbers { OnOk result (AreNumbersOf words.new document.now.words numbers.new.items) }
+    ensures used { OnOk result (IsUsedBut words.new []) }
     ensures grows { Grows words.old words.new }
 {
     for place in 0..document.len() {
@@ -41,6 +43,7 @@ fn reserve_document(
     promised: &mut VecDeque<Vec<u32>>,
     document: &DocWords,
 ) -> Result<(), AllocError>
+    requires { IsUsedBut words.old [] }
     ensures room { OnOk result ((w : List ℕ)
         → (queue_in words.new w).room
         ≡ (queue_in words.old w).room + bytes_in w document.now.words) }
@@ -48,6 +51,7 @@ fn reserve_document(
         × AreNumbersOf words.new document.now.words numbers
         × (map (λ n. n.items) promised.new.items
         ≡ map (λ n. n.items) promised.old.items ++ numbers ∷ [])) }
+    ensures used { OnOk result (IsUsedBut words.new []) }
     ensures grows { Grows words.old words.new }
 {
     let mut numbers = Vec::with_capacity(words.allocator(), document.len())?;
@@ -63,12 +67,14 @@ pub(crate) fn reserve_documents(
     promised: &mut VecDeque<Vec<u32>>,
     documents: &[DocWords],
 ) -> Result<(), AllocError>
-    requires { map (λ n. n.items) promised.old.items ≡ [] }
+    requires promised { map (λ n. n.items) promised.old.items ≡ [] }
+    requires used { IsUsedBut words.old [] }
     ensures room { OnOk result ((w : List ℕ)
         → (queue_in words.new w).room
         ≡ (queue_in words.old w).room + bytes_of w documents.now) }
     ensures numbers { OnOk result (AreNumbers words.new documents.now
         (map (λ n. n.items) promised.new.items)) }
+    ensures used { OnOk result (IsUsedBut words.new []) }
     ensures grows { Grows words.old words.new }
 {
     for document in documents {
@@ -87,8 +93,21 @@ fn release_words(words: &mut Words, numbers: &[u32])
     }
 }
 
-/// Gives up the room that was promised and not used.
+/// Gives up the room that was promised and not used, and lets go of the words that then have
+/// neither documents nor room.
 pub(crate) fn release_promised(words: &mut Words, promised: &mut VecDeque<Vec<u32>>)
+    ensures less { IsLess words.old words.new }
+    ensures room { (w : List ℕ) → GivesUp (concat (map (λ n. n.items) promised.old.items)) words.old
+        words.new w }
+    ensures used { IsUsedBut words.new [] }
+    ensures promised { map (λ n. n.items) promised.new.items ≡ [] }
+{
+    release_all(words, promised);
+    words.sweep();
+}
+
+/// Gives up the room that was promised and not used.
+fn release_all(words: &mut Words, promised: &mut VecDeque<Vec<u32>>)
     ensures less { IsLess words.old words.new }
     ensures room { (w : List ℕ) → GivesUp (concat (map (λ n. n.items) promised.old.items)) words.old
         words.new w }

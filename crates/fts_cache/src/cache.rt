@@ -8,7 +8,7 @@ ghost use Rattle.fts_cache.specs.Document.{Document, document_size, document_pos
 ghost use Rattle.fts_cache.specs.Document.{bytes_of};
 ghost use Rattle.fts_cache.specs.Cache.{CacheState, CachedDocument, postings_of, cache_size};
 ghost use Rattle.fts_cache.specs.Cache.{cached, cached_behind, SameContents, HasRoom, BeginsAbove};
-ghost use Rattle.fts_cache.specs.Cache.{IdsAscend, room_of, room_left};
+ghost use Rattle.fts_cache.specs.Cache.{IdsAscend, room_of, room_left, HoldsNoOther};
 ghost use Rattle.fts_cache.specs.Words.{queue_in, postings_until};
 ghost use Rattle.fts_cache.specs.Kept.{kept, NoteWords, NotesUntil};
 ghost use Rattle.fts_cache.specs.Sorted.{IsAmong, AscendByBytes};
@@ -181,8 +181,9 @@ impl Cache {
     }
 
     /// Makes room for the documents, so that `add` can take them, one after another, without
-    /// memory. Room that an earlier call made and that nobody used is given up. Where there is no
-    /// memory, the contents stay as they were.
+    /// memory. Room that an earlier call made and that nobody used is given up, and a word that has
+    /// neither documents nor room is let go of. Where there is no memory, the contents stay as they
+    /// were.
     ///
     /// It looks each word up once, and notes its number for `add`. A word that the cache hasn't yet
     /// is entered without a document, and counts as absent.
@@ -190,6 +191,7 @@ impl Cache {
         ensures room { OnOk result (HasRoom self.new documents.now) }
         ensures held { OnOk result ((w : List ℕ)
             → room_of self.new w ≡ room_left self.old w + bytes_of w documents.now) }
+        ensures no_other { OnOk result (HoldsNoOther self.new) }
         ensures contents { SameContents self.old self.new }
     {
         // A size past 64 bits is one that no memory holds.
@@ -236,7 +238,7 @@ impl Cache {
     /// The words that begin so and that a document has, in the order of their bytes, each once.
     /// They lie in the cache's allocator.
     ///
-    /// It goes over all cached words, which the setting of the cache's size bounds.
+    /// It takes logarithmic time, and a look-up for each word that begins so.
     pub fn prefix(&self, prefix: &[u8]) -> Result<Vec<&[u8]>, AllocError>
         ensures words { IfOk result
             (λ words. (w : List ℕ) → IsAmong w words.items
@@ -261,7 +263,8 @@ impl Cache {
     }
 
     /// Takes the documents up to `doc` out, with their words. Each document and each of its words
-    /// takes constant time. A word that no document has any more is let go of.
+    /// takes constant time, and a word that no document has any more logarithmic time: it is let go
+    /// of, unless there is room for it.
     pub fn drop_until(&mut self, doc: u64)
         ensures documents { self.new.documents ≡ cached_behind doc self.old.documents }
         ensures postings { (w : List ℕ)

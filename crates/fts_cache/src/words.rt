@@ -14,18 +14,24 @@ ghost use Rattle.fts_cache.specs.Words.{Alters, CanTake, Enters, Changes, Stays,
 ghost use Rattle.fts_cache.specs.Words.{LetsGo, GivesUp};
 ghost use Rattle.fts_cache.specs.Words.{IsDropped, with_more_room, without_room, with_posting};
 ghost use Rattle.fts_cache.specs.Words.{without, postings_until, has_number, leaves};
-ghost use Rattle.fts_cache.specs.Words.{leaving_word, leaving_words, shows, words_by};
+ghost use Rattle.fts_cache.specs.Words.{leaving_word, leaving_words, front, has_documents};
+ghost use Rattle.fts_cache.specs.Words.{with_documents, is_spent, is_spent_at, IsUsedBut, IsListed};
+ghost use Rattle.fts_cache.specs.Words.{IsLess, AreKept};
 
 use fts_ilist::{Cursor, PostingQueue};
+use fts_types::Word;
 use indexmap::IndexMap;
 use slab::Slab;
 use std::alloc::{AllocError, Global};
+use std::collections::BTreeSet;
+use std::collections::btree_set::Range;
 use std::marker::Model;
+use std::ops::Bound;
 
 /// A word, and its documents.
 #[derive(Drop)]
 pub(crate) struct CachedWord {
-    word: Vec<u8>,
+    word: Word,
     queue: PostingQueue,
 }
 
@@ -37,19 +43,23 @@ pub(crate) struct Words {
     numbers: IndexMap<Vec<u8>, u32>,
     // By their numbers.
     slots: Slab<CachedWord>,
+    // In the order of their bytes.
+    order: BTreeSet<Word>,
+    // The numbers of the words that were entered since the last sweep.
+    fresh: Vec<u32>,
 }
 
 impl Model for Words {
-    ghost use Rattle.fts_cache.specs.Words.{Entries, IsTable};
+    ghost use Rattle.fts_cache.specs.Words.{Entries, AreKept};
 
     ghost Value = { Entries };
 
     ghost view = { λ w. record { numbers = w.numbers.entries; slots = w.slots.slots } };
 
-    ghost invariant = { λ w. IsTable (record {
+    ghost invariant = { λ w. AreKept (record {
       numbers = w.numbers.entries;
       slots = w.slots.slots;
-    }) };
+    }) w.order w.fresh.items };
 }
 
 /// Makes room for one more document in the queue with this number.
@@ -94,20 +104,37 @@ fn drop_at(slots: &mut Slab<CachedWord>, number: u32, doc: u64)
     }
 }
 
-/// Whether there is a queue with this number, and it has no document.
+/// Whether a queue has neither documents nor room.
+fn is_idle(queue: &PostingQueue) -> bool
+    ensures { result ≡ is_spent queue.now }
+{
+    if !queue.is_empty() {
+        return false;
+    }
+    queue.room() == 0
+}
+
+/// Whether there is a queue with this number that has neither documents nor room.
 fn is_unused(slots: &Slab<CachedWord>, number: u32) -> bool
-    ensures { IsTrue result → (queue_at slots.now.slots number).postings ≡ [] }
+    ensures { result ≡ is_spent_at slots.now.slots number }
 {
     match slots.get(number as usize) {
-        Some(cached) => cached.queue.is_empty(),
+        Some(cached) => is_idle(&cached.queue),
         None => false,
     }
 }
 
-/// Lets go of the word with this number, where it has no document.
-fn let_go(numbers: &mut IndexMap<Vec<u8>, u32>, slots: &mut Slab<CachedWord>, number: u32)
-    requires { IsTable (record { numbers = numbers.old.entries; slots = slots.old.slots }) }
+/// Lets go of the word with this number, where it has neither documents nor room.
+fn let_go(
+    numbers: &mut IndexMap<Vec<u8>, u32>,
+    slots: &mut Slab<CachedWord>,
+    order: &mut BTreeSet<Word>,
+    number: u32,
+)
+    requires table { IsTable (record { numbers = numbers.old.entries; slots = slots.old.slots }) }
+    requires listed { IsListed numbers.old.entries order.old }
     ensures table { IsTable (record { numbers = numbers.new.entries; slots = slots.new.slots }) }
+    ensures listed { IsListed numbers.new.entries order.new }
     ensures less { LetsGo number
         (record { numbers = numbers.old.entries; slots = slots.old.slots })
         (record { numbers = numbers.new.entries; slots = slots.new.slots }) }
@@ -116,7 +143,32 @@ fn let_go(numbers: &mut IndexMap<Vec<u8>, u32>, slots: &mut Slab<CachedWord>, nu
         return;
     }
     if let Some(cached) = slots.try_remove(number as usize) {
-        numbers.swap_remove(cached.word.as_slice());
+        numbers.swap_remove(cached.word.as_bytes());
+        order.remove(&cached.word);
+    }
+}
+
+/// Lets go of the words with these numbers that have neither documents nor room, which are all.
+fn let_go_all(
+    numbers: &mut IndexMap<Vec<u8>, u32>,
+    slots: &mut Slab<CachedWord>,
+    order: &mut BTreeSet<Word>,
+    fresh: &[u32],
+)
+    requires kept { AreKept (record { numbers = numbers.old.entries; slots = slots.old.slots })
+        order.old fresh.now }
+    ensures kept { AreKept (record { numbers = numbers.new.entries; slots = slots.new.slots })
+        order.new [] }
+    ensures less { IsLess (record { numbers = numbers.old.entries; slots = slots.old.slots })
+        (record { numbers = numbers.new.entries; slots = slots.new.slots }) }
+    ensures room { (w : List ℕ)
+        → (queue_in (record { numbers = numbers.new.entries; slots = slots.new.slots }) w).room
+        ≡ (queue_in (record { numbers = numbers.old.entries; slots = slots.old.slots }) w).room }
+{
+    let mut rest = fresh;
+    while let Some((first, behind)) = rest.split_first() {
+        let_go(numbers, slots, order, *first);
+        rest = behind;
     }
 }
 
@@ -135,7 +187,7 @@ fn leaving(slots: &Slab<CachedWord>, number: u32, doc: u64) -> Option<&[u8]>
     ensures { option_map (λ w. w.now) result ≡ leaving_word doc (slot_in slots.now.slots number) }
 {
     match slots.get(number as usize) {
-        Some(cached) if is_leaving(&cached.queue, doc) => Some(&cached.word),
+        Some(cached) if is_leaving(&cached.queue, doc) => Some(cached.word.as_bytes()),
         _ => None,
     }
 }
@@ -169,39 +221,28 @@ fn push_some<'a>(words: &mut Vec<&'a [u8]>, word: Option<&'a [u8]>) -> Result<()
     Ok(())
 }
 
-/// Whether a word begins so and has a document.
-fn is_shown(slots: &Slab<CachedWord>, word: &[u8], number: u32, prefix: &[u8]) -> bool
-    ensures { result ≡ shows slots.now.slots prefix.now word.now number }
-{
-    if !word.starts_with(prefix) {
-        return false;
-    }
-    match slots.get(number as usize) {
-        Some(cached) => !cached.queue.is_empty(),
-        None => false,
-    }
-}
-
-/// The words that begin so and have a document, as they were entered.
-fn all_shown<'a>(
-    numbers: &'a IndexMap<Vec<u8>, u32>,
-    slots: &Slab<CachedWord>,
+/// The words at the front of the rest that begin so, and that a document has.
+fn shown_with_prefix<'a>(
+    words: &'a Words,
+    rest: Range<'a, Word>,
     prefix: &[u8],
 ) -> Result<Vec<&'a [u8]>, AllocError>
-    ensures words { IfOk result (λ words. map (λ w. w.now) words.items
-        ≡ words_by (shows slots.now.slots prefix.now) numbers.now.entries) }
-    ensures unique { IsUnique (λ k l. bytes_eq k.items l.items) numbers.now }
+    ensures { IfOk result (λ found. map (λ w. w.now) found.items
+        ≡ with_documents words.now (front prefix.now rest.entry)) }
 {
-    let mut words = Vec::new(*numbers.allocator());
-    for place in 0..numbers.len() {
-        let (word, number) = match numbers.get_index(place) {
-            Some(entry) => entry,
-            None => unreachable!(),
-        };
-        let shown = is_shown(slots, word, *number, prefix);
-        push_shown(&mut words, word, shown)?;
+    let mut rest = rest;
+    let mut found = Vec::new(words.allocator());
+    while let Some(word) = rest.next() {
+        if !word.as_bytes().starts_with(prefix) {
+            return Ok(found);
+        }
+        push_shown(
+            &mut found,
+            word.as_bytes(),
+            words.has_documents(word.as_bytes()),
+        )?;
     }
-    Ok(words)
+    Ok(found)
 }
 
 /// Puts a word behind the others, where it shows.
@@ -223,6 +264,8 @@ impl Words {
         Words {
             numbers: IndexMap::new(alloc),
             slots: Slab::new(alloc),
+            order: BTreeSet::new(alloc),
+            fresh: Vec::new(alloc),
         }
     }
 
@@ -252,10 +295,21 @@ impl Words {
         }
     }
 
+    /// Whether a document has the word.
+    fn has_documents(&self, word: &[u8]) -> bool
+        ensures { result ≡ has_documents self.now word.now }
+    {
+        match self.docs(word).doc() {
+            Some(_) => true,
+            None => false,
+        }
+    }
+
     /// The number of a word, which is entered without documents where it is not here yet.
     pub fn enter(&mut self, word: &[u8]) -> Result<u32, AllocError>
         ensures number { IfOk result (λ n. number_in self.new word.now ≡ Some n) }
         ensures enters { Enters self.old self.new }
+        ensures used { IfOk result (λ n. IsUsedBut self.old [] → IsUsedBut self.new (n ∷ [])) }
     {
         if let Some(number) = self.numbers.get(word) {
             return Ok(*number);
@@ -265,11 +319,16 @@ impl Words {
             return Err(AllocError);
         };
         let key = Vec::from_slice(alloc, word)?;
-        let word = Vec::from_slice(alloc, word)?;
+        let listed = Word::copied(alloc, word)?;
+        let word = Word::copied(alloc, word)?;
         let queue = PostingQueue::new(alloc);
         self.slots.reserve(1)?;
-        self.numbers.insert(key, number)?;
+        self.numbers.reserve(1)?;
+        self.fresh.reserve(1)?;
+        self.order.insert(listed)?;
+        self.numbers.insert(key, number).unwrap();
         self.slots.insert_reserved(CachedWord { word, queue });
+        self.fresh.push(number).unwrap();
         Ok(number)
     }
 
@@ -281,6 +340,7 @@ impl Words {
         ensures ok { OnOk result ((word : List ℕ) → number_in self.old word ≡ Some number
             → Changes self.old word (with_more_room positions (queue_in self.old word))
             self.new) }
+        ensures used { OnOk result (IsUsedBut self.old (number ∷ []) → IsUsedBut self.new []) }
         ensures err { OnErr result (Stays self.old self.new) }
     {
         reserve_at(&mut self.slots, number, positions)
@@ -305,16 +365,32 @@ impl Words {
         ensures room { (w : List ℕ) → GivesUp (number ∷ []) self.old self.new w }
     {
         clear_at(&mut self.slots, number);
-        let_go(&mut self.numbers, &mut self.slots, number);
+        let_go(&mut self.numbers, &mut self.slots, &mut self.order, number);
+    }
+
+    /// Lets go of the words that have neither documents nor room. It costs those that were entered
+    /// since the last time.
+    pub fn sweep(&mut self)
+        ensures less { IsLess self.old self.new }
+        ensures room { (w : List ℕ) → (queue_in self.new w).room ≡ (queue_in self.old w).room }
+        ensures used { IsUsedBut self.new [] }
+    {
+        let_go_all(
+            &mut self.numbers,
+            &mut self.slots,
+            &mut self.order,
+            &self.fresh,
+        );
+        self.fresh.clear();
     }
 
     /// Takes the documents up to `doc` out of the queue of the word with this number, and lets go
-    /// of the word where it has none any more.
+    /// of the word where it has none any more, and no room.
     pub fn drop_until(&mut self, number: u32, doc: u64)
         ensures { (w : List ℕ) → IsDropped number doc self.old self.new w }
     {
         drop_at(&mut self.slots, number, doc);
-        let_go(&mut self.numbers, &mut self.slots, number);
+        let_go(&mut self.numbers, &mut self.slots, &mut self.order, number);
     }
 
     /// Those of the words with these numbers that have a document up to `doc`, in the order of
@@ -339,8 +415,10 @@ impl Words {
             × ((queue_in self.now w).postings ≢ []))) }
         ensures ascending { IfOk result (λ words. AscendByBytes words.items) }
     {
-        let mut words = all_shown(&self.numbers, &self.slots, prefix)?;
-        words.sort_unstable();
-        Ok(words)
+        let first = Word::copied(self.allocator(), prefix)?;
+        let rest = self
+            .order
+            .range((Bound::Included(&first), Bound::Unbounded));
+        shown_with_prefix(self, rest, prefix)
     }
 }

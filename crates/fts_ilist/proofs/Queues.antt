@@ -1,15 +1,17 @@
 -- Documents that come in at the back and leave at the front.
-use Rattle.std.proofs.Common.{◌≡◌, ◌↔◌, ℕ, ◌+◌, ◌-◌, ◌^◌, ◌<◌, ◌≤◌, List, [], ◌∷◌, ◌++◌, length, take, drop, get_or, append_assoc, Bool, cond, refl, sym, ap, subst, ◌∙◌, arith}
+use Rattle.std.proofs.Common.{◌≡◌, ◌↔◌, ℕ, ◌+◌, ◌-◌, ◌*◌, ◌^◌, ◌<◌, ◌≤◌, List, [], ◌∷◌, ◌++◌, length, take, drop, get_or, append_assoc, Bool, cond, refl, sym, ap, subst, ◌∙◌, arith}
 use Rattle.std.proofs.lemmas.Bool.{lt-ltb, le-ltb}
 use Rattle.std.proofs.lemmas.List.{append-nil, length-drop, drop-append-le, drop-drop, drop_more, length-append}
 use Rattle.fts_ilist.specs.Number.{number_bytes}
-use Rattle.fts_ilist.specs.Spelling.{Posting, items_bytes, position_items, posting_items, postings_items, PositionsFrom, ArePositions, PostingsAfter, id_at_end, HasFirstId}
+use Rattle.fts_ilist.specs.Spelling.{Posting, items_bytes, list_bytes, position_items, posting_items, postings_items, PositionsFrom, ArePositions, PostingsAfter, id_at_end, HasFirstId}
+use Rattle.fts_ilist.specs.Spelling.Item.{document_end}
 use Rattle.fts_ilist.specs.Reading.{postings_in, IsTail}
 use Rattle.fts_ilist.specs.Progress.{ReadsDocument}
-use Rattle.fts_ilist.specs.Queue.{postings_behind, StandsAt, Passes, IsQueue}
-use Rattle.fts_ilist.proofs.Codec.{position_fits}
+use Rattle.fts_ilist.specs.Queue.{postings_behind, StandsAt, Passes, IsQueue, HoldsBytes}
+use Rattle.fts_ilist.proofs.Codec.{position_fits, id_fits}
+use Rattle.fts_ilist.proofs.Groups.{length_number}
 use Rattle.fts_ilist.proofs.Items.{bytes_append}
-use Rattle.fts_ilist.proofs.Postings.{postings_in-bytes, postings_items-append, id_at_end-append, PostingsAfter-append}
+use Rattle.fts_ilist.proofs.Postings.{postings_in-bytes, postings_items-append, id_at_end-append, PostingsAfter-append, after_lower}
 use Rattle.fts_ilist.proofs.Reader.{document_bytes}
 use Rattle.fts_ilist.proofs.Tails.{none_left, posting_in, document_step, document_tail}
 
@@ -127,6 +129,7 @@ no_queue bytes capacity e =
         stands = record { within = omega arith; tail = record { limit = omega arith; after = after; spelled = e ∙ ap (λ (w : List Posting). items_bytes (postings_items 0 w)) (sym none) } };
         last_is = ap (id_at_end 0) (sym none);
         spare = omega (arith, ap length e);
+        lean = omega arith;
       };
       view = none;
     }
@@ -134,9 +137,10 @@ no_queue bytes capacity e =
 -- documents left: the fields at a later place
 pub queue_later : (bytes : List ℕ) (capacity start before last room at id doc : ℕ) → IsQueue bytes capacity start before last room → StandsAt bytes at id
     → postings_in id (drop at bytes) ≡ postings_behind doc (postings_in before (drop start bytes)) → id_at_end id (postings_in id (drop at bytes)) ≡ id_at_end before (postings_in before (drop start bytes))
+    → 2 * at ≤ length bytes
     → IsQueueOf bytes capacity at id last room (postings_behind doc (postings_in before (drop start bytes)))
-queue_later bytes capacity start before last room at id doc q s e same = record {
-  is_queue = record { stands = s; last_is = q.last_is ∙ sym same; spare = q.spare };
+queue_later bytes capacity start before last room at id doc q s e same lean = record {
+  is_queue = record { stands = s; last_is = q.last_is ∙ sym same; spare = q.spare; lean = lean };
   view = e;
 }
 
@@ -149,6 +153,7 @@ queue_cut bytes capacity start before last room new more ps q e f =
         stands = record { within = omega arith; tail = subst (IsTail before) (sym e) s.tail };
         last_is = q.is_queue.last_is ∙ ap (λ (w : List ℕ). id_at_end before (postings_in before w)) (sym e);
         spare = omega (arith, ap length e, length-drop start bytes, q.is_queue.spare, f);
+        lean = omega arith;
       };
       view = ap (postings_in before) e ∙ q.view;
     }
@@ -168,6 +173,7 @@ queue_pushed bytes capacity start before last room d new more left q above limit
         stands = record { within = omega (arith, s.within, ap length written, length-append bytes document); tail = p.is_tail };
         last_is = p.last_is ∙ ap (id_at_end before) (sym p.view);
         spare = spare;
+        lean = omega (arith, q.lean, ap length written, length-append bytes document);
       };
       view = p.view;
     }
@@ -179,6 +185,30 @@ empty_queue bytes capacity start before last room q =
       λ e. none_left before (drop start bytes) (omega (arith, length-drop start bytes)),
       λ none. omega (arith, q.stands.within, length-drop start bytes, ap length t.spelled, ap (λ (w : List Posting). length (items_bytes (postings_items before w))) none),
     )
+
+-- ---- how many bytes it holds
+
+-- the same documents behind two ids
+spelled_behind : (a b : ℕ) (ps : List Posting) → PostingsAfter a ps → PostingsAfter b ps → length (items_bytes (postings_items a ps)) ≤ length (items_bytes (postings_items b ps)) + 8
+spelled_behind a b [] h k = omega arith
+spelled_behind a b (p ∷ ps) h k =
+    let body = items_bytes ((position_items 0 p.positions ++ document_end ∷ []) ++ postings_items p.id ps) in
+    let low : p.id - a < 2 ^ 63 = omega (arith, h.1) in
+    omega (arith, length-append (number_bytes (p.id - a)) body, length-append (number_bytes (p.id - b)) body, id_fits (p.id - a) low, length_number (p.id - b))
+
+pub holds_bytes : (bytes : List ℕ) (capacity start before last room : ℕ) → IsQueue bytes capacity start before last room
+    → HoldsBytes (length (list_bytes (postings_in before (drop start bytes)))) (length bytes)
+holds_bytes bytes capacity start before last room q =
+    let ps = postings_in before (drop start bytes) in
+    let t = q.stands.tail in
+    let after : PostingsAfter 0 ps = after_lower 0 before ps (omega arith) t.after in
+    let used : length (drop start bytes) ≡ length (items_bytes (postings_items before ps)) = ap length t.spelled in
+    let down = spelled_behind before 0 ps t.after after in
+    let up = spelled_behind 0 before ps after t.after in
+    record {
+      least = omega (arith, up, used, length-drop start bytes, q.stands.within);
+      most = omega (arith, down, used, length-drop start bytes, q.stands.within, q.lean);
+    }
 
 pub few_positions : (next : ℕ) (ps : List ℕ) → next ≤ 131072 → PositionsFrom next ps → length ps + next ≤ 131072
 few_positions next [] le h = omega arith

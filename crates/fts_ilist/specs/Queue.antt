@@ -37,3 +37,11 @@ pub record IsQueue (bytes : List ℕ) (capacity start before last room : ℕ) : 
   pub stands : StandsAt bytes start before
   pub last_is : last ≡ id_at_end before (postings_in before (drop start bytes))
   pub spare : length bytes + room ≤ capacity
+  -- at most half of the bytes are those of documents that left
+  pub lean : 2 * start ≤ length bytes
+
+-- how many bytes a queue holds, where its documents take so many as a list of their own. The first id may be spelled
+-- behind one that left, in eight bytes fewer
+pub record HoldsBytes (size held : ℕ) : Type 0 where
+  pub least : size ≤ held + 8
+  pub most : held ≤ 2 * (size + 8)

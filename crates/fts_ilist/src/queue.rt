@@ -6,7 +6,9 @@ ghost use Rattle.fts_ilist.specs.Number.{number_bytes};
 ghost use Rattle.fts_ilist.specs.Spelling.{items_bytes, position_items, ArePositions, ArePostings};
 ghost use Rattle.fts_ilist.specs.Spelling.{id_at_end};
 ghost use Rattle.fts_ilist.specs.Reading.{postings_in, IsTail};
+ghost use Rattle.fts_ilist.specs.Spelling.{list_bytes};
 ghost use Rattle.fts_ilist.specs.Queue.{Queue, bytes_for, postings_behind, StandsAt, Passes};
+ghost use Rattle.fts_ilist.specs.Queue.{HoldsBytes};
 
 use crate::cursor::Cursor;
 use crate::number::front_number;
@@ -120,6 +122,20 @@ impl PostingQueue {
         ensures are { ArePostings result }
     {
         Cursor::new(self.before, &self.bytes[self.start..])
+    }
+
+    /// For how many bytes of documents there is room.
+    pub fn room(&self) -> usize
+        ensures { result ≡ self.now.room }
+    {
+        self.room
+    }
+
+    /// How many bytes it holds: those of its documents, and at most as many of documents that left.
+    pub fn bytes_len(&self) -> usize
+        ensures { HoldsBytes (length (list_bytes self.now.postings)) result }
+    {
+        self.bytes.len()
     }
 
     /// Gives the room up that was made and not used.

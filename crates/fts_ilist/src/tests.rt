@@ -280,3 +280,20 @@ fn a_queue_gives_what_it_took(rt: HostRuntime) -> Result<(), Fail> {
     ids_of(&rt, &queue, &[]);
     Ok(())
 }
+
+// The front of a queue is cut off once it is more than a quarter of what is left.
+#[test]
+fn a_queue_is_cut_where_much_of_it_left(rt: HostRuntime) -> Result<(), Fail> {
+    let mut queue = PostingQueue::new(rt.alloc());
+    queue.reserve(1)?;
+    queue.reserve(10)?;
+    assert_eq!(rt; queue.room(), 53);
+    queue.push(1, &[0]);
+    queue.push(2, &[0, 1, 2, 3, 4, 5, 6, 7, 8, 9]);
+    assert_eq!(rt; (queue.bytes_len(), queue.room()), (15, 0));
+    queue.drop_until(1);
+    assert_eq!(rt; queue.bytes_len(), 15);
+    queue.drop_until(2);
+    assert_eq!(rt; queue.bytes_len(), 0);
+    Ok(())
+}

@@ -1,6 +1,6 @@
-use Rattle.std.proofs.Common.{◌∙◌}
-use Rattle.fts_aux.proofs.Ordered.{apart_in_order}
+use Rattle.std.proofs.Common.{false}
+use Rattle.fts_aux.proofs.Kept.{lists_by}
 use Rattle.fts_aux.proofs.table.take_out_of.Goals as goal
 
 pub returns : goal.returns
-returns c = λ w apart has. c.remove.ensures.updates.2 w (apart_in_order c.args.word.now w apart) ∙ has
+returns c = lists_by c.args.order.now c.remove.new.self c.args.word.now false c.remove.ensures.updates.0

@@ -28,4 +28,5 @@ loop-place-preserved c =
           (numbers_kept now c.reserve.new.self (take c.loop-place.place d.words) c.loop-place.numbers.items keeps (numbers_kept was now (take c.loop-place.place d.words) c.loop-place.numbers.items e.enters.numbers c.loop-place.invariant.numbers))
           (keeps v.word c.in_ok-number.number e.number)));
       grows = still_stays v.word c.args.words.now now c.reserve.new.self _ changed refl refl (grows_again c.args.words.now was now c.loop-place.invariant.grows (entered_grows was now e.enters)) keeps;
+      used = c.in_ok-reserve.ensures.used (e.used c.loop-place.invariant.used);
     }

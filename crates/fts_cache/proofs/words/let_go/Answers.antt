@@ -1,34 +1,45 @@
-use Rattle.std.proofs.Common.{rules, ◌≡◌, true, cond, ℕ, List, [], Option, Some, None, sym, ap, ◌∙◌}
+use Rattle.std.proofs.Common.{rules, ◌≡◌, true, false, cond, ℕ, List, Option, Some, None, sym, ap, ◌∙◌}
 use Rattle.std.specs.Map.{lookup}
-use Rattle.std.specs.Option.{unwrap_or, option_map}
+use Rattle.std.specs.Option.{option_map_or}
 use Rattle.std.specs.Str.{bytes_eq}
 use Rattle.fts_cache.specs.declared.words.CachedWord.{CachedWord}
-use Rattle.fts_cache.specs.Words.{slot_in, no_queue}
+use Rattle.fts_cache.specs.Words.{slot_in, is_spent}
 use Rattle.fts_cache.proofs.Table.{let_go, numbers_updated}
+use Rattle.fts_cache.proofs.Used.{listed_one}
 use Rattle.fts_cache.proofs.words.let_go.Goals as goal
 
 pub returns-in-Some-clause-table : goal.returns-in-Some-clause-table
 returns-in-Some-clause-table c =
     let s = c.in-Some.cached in
-    let word = c.as_slice.result.now in
-    let same : word ≡ s.word.items = c.as_slice.ensures.value in
+    let word = c.as_bytes.result.now in
+    let same : word ≡ s.word = c.as_bytes.ensures in
     let u = c.in-Some.ensures.updates in
     let found : slot_in c.args.slots.now.slots c.args.number ≡ Some s = sym c.in-Some.ensures.value in
     let is_true : c.is_unused.result ≡ true = search rules in
-    let unused : s.queue.postings ≡ [] = ap (λ (o : Option CachedWord). (unwrap_or (option_map (λ (x : CachedWord). x.queue) o) no_queue).postings) (sym found) ∙ c.is_unused.ensures is_true in
+    let spent : is_spent s.queue ≡ true = ap (λ (o : Option CachedWord). option_map_or (λ (x : CachedWord). is_spent x.queue) o false) (sym found) ∙ sym c.is_unused.ensures ∙ is_true in
     let numbers = numbers_updated c.args.numbers.now.entries c.swap_remove.new.self.entries word None c.swap_remove.ensures.updates.1 c.swap_remove.ensures.updates.3 in
-    (let_go (record { numbers = c.args.numbers.now.entries; slots = c.args.slots.now.slots }) (record { numbers = c.swap_remove.new.self.entries; slots = c.try_remove.new.self.slots }) c.args.number s c.requires found unused u.changed u.others
+    (let_go (record { numbers = c.args.numbers.now.entries; slots = c.args.slots.now.slots }) (record { numbers = c.swap_remove.new.self.entries; slots = c.try_remove.new.self.slots }) c.args.number s c.requires.table found spent u.changed u.others
     (λ w. numbers w ∙ ap (λ (x : List ℕ). cond (bytes_eq w x) None (lookup (λ k. bytes_eq w k.items) c.args.numbers.now.entries)) same)).table
 
 pub returns-in-Some-clause-less : goal.returns-in-Some-clause-less
 returns-in-Some-clause-less c =
     let s = c.in-Some.cached in
-    let word = c.as_slice.result.now in
-    let same : word ≡ s.word.items = c.as_slice.ensures.value in
+    let word = c.as_bytes.result.now in
+    let same : word ≡ s.word = c.as_bytes.ensures in
     let u = c.in-Some.ensures.updates in
     let found : slot_in c.args.slots.now.slots c.args.number ≡ Some s = sym c.in-Some.ensures.value in
     let is_true : c.is_unused.result ≡ true = search rules in
-    let unused : s.queue.postings ≡ [] = ap (λ (o : Option CachedWord). (unwrap_or (option_map (λ (x : CachedWord). x.queue) o) no_queue).postings) (sym found) ∙ c.is_unused.ensures is_true in
+    let spent : is_spent s.queue ≡ true = ap (λ (o : Option CachedWord). option_map_or (λ (x : CachedWord). is_spent x.queue) o false) (sym found) ∙ sym c.is_unused.ensures ∙ is_true in
     let numbers = numbers_updated c.args.numbers.now.entries c.swap_remove.new.self.entries word None c.swap_remove.ensures.updates.1 c.swap_remove.ensures.updates.3 in
-    (let_go (record { numbers = c.args.numbers.now.entries; slots = c.args.slots.now.slots }) (record { numbers = c.swap_remove.new.self.entries; slots = c.try_remove.new.self.slots }) c.args.number s c.requires found unused u.changed u.others
+    (let_go (record { numbers = c.args.numbers.now.entries; slots = c.args.slots.now.slots }) (record { numbers = c.swap_remove.new.self.entries; slots = c.try_remove.new.self.slots }) c.args.number s c.requires.table found spent u.changed u.others
     (λ w. numbers w ∙ ap (λ (x : List ℕ). cond (bytes_eq w x) None (lookup (λ k. bytes_eq w k.items) c.args.numbers.now.entries)) same)).less
+
+pub returns-in-Some-clause-listed : goal.returns-in-Some-clause-listed
+returns-in-Some-clause-listed c =
+    let s = c.in-Some.cached in
+    let word = c.as_bytes.result.now in
+    let same : word ≡ s.word = c.as_bytes.ensures in
+    let numbers = numbers_updated c.args.numbers.now.entries c.swap_remove.new.self.entries word None c.swap_remove.ensures.updates.1 c.swap_remove.ensures.updates.3 in
+    listed_one c.args.numbers.now.entries c.swap_remove.new.self.entries c.args.order.now c.remove.new.self s.word None
+    (λ w. numbers w ∙ ap (λ (x : List ℕ). cond (bytes_eq w x) None (lookup (λ k. bytes_eq w k.items) c.args.numbers.now.entries)) same)
+    c.remove.ensures.updates.0 c.requires.listed

@@ -11,10 +11,10 @@ use Rattle.fts_aux.proofs.Places.{own, here, other, elsewhere, changed_same}
 use Rattle.fts_aux.proofs.tables.Tables.reserve_word.Goals as goal
 
 pub invariant_of-self : goal.invariant_of-self
-invariant_of-self c = changed_same c.self.inside.tables c.place_of_bytes.result c.index-self-place_of_bytes.result c.reserve.new.self c.self.invariant c.place_of_bytes.ensures.few c.reserve.ensures.nodes
+invariant_of-self c = changed_same c.self.inside.tables c.place_of_bytes.result c.index-self-place_of_bytes.result c.reserve.new.self c.self.invariant c.place_of_bytes.ensures.few c.reserve.ensures.stay.nodes
 
 pub returns-clause-nodes : goal.returns-clause-nodes
-returns-clause-nodes c = λ q. other c.self.inside.tables c.args.self.now c.self.view_is c.self.invariant c.place_of_bytes.result c.place_of_bytes.ensures.few c.index-self-place_of_bytes.result nodes_in [] c.reserve.new.self q (c.reserve.ensures.nodes q)
+returns-clause-nodes c = λ q. other c.self.inside.tables c.args.self.now c.self.view_is c.self.invariant c.place_of_bytes.result c.place_of_bytes.ensures.few c.index-self-place_of_bytes.result nodes_in [] c.reserve.new.self q (c.reserve.ensures.stay.nodes q)
 
 pub returns-clause-ok : goal.returns-clause-ok
 returns-clause-ok c =
@@ -36,7 +36,7 @@ returns-clause-ok c =
           ⊎_elim
           (λ was. inl (own c.self.inside.tables c.args.self.now c.self.view_is c.self.invariant c.place_of_bytes.result c.place_of_bytes.ensures.few c.index-self-place_of_bytes.result is_key false q (sym same) ∙ was))
           (λ it. inr it)
-          (c.reserve.ensures.keys q (sym (here c.self.inside.tables c.args.self.now c.self.view_is c.self.invariant c.place_of_bytes.result c.place_of_bytes.ensures.few c.index-self-place_of_bytes.result is_key false t q (sym same)) ∙ k)))
+          (c.reserve.ensures.stay.keys q (sym (here c.self.inside.tables c.args.self.now c.self.view_is c.self.invariant c.place_of_bytes.result c.place_of_bytes.ensures.few c.index-self-place_of_bytes.result is_key false t q (sym same)) ∙ k)))
           (λ apart. inl (sym (elsewhere c.self.inside.tables c.args.self.now c.self.view_is c.self.invariant c.place_of_bytes.result c.place_of_bytes.ensures.few c.index-self-place_of_bytes.result is_key false t q apart) ∙ k))
           (cases_eq (table_of q) (c.place_of_bytes.result + 1));
     }) c.reserve.ensures.room

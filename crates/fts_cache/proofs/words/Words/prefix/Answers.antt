@@ -1,16 +1,28 @@
-use Rattle.std.proofs.Common.{◌≢◌, ◌↔◌, IsTrue, nat_eq, [], subst}
+use Rattle.std.proofs.Common.{◌≢◌, ◌↔◌, IsTrue, nat_eq, [], filter, ap, sym, subst, ◌∙◌}
+use Rattle.std.proofs.lemmas.Result.{IfOk-weaker}
 use Rattle.std.specs.List.{starts_with}
 use Rattle.fts_cache.specs.Sorted.{IsAmong}
-use Rattle.fts_cache.specs.Words.{queue_in}
-use Rattle.fts_cache.proofs.Shown.{sorted_words, shown_differ, shown_are}
+use Rattle.fts_cache.specs.Words.{Entries, queue_in, front, with_documents}
+use Rattle.fts_cache.proofs.Prefixed.{is_from, prefix_words, prefix_ascends}
 use Rattle.fts_cache.proofs.words.Words.prefix.Goals as goal
 
 pub returns-clause-words : goal.returns-clause-words
 returns-clause-words c =
     let i = c.self.inside in
-    λ w. subst (λ es. IsAmong w c.sort_unstable.new.self.items ↔ (IsTrue (starts_with nat_eq w c.args.prefix.now) × ((queue_in es w).postings ≢ []))) c.self.view_is
-    (shown_are (record { numbers = i.numbers.entries; slots = i.slots.slots }) c.args.prefix.now c.in_ok-words.words.items c.sort_unstable.new.self.items c.in_ok-words.ensures.unique c.in_ok-words.ensures.words c.sort_unstable.ensures.permutation w)
+    let es : Entries = record { numbers = i.numbers.entries; slots = i.slots.slots } in
+    IfOk-weaker c.shown_with_prefix.result _ _
+    (λ found is w. subst (λ es. IsAmong w found.items ↔ (IsTrue (starts_with nat_eq w c.args.prefix.now) × ((queue_in es w).postings ≢ []))) c.self.view_is
+    (prefix_words es i.order c.args.prefix.now c.range-rest.result found.items c.self.invariant.listed c.range-rest.ensures.ordered
+    (c.range-rest.ensures.between tt ∙ ap (λ p. filter (is_from p) i.order.keys) c.in_ok-first.ensures)
+    (is ∙ ap (λ es. with_documents es (front c.args.prefix.now c.range-rest.result)) (sym c.self.view_is)) w))
+    c.shown_with_prefix.ensures
 
 pub returns-clause-ascending : goal.returns-clause-ascending
 returns-clause-ascending c =
-    sorted_words c.in_ok-words.words.items c.sort_unstable.new.self.items (shown_differ _ c.self.inside.numbers.entries c.in_ok-words.words.items c.in_ok-words.ensures.unique c.in_ok-words.ensures.words) c.sort_unstable.ensures.permutation c.sort_unstable.ensures.sorted
+    let i = c.self.inside in
+    let es : Entries = record { numbers = i.numbers.entries; slots = i.slots.slots } in
+    IfOk-weaker c.shown_with_prefix.result _ _
+    (λ found is. prefix_ascends es i.order c.args.prefix.now c.range-rest.result found.items c.self.invariant.listed c.range-rest.ensures.ordered
+    (c.range-rest.ensures.between tt ∙ ap (λ p. filter (is_from p) i.order.keys) c.in_ok-first.ensures)
+    (is ∙ ap (λ es. with_documents es (front c.args.prefix.now c.range-rest.result)) (sym c.self.view_is)))
+    c.shown_with_prefix.ensures

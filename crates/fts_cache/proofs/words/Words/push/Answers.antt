@@ -1,7 +1,7 @@
-use Rattle.fts_cache.specs.Words.{with_posting}
-use Rattle.fts_cache.proofs.Table.{altered}
+use Rattle.fts_cache.proofs.Used.{pushed_kept}
 use Rattle.fts_cache.proofs.words.Words.push.Goals as goal
 
 pub invariant_of-self : goal.invariant_of-self
 invariant_of-self c =
-    (altered c.args.number (with_posting c.args.doc c.args.positions.now) c.self.inside.numbers.entries c.self.inside.slots.slots c.push_at.new.slots.slots c.self.invariant c.push_at.ensures).table
+    let i = c.self.inside in
+    pushed_kept c.args.number c.args.doc c.args.positions.now i.numbers.entries i.slots.slots c.push_at.new.slots.slots i.order i.fresh.items c.self.invariant c.push_at.ensures

@@ -1,7 +1,7 @@
 use Rattle.std.proofs.Common.{◌≡◌, ◌++◌, ℕ, List, map, length}
 use Rattle.std.specs.List.{concat}
 use Rattle.fts_cache.specs.Words.{IsLess, GivesUp}
-use Rattle.fts_cache.proofs.adding.release_promised.Given as goal
+use Rattle.fts_cache.proofs.adding.release_all.Given as goal
 
 abbrev pub invariant-loop-numbers : goal.invariant-loop-numbers
 invariant-loop-numbers l = record {
