@@ -1,4 +1,4 @@
-use Rattle.std.specs.Prelude.{◌≡◌, ◌⊎◌, List, [], ◌∷◌, Result, Ok, Err}
+use Rattle.std.specs.Prelude.{◌≡◌, ◌⊎◌, List, [], Result, Ok, Err}
 use Rattle.fts_io.specs.Text.{Line}
 use Rattle.fts_types.specs.declared.settings.Settings.{Settings}
 use Rattle.fts_schema.specs.declared.reply.Reply.{Reply}
