@@ -1,7 +1,7 @@
 ghost use Rattle.std.specs.Prelude.{◌≡◌, ◌<◌, ◌≤◌, ◌++◌, ◌∷◌, All, None, slice_index_or, length};
 ghost use Rattle.std.specs.Prelude.{IfOk, OnOk};
 ghost use Rattle.std.specs.List.{flat_map};
-ghost use Rattle.std.specs.Int.{w64, to_be_bytes};
+ghost use Rattle.std.specs.Int.{w16, w32, w64, to_be_bytes};
 ghost use Rattle.fts_commits.specs.declared.change.Change.TheVariants.{Insert, Update};
 ghost use Rattle.fts_types.specs.Settings.{AreSettings};
 ghost use Rattle.fts_rowcodec.specs.Payload.{FitsBytes, FitsText, FitsNewText, new_payload};
@@ -9,9 +9,40 @@ ghost use Rattle.fts_rowcodec.specs.Payload.{text_payload, doc_payload, change_p
 ghost use Rattle.fts_rowcodec.specs.Payload.{commit_payload, column_payload, numbers_payload};
 ghost use Rattle.fts_rowcodec.specs.Payload.{settings_payload};
 
+use byteorder::{BigEndian, ByteOrder};
 use fts_commits::{Change, NewTexts};
 use fts_types::{Names, RowTexts, Settings};
 use std::alloc::{AllocError, Global};
+
+/// Puts a number of two bytes behind the others.
+fn put_u16(bytes: &mut Vec<u8>, number: u16) -> Result<(), AllocError>
+    ensures { OnOk result (bytes.new.items ≡ bytes.old.items ++ to_be_bytes w16 number) }
+{
+    let mut spelling = [0; 2];
+    BigEndian::write_u16(&mut spelling, number);
+    bytes.extend_from_slice(&spelling)?;
+    Ok(())
+}
+
+/// Puts a number of four bytes behind the others.
+fn put_u32(bytes: &mut Vec<u8>, number: u32) -> Result<(), AllocError>
+    ensures { OnOk result (bytes.new.items ≡ bytes.old.items ++ to_be_bytes w32 number) }
+{
+    let mut spelling = [0; 4];
+    BigEndian::write_u32(&mut spelling, number);
+    bytes.extend_from_slice(&spelling)?;
+    Ok(())
+}
+
+/// Puts a number of eight bytes behind the others.
+fn put_u64(bytes: &mut Vec<u8>, number: u64) -> Result<(), AllocError>
+    ensures { OnOk result (bytes.new.items ≡ bytes.old.items ++ to_be_bytes w64 number) }
+{
+    let mut spelling = [0; 8];
+    BigEndian::write_u64(&mut spelling, number);
+    bytes.extend_from_slice(&spelling)?;
+    Ok(())
+}
 
 /// Puts a column's name behind the others: its length in one byte, and its bytes.
 fn put_column(bytes: &mut Vec<u8>, name: &[u8]) -> Result<(), AllocError>
@@ -39,10 +70,9 @@ fn put_numbers(bytes: &mut Vec<u8>, settings: &Settings) -> Result<(), AllocErro
     ensures { OnOk result (bytes.new.items ≡ bytes.old.items ++ numbers_payload settings.now) }
 {
     bytes.extend_from_slice(&[settings.min, settings.max, u8::from(settings.stopword)])?;
-    bytes.extend_from_slice(&settings.optimize_words.to_be_bytes())?;
-    bytes.extend_from_slice(&settings.cache_bytes.to_be_bytes())?;
-    bytes.extend_from_slice(&settings.batch_docs.to_be_bytes())?;
-    Ok(())
+    put_u16(bytes, settings.optimize_words)?;
+    put_u32(bytes, settings.cache_bytes)?;
+    put_u32(bytes, settings.batch_docs)
 }
 
 /// The payload of settings.
@@ -62,7 +92,7 @@ fn put_text(bytes: &mut Vec<u8>, text: &[u8]) -> Result<(), AllocError>
     requires { FitsText text.now }
     ensures { OnOk result (bytes.new.items ≡ bytes.old.items ++ text_payload text.now) }
 {
-    bytes.extend_from_slice(&(text.len() as u16).to_be_bytes())?;
+    put_u16(bytes, text.len() as u16)?;
     bytes.extend_from_slice(text)?;
     Ok(())
 }
@@ -86,7 +116,7 @@ fn put_doc(bytes: &mut Vec<u8>, doc: Option<u64>) -> Result<(), AllocError>
         None => bytes.push(0)?,
         Some(doc) => {
             bytes.push(1)?;
-            bytes.extend_from_slice(&doc.to_be_bytes())?;
+            put_u64(bytes, doc)?;
         }
     }
     Ok(())
@@ -97,8 +127,7 @@ fn put_key(bytes: &mut Vec<u8>, kind: u8, key: u64) -> Result<(), AllocError>
     ensures { OnOk result (bytes.new.items ≡ bytes.old.items ++ kind ∷ to_be_bytes w64 key) }
 {
     bytes.push(kind)?;
-    bytes.extend_from_slice(&key.to_be_bytes())?;
-    Ok(())
+    put_u64(bytes, key)
 }
 
 /// Puts an INSERT behind the others.
@@ -175,7 +204,7 @@ pub fn encode_commit(alloc: Global, changes: &[Change]) -> Result<Vec<u8>, Alloc
 {
     let mut bytes = Vec::new(alloc);
     bytes.push(1)?;
-    bytes.extend_from_slice(&(changes.len() as u16).to_be_bytes())?;
+    put_u16(&mut bytes, changes.len() as u16)?;
     for change in changes {
         put_change(&mut bytes, change)?;
     }

@@ -4,6 +4,8 @@ ghost use Rattle.std.specs.Prelude.{◌≡◌, ◌<◌, ◌^◌, ◌++◌, ◌�
 ghost use Rattle.std.specs.Prelude.{IsSomeAnd};
 ghost use Rattle.std.specs.Int.{w16, w32, w64, to_be_bytes};
 
+use byteorder::{BigEndian, ByteOrder};
+
 /// What stands behind this byte.
 pub(crate) fn behind(bytes: &[u8], byte: u8) -> Option<&[u8]>
     ensures found { IfSome result (λ rest. bytes.now ≡ byte ∷ rest.now) }
@@ -25,8 +27,7 @@ pub(crate) fn u16_at(bytes: &[u8]) -> Option<(u16, &[u8])>
     if bytes.len() < 2 {
         return None;
     }
-    let (number, rest) = bytes.split_at(2);
-    Some((u16::from_be_bytes([number[0], number[1]]), rest))
+    Some((BigEndian::read_u16(bytes), &bytes[2..]))
 }
 
 /// A number of four bytes.
@@ -38,9 +39,7 @@ pub(crate) fn u32_at(bytes: &[u8]) -> Option<(u32, &[u8])>
     if bytes.len() < 4 {
         return None;
     }
-    let (number, rest) = bytes.split_at(4);
-    let number = u32::from_be_bytes([number[0], number[1], number[2], number[3]]);
-    Some((number, rest))
+    Some((BigEndian::read_u32(bytes), &bytes[4..]))
 }
 
 /// A number of eight bytes.
@@ -52,11 +51,7 @@ pub(crate) fn u64_at(bytes: &[u8]) -> Option<(u64, &[u8])>
     if bytes.len() < 8 {
         return None;
     }
-    let (number, rest) = bytes.split_at(8);
-    let number = u64::from_be_bytes([
-        number[0], number[1], number[2], number[3], number[4], number[5], number[6], number[7],
-    ]);
-    Some((number, rest))
+    Some((BigEndian::read_u64(bytes), &bytes[8..]))
 }
 
 /// So many bytes.
@@ -71,4 +66,34 @@ pub(crate) fn bytes_at(bytes: &[u8], count: usize) -> Option<(&[u8], &[u8])>
         return None;
     }
     Some(bytes.split_at(count))
+}
+
+#[cfg(test)]
+mod tests {
+    use super::*;
+
+    #[test]
+    fn numbers_are_read_at_their_ends(rt: HostRuntime) {
+        assert!(rt; matches!(u16_at(&[0, 0]), Some((0, []))));
+        assert!(rt; matches!(u16_at(&[1, 2, 3]), Some((258, [3]))));
+        assert!(rt; matches!(u16_at(&[255; 2]), Some((u16::MAX, []))));
+        assert!(rt; matches!(u32_at(&[0; 4]), Some((0, []))));
+        assert!(rt; matches!(u32_at(&[1, 2, 3, 4, 5]), Some((16_909_060, [5]))));
+        assert!(rt; matches!(u32_at(&[255; 4]), Some((u32::MAX, []))));
+        assert!(rt; matches!(u64_at(&[0; 8]), Some((0, []))));
+        assert!(rt;
+            matches!(
+                u64_at(&[0, 0, 0, 0, 1, 2, 3, 4, 5]),
+                Some((16_909_060, [5]))
+            )
+        );
+        assert!(rt; matches!(u64_at(&[255; 8]), Some((u64::MAX, []))));
+    }
+
+    #[test]
+    fn a_number_that_is_cut_is_none(rt: HostRuntime) {
+        assert!(rt; u16_at(&[255]).is_none());
+        assert!(rt; u32_at(&[255; 3]).is_none());
+        assert!(rt; u64_at(&[255; 7]).is_none());
+    }
 }

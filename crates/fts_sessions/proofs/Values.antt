@@ -1,5 +1,5 @@
 -- The values of an INSERT can stand in a row.
-use Rattle.std.proofs.Common.{◌≡◌, ℕ, ◌+◌, ◌<◌, ◌≤◌, ◌^◌, Bool, true, false, List, [], ◌∷◌, refl, sym, subst, ◌∙◌, length, arith, map, Some, None, inl, inr}
+use Rattle.std.proofs.Common.{◌≡◌, ℕ, zero, suc, ◌+◌, ◌<◌, ◌≤◌, ◌^◌, Bool, true, false, List, [], ◌∷◌, ◌++◌, refl, sym, ap, subst, ◌∙◌, length, arith, map, Some, None, inl, inr}
 use Rattle.std.proofs.lemmas.List.Elements.{All-cons, All-head, All-tail}
 use Rattle.std.proofs.lemmas.List.{length-map}
 use Rattle.std.proofs.lemmas.Bool.{and_parts, eqb-true}
@@ -10,10 +10,18 @@ use Rattle.fts_commits.specs.declared.change.Change.{Change}
 use Rattle.fts_commits.specs.declared.change.Change.TheVariants as change
 use Rattle.fts_sql.specs.Token.{Token, name, number, string, mark, IsSpelling}
 use Rattle.fts_sql.specs.Line.{Placed, placed, Ending, whole, Reads}
-use Rattle.fts_sql.specs.Statement.{Item, keyword, token, Spells, listed, in_brackets, value_token, items_of, semicolon, tokens_in, IsStatement}
+use Rattle.fts_sql.specs.Table.{taken_by, Are, Often, Says}
+use Rattle.fts_sql.specs.Statement.{values_in, table_of, statement_of, tokens_in, IsStatement}
+use Rattle.fts_sql.specs.declared.form.Form.{Form}
+use Rattle.fts_sql.specs.declared.form.Form.TheVariants as form
+use Rattle.fts_sql.specs.declared.piece.Piece.{Piece}
+use Rattle.fts_sql.specs.declared.piece.Piece.TheVariants.{Keyword, Mark, Name, Number as NumberPiece, String, Value as ValuePiece}
+use Rattle.fts_sql.specs.declared.piece.Part.{Part}
+use Rattle.fts_sql.specs.declared.piece.Part.TheVariants.{Once, Optional, Repeated}
+use Rattle.fts_sql.specs.declared.statement.Statement.{Statement}
 use Rattle.fts_sql.specs.declared.value.Value.{Value}
 use Rattle.fts_sql.specs.declared.value.Value.TheVariants.{Number, Text}
-use Rattle.fts_sql.specs.declared.statement.Statement.TheVariants.{Insert}
+use Rattle.fts_sql.specs.declared.statement.Statement.TheVariants.{Insert, Match}
 use Rattle.fts_sessions.specs.Table.{is_text, text_in, insert_of, change_of, are_names}
 use Rattle.fts_sessions.specs.Texts.{IsFit, AreFit}
 
@@ -40,75 +48,65 @@ read_printable place bytes [] ending reads = tt
 read_printable place bytes (placed at one ∷ more) ending (blanks, piece, spelling, rest, cut, blank, is, here, reads) =
     (spelled_printable one spelling is.spelled, read_printable (place + length blanks + length spelling) rest more ending reads)
 
-printable_fit : (value : Value) → IsPrintable (value_token value) → IsFit value
-printable_fit (Number n) is = is
-printable_fit (Text text) is = is
+printable_more : (tokens : List Token) (one : Token) → ArePrintable tokens → IsPrintable one → ArePrintable (tokens ++ one ∷ [])
+printable_more [] one are is = (is, tt)
+printable_more (first ∷ tokens) one are is = (are.0, printable_more tokens one are.1 is)
 
--- tokens that spell the items and were read
-record Behind (items : List Item) : Type 0 where
-  rest : List Token
-  spells : Spells items rest
-  printable : ArePrintable rest
+-- what is taken of tokens that were read was read too
 
-drop_item : (item : Item) (items : List Item) (tokens : List Token) → Spells (item ∷ items) tokens → ArePrintable tokens → Behind items
-drop_item (keyword word) items [] spells printable = absurd spells
-drop_item (keyword word) items (name written ∷ tokens) spells printable = record { rest = tokens; spells = spells.1; printable = printable.1 }
-drop_item (keyword word) items (number n ∷ tokens) spells printable = absurd spells
-drop_item (keyword word) items (string text ∷ tokens) spells printable = absurd spells
-drop_item (keyword word) items (mark b ∷ tokens) spells printable = absurd spells
-drop_item (token one) items [] spells printable = absurd spells
-drop_item (token one) items (other ∷ tokens) spells printable = record { rest = tokens; spells = spells.1; printable = printable.1 }
+taken_printable : (piece : Piece) (one : Token) (taken : List Token) → IsPrintable one → ArePrintable taken → ArePrintable (taken_by piece one taken)
+taken_printable (Keyword word) one taken is are = are
+taken_printable (Mark b) one taken is are = are
+taken_printable Name one taken is are = printable_more taken one are is
+taken_printable NumberPiece one taken is are = printable_more taken one are is
+taken_printable String one taken is are = printable_more taken one are is
+taken_printable ValuePiece one taken is are = printable_more taken one are is
 
-drop_next : (item : Item) (items : List Item) → Behind (item ∷ items) → Behind items
-drop_next item items here = drop_item item items here.rest here.spells here.printable
+-- tokens of which all is printable lead to a list of which all is
+abbrev Keeps : (List Token → List Token → Type 0) → List Token → Type 0
+Keeps R all = (tokens taken : List Token) → ArePrintable tokens → ArePrintable taken → R tokens taken → ArePrintable all
 
-drop_listed : (elements : List Token) (behind : List Item) → Behind (listed elements behind) → Behind behind
-drop_listed [] behind here = drop_next (token (mark 41)) behind here
-drop_listed (one ∷ more) behind here =
-    drop_listed more behind (drop_next (token one) (listed more behind) (drop_next (token (mark 44)) (token one ∷ listed more behind) here))
+are_keep : (pieces : List Piece) (R : List Token → List Token → Type 0) (all : List Token) → Keeps R all → Keeps (Are pieces R) all
+are_keep [] R all keeps = keeps
+are_keep (piece ∷ pieces) R all keeps = λ tokens taken printable before (first, more, cut, is, rest).
+    let parts = subst ArePrintable cut printable in
+    are_keep pieces R all keeps more (taken_by piece first taken) parts.1 (taken_printable piece first taken parts.0 before) rest
 
-drop_list : (elements : List Token) (behind : List Item) → Behind (in_brackets elements behind) → Behind behind
-drop_list [] behind here = drop_next (token (mark 41)) behind (drop_next (token (mark 40)) (token (mark 41) ∷ behind) here)
-drop_list (one ∷ more) behind here =
-    drop_listed more behind (drop_next (token one) (listed more behind) (drop_next (token (mark 40)) (token one ∷ listed more behind) here))
+often_keep : (n : ℕ) (pieces : List Piece) (R : List Token → List Token → Type 0) (all : List Token) → Keeps R all → Keeps (Often n pieces R) all
+often_keep zero pieces R all keeps = keeps
+often_keep (suc n) pieces R all keeps = are_keep pieces (Often n pieces R) all (often_keep n pieces R all keeps)
 
-first_printable : (one : Token) (items : List Item) (tokens : List Token) → Spells (token one ∷ items) tokens → ArePrintable tokens → IsPrintable one
-first_printable one items [] spells printable = absurd spells
-first_printable one items (other ∷ tokens) spells printable = subst IsPrintable (sym spells.0) printable.0
+says_keep : (parts : List Part) (all : List Token) → Keeps (Says parts all) all
+says_keep [] all = λ tokens taken printable before (none, same). subst ArePrintable same before
+says_keep (Once piece ∷ parts) all = are_keep (piece ∷ []) (Says parts all) all (says_keep parts all)
+says_keep (Optional piece ∷ parts) all = λ tokens taken printable before says.
+    elim says [
+      | inl one ↦ are_keep (piece ∷ []) (Says parts all) all (says_keep parts all) tokens taken printable before one
+      | inr other ↦ says_keep parts all tokens taken printable before other
+    ]
+says_keep (Repeated pieces ∷ parts) all = λ tokens taken printable before (n, says).
+    often_keep n pieces (Says parts all) all (says_keep parts all) tokens taken printable before says
 
-first_here : (one : Token) (items : List Item) → Behind (token one ∷ items) → IsPrintable one
-first_here one items here = first_printable one items here.rest here.spells here.printable
+taken_fit : (taken : List Token) → ArePrintable taken → AreFit (values_in taken)
+taken_fit [] are = λ k d less. absurd (omega arith)
+taken_fit (name written ∷ taken) are = taken_fit taken are.1
+taken_fit (number n ∷ taken) are = All-cons IsFit (Number n) (values_in taken) are.0 (taken_fit taken are.1)
+taken_fit (string text ∷ taken) are = All-cons IsFit (Text text) (values_in taken) are.0 (taken_fit taken are.1)
+taken_fit (mark b ∷ taken) are = taken_fit taken are.1
 
-listed_fit : (values : List Value) (behind : List Item) → Behind (listed (map value_token values) behind) → AreFit values
-listed_fit [] behind here = λ k d less. absurd (omega arith)
-listed_fit (value ∷ values) behind here =
-    let second = drop_next (token (mark 44)) (token (value_token value) ∷ listed (map value_token values) behind) here in
-    let more = drop_next (token (value_token value)) (listed (map value_token values) behind) second in
-    All-cons IsFit value values (printable_fit value (first_here (value_token value) (listed (map value_token values) behind) second)) (listed_fit values behind more)
+abbrev values_of : Statement → List Value
+values_of (Insert table columns values) = values
+values_of (Match table columns query) = []
 
-list_fit : (values : List Value) (behind : List Item) → Behind (in_brackets (map value_token values) behind) → AreFit values
-list_fit [] behind here = λ k d less. absurd (omega arith)
-list_fit (value ∷ values) behind here =
-    let second = drop_next (token (mark 40)) (token (value_token value) ∷ listed (map value_token values) behind) here in
-    let more = drop_next (token (value_token value)) (listed (map value_token values) behind) second in
-    All-cons IsFit value values (printable_fit value (first_here (value_token value) (listed (map value_token values) behind) second)) (listed_fit values behind more)
-
-insert_fit : (table : List ℕ) (columns : List (List ℕ)) (values : List Value) (behind : List Item) → Behind (items_of (Insert table columns values) behind) → AreFit values
-insert_fit table columns values behind here =
-    let values' = in_brackets (map value_token values) behind in
-    let names = in_brackets (map name columns) (keyword (codes "values") ∷ values') in
-    let a = drop_next (keyword (codes "insert")) (keyword (codes "into") ∷ token (name table) ∷ names) here in
-    let b = drop_next (keyword (codes "into")) (token (name table) ∷ names) a in
-    let c = drop_next (token (name table)) names b in
-    let d = drop_list (map name columns) (keyword (codes "values") ∷ values') c in
-    list_fit values behind (drop_next (keyword (codes "values")) values' d)
+written_fit : (one : Form) (taken : List Token) → ArePrintable taken → AreFit (values_of (statement_of one taken))
+written_fit form.Insert taken are = taken_fit taken are
+written_fit form.Match taken are = λ k d less. absurd (omega arith)
 
 -- the values of an INSERT of a line can stand in a row
 pub line_fit : (line table : List ℕ) (columns : List (List ℕ)) (values : List Value) → IsStatement line (Insert table columns values) → AreFit values
-line_fit line table columns values (tokens, end, reads, (full, inl spells)) =
-    insert_fit table columns values [] (record { rest = tokens_in tokens; spells = spells; printable = read_printable 1 line tokens (whole end) reads })
-line_fit line table columns values (tokens, end, reads, (full, inr spells)) =
-    insert_fit table columns values semicolon (record { rest = tokens_in tokens; spells = spells; printable = read_printable 1 line tokens (whole end) reads })
+line_fit line table columns values (tokens, end, reads, (one, taken, says, same)) =
+    let printable = read_printable 1 line tokens (whole end) reads in
+    subst AreFit (sym (ap values_of same)) (written_fit one taken (says_keep (table_of one) taken (tokens_in tokens) [] printable tt says))
 
 texts_fit : (values : List Value) → AreFit values → list_all is_text values ≡ true → All IsText (map text_in values)
 texts_fit [] fit texts = λ k d less. absurd (omega arith)

@@ -6,14 +6,11 @@ pub mod Strings
 pub mod Begun
 pub mod Faults
 pub mod Readings
-pub mod Reaching
-pub mod Lists
-pub mod Writing
-pub mod Inserts
-pub mod Matches
-pub mod Either
-pub mod Viables
 pub mod Blanks
+pub mod Tables
+pub mod Reached
+pub mod Written
 pub mod Places
-pub mod Single
 pub mod Laws
+pub mod Single
+mod WorkedRows

@@ -1,57 +1,11 @@
-use Rattle.std.proofs.Common.{◌≡◌, ℕ, zero, suc, ◌+◌, ◌<◌, ◌≤◌, true, false, List, [], ◌∷◌, ◌++◌, length, map, take, drop, get_or, refl, sym, ap, ◌∙◌, subst, arith, inl, inr}
-use Rattle.std.proofs.lemmas.Bool.{and_parts, and_from, both_ways}
-use Rattle.std.proofs.lemmas.List.{take-append-drop}
-use Rattle.fts_sql.specs.Token.{Token}
+use Rattle.std.proofs.Common.{◌≡◌, ℕ, zero, suc, ◌+◌, ◌<◌, List, [], ◌∷◌, ◌++◌, length, map, take, drop, get_or, refl, sym, ap, ◌∙◌, subst, arith}
 use Rattle.fts_sql.specs.Line.{Placed, placed}
 use Rattle.fts_sql.specs.Statement.{tokens_in}
 use Rattle.fts_sql.specs.Fault.{Viable, IsMisplaced}
 use Rattle.fts_sql.specs.Reading.{placed_of, token_of}
-use Rattle.fts_sql.specs.Grammar.{Shape, word, one, more, is_keyword, is_kind, can_begin, insert_shapes, match_shapes, tokens_at}
+use Rattle.fts_sql.specs.Reader.{tokens_at}
 use Rattle.fts_sql.specs.declared.line.Placed as code
-use Rattle.fts_sql.proofs.Reaching.{one_token_more}
-use Rattle.fts_sql.proofs.Viables.{viable_begins, comma_or_close}
-
--- what begins the shapes, its fronts do too
-front_begins : (shapes : List Shape) (tokens behind : List Token) → can_begin shapes (tokens ++ behind) ≡ true → can_begin shapes tokens ≡ true
-front_begins shapes [] behind can = refl
-front_begins [] (t ∷ tokens) behind can = can
-front_begins (word w ∷ shapes) (t ∷ tokens) behind can =
-    let parts = and_parts (is_keyword w t) (can_begin shapes (tokens ++ behind)) can in
-    and_from (is_keyword w t) (can_begin shapes tokens) parts.0 (front_begins shapes tokens behind parts.1)
-front_begins (one kind ∷ shapes) (t ∷ tokens) behind can =
-    let parts = and_parts (is_kind kind t) (can_begin shapes (tokens ++ behind)) can in
-    and_from (is_kind kind t) (can_begin shapes tokens) parts.0 (front_begins shapes tokens behind parts.1)
-front_begins (more kind ∷ shapes) (t ∷ tokens) behind can =
-    elim (comma_or_close kind shapes t (tokens ++ behind) can) [
-      | inl comma ↦ subst (λ u. can_begin (more kind ∷ shapes) (u ∷ tokens) ≡ true) (sym comma.0)
-          (front_begins (one kind ∷ more kind ∷ shapes) tokens behind comma.1)
-      | inr close ↦ subst (λ u. can_begin (more kind ∷ shapes) (u ∷ tokens) ≡ true) (sym close.0)
-          (front_begins shapes tokens behind close.1)
-    ]
-
-take_take : (k m : ℕ) (tokens : List Token) → k ≤ m → take k (take m tokens) ≡ take k tokens
-take_take zero m tokens less = refl
-take_take (suc k) zero tokens less = absurd (omega (arith, less))
-take_take (suc k) (suc m) [] less = refl
-take_take (suc k) (suc m) (t ∷ tokens) less = ap (λ ts. t ∷ ts) (take_take k m tokens (omega (arith, less)))
-
-shorter_begins : (shapes : List Shape) (tokens : List Token) (k m : ℕ) → k ≤ m → can_begin shapes (take m tokens) ≡ true → can_begin shapes (take k tokens) ≡ true
-shorter_begins shapes tokens k m less can =
-    ap (can_begin shapes) (sym (take_take k m tokens less))
-    ∙ front_begins shapes (take k (take m tokens)) (drop k (take m tokens)) (ap (can_begin shapes) (take-append-drop k (take m tokens)) ∙ can)
-
--- behind the furthest place that a shape reaches, no statement goes on
-pub no_further : (tokens : List Token) (size insert search n : ℕ) → insert ≤ n → search ≤ n
-    → (insert < size → can_begin insert_shapes (take (insert + 1) tokens) ≡ false)
-    → (search < size → can_begin match_shapes (take (search + 1) tokens) ≡ false)
-    → n < size → Viable (take (n + 1) tokens) → ⊥
-no_further tokens size insert search n a b stops ends within viable =
-    elim (viable_begins (take (n + 1) tokens) viable) [
-      | inl can ↦ both_ways (can_begin insert_shapes (take (insert + 1) tokens)) (stops (omega (arith, a, within)))
-          (shorter_begins insert_shapes tokens (insert + 1) (n + 1) (omega (arith, a)) can)
-      | inr can ↦ both_ways (can_begin match_shapes (take (search + 1) tokens)) (ends (omega (arith, b, within)))
-          (shorter_begins match_shapes tokens (search + 1) (n + 1) (omega (arith, b)) can)
-    ]
+use Rattle.fts_sql.proofs.Reached.{one_token_more}
 
 -- tokens without their places
 

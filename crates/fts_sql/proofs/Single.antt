@@ -1,27 +1,17 @@
-use Rattle.std.proofs.Common.{◌≡◌, ℕ, Bool, true, false, ◌+◌, List, [], ◌∷◌, ◌++◌, length, map, codes, refl, sym, ap, ◌∙◌, subst, ◌⊎◌, inl, inr}
+use Rattle.std.proofs.Common.{◌≡◌, ℕ, Bool, true, false, ◌+◌, List, [], ◌∷◌, ◌++◌, length, refl, sym, ap, ◌∙◌, subst, ◌⊎◌, inl, inr}
 use Rattle.std.proofs.lemmas.Bool.{both_ways}
-use Rattle.std.proofs.lemmas.List.{append_assoc, append-nil}
-use Rattle.fts_sql.specs.Token.{Token, name, number, string, mark}
+use Rattle.std.proofs.lemmas.List.{append_assoc}
+use Rattle.fts_sql.specs.Token.{Token}
 use Rattle.fts_sql.specs.Line.{Placed, placed, Ending, whole, unreadable, Reads, IsBlank, IsUnreadable}
-use Rattle.fts_sql.specs.Statement.{Item, keyword, token, Spells, listed, in_brackets, value_token, items_of, against, semicolon, Writes, tokens_in, IsStatement}
+use Rattle.fts_sql.specs.Statement.{Writes, tokens_in, IsStatement}
 use Rattle.fts_sql.specs.Fault.{Viable, IsMisplaced, IsCutShort, IsFaultAt}
-use Rattle.fts_sql.specs.Reader.{end_place, SaysIn, Says}
+use Rattle.fts_sql.specs.Reader.{end_place, SaysIn, SaysLine}
 use Rattle.fts_sql.specs.declared.statement.Statement.{Statement}
-use Rattle.fts_sql.specs.declared.statement.Statement.TheVariants.{Insert, Match}
 use Rattle.fts_sql.specs.declared.parse.Said.{Said}
 use Rattle.fts_sql.specs.declared.parse.Said.TheVariants.{Statement as SaysStatement, Fault as SaysFault}
-use Rattle.fts_sql.proofs.Writing.{behind_of}
 use Rattle.fts_sql.proofs.Places.{tokens_in-append}
 use Rattle.fts_sql.proofs.Readings.{one_reading}
-
--- a statement's fronts are fronts of one
-pub viable_front : (tokens behind : List Token) → Viable (tokens ++ behind) → Viable tokens
-viable_front tokens behind viable = (
-  viable.0,
-  behind ++ viable.1,
-  viable.2,
-  subst (Spells (items_of viable.0 semicolon)) (append_assoc tokens behind viable.1) viable.3,
-)
+use Rattle.fts_sql.proofs.Written.{viable_front, writes_viable, none_written}
 
 -- the first of two places that a list is cut at
 order : (f g x y : List Placed) (p q : Placed) → f ++ p ∷ x ≡ g ++ q ∷ y
@@ -94,61 +84,6 @@ one_fault line a b one other =
     (subst (λ e. IsMisplaced other.tokens a ⊎ IsCutShort other.tokens e a) same.1
     (subst (λ ts. IsMisplaced ts a ⊎ IsCutShort ts one.ending a) same.0 one.fault)) other.fault
 
--- what stands behind a statement's items
-
-listed-append : (xs : List Token) (items behind : List Item) → listed xs (items ++ behind) ≡ listed xs items ++ behind
-listed-append [] items behind = refl
-listed-append (x ∷ xs) items behind = ap (λ r. token (mark 44) ∷ token x ∷ r) (listed-append xs items behind)
-
-brackets-append : (xs : List Token) (items behind : List Item) → in_brackets xs (items ++ behind) ≡ in_brackets xs items ++ behind
-brackets-append [] items behind = refl
-brackets-append (x ∷ xs) items behind = ap (λ r. token (mark 40) ∷ token x ∷ r) (listed-append xs items behind)
-
-items-append : (statement : Statement) (behind : List Item) → items_of statement behind ≡ items_of statement [] ++ behind
-items-append (Insert table columns values) behind =
-    ap (λ r. keyword (codes "insert") ∷ keyword (codes "into") ∷ token (name table) ∷ in_brackets (map name columns) (keyword (codes "values") ∷ r))
-    (brackets-append (map value_token values) [] behind)
-    ∙ ap (λ r. keyword (codes "insert") ∷ keyword (codes "into") ∷ token (name table) ∷ r)
-    (brackets-append (map name columns) (keyword (codes "values") ∷ in_brackets (map value_token values) []) behind)
-items-append (Match table columns query) behind =
-    ap (λ r. keyword (codes "select") ∷ keyword (codes "fts_doc_id") ∷ keyword (codes "from") ∷ token (name table)
-    ∷ keyword (codes "where") ∷ keyword (codes "match") ∷ r)
-    (brackets-append (map name columns) (against query []) behind)
-
-no_tokens : (i : Item) (items : List Item) → Spells (i ∷ items) [] → ⊥
-no_tokens (keyword w) items h = h
-no_tokens (token t) items h = h
-
-spells-append : (items : List Item) (tokens : List Token) (more_items : List Item) (more : List Token) → Spells items tokens → Spells more_items more
-    → Spells (items ++ more_items) (tokens ++ more)
-spells-append [] [] more_items more h k = k
-spells-append [] (t ∷ tokens) more_items more h k = absurd h
-spells-append (i ∷ items) [] more_items more h k = absurd (no_tokens i items h)
-spells-append (keyword w ∷ items) (name v ∷ tokens) more_items more h k = (h.0, spells-append items tokens more_items more h.1 k)
-spells-append (keyword w ∷ items) (number n ∷ tokens) more_items more h k = absurd h
-spells-append (keyword w ∷ items) (string s ∷ tokens) more_items more h k = absurd h
-spells-append (keyword w ∷ items) (mark b ∷ tokens) more_items more h k = absurd h
-spells-append (token one ∷ items) (other ∷ tokens) more_items more h k = (h.0, spells-append items tokens more_items more h.1 k)
-
--- a statement's tokens are a front of one
-writes_viable : (statement : Statement) (tokens : List Token) → Writes statement tokens → Viable tokens
-writes_viable statement tokens writes =
-    elim writes.1 [
-      | inl bare ↦ (
-        statement,
-        mark 59 ∷ [],
-        writes.0,
-        subst (λ items. Spells items (tokens ++ mark 59 ∷ [])) (sym (items-append statement semicolon))
-            (spells-append (items_of statement []) tokens semicolon (mark 59 ∷ []) bare (refl, tt)),
-      )
-      | inr closed ↦ (
-        statement,
-        [],
-        writes.0,
-        subst (Spells (items_of statement semicolon)) (sym (append-nil tokens)) closed,
-      )
-    ]
-
 abbrev is_unreadable : Ending → Bool
 is_unreadable (whole at) = false
 is_unreadable (unreadable at) = true
@@ -173,11 +108,6 @@ statement_or_fault line statement at is fault =
     (subst (λ e. IsMisplaced is.0 at ⊎ IsCutShort is.0 e at) same.1
     (subst (λ ts. IsMisplaced ts at ⊎ IsCutShort ts fault.ending at) same.0 fault.fault))
 
--- no tokens write no statement
-none_written : (statement : Statement) → Writes statement [] → ⊥
-none_written (Insert table columns values) writes = absurd (behind_of (Insert table columns values) [] writes).2
-none_written (Match table columns query) writes = absurd (behind_of (Match table columns query) [] writes).2
-
 -- no line is blank and a statement
 pub blank_or_statement : (line : List ℕ) (statement : Statement) → IsBlank line → IsStatement line statement → ⊥
 blank_or_statement line statement blank is =
@@ -196,7 +126,7 @@ blank_or_statement line statement blank is =
 
 -- what the tokens of a line say, the line says
 pub says_by : (line : List ℕ) (tokens : List Placed) (ending : Ending) → Reads 1 line tokens ending → (IsBlank line → ⊥)
-    → (said : Said) → SaysIn tokens ending said → Says line said
+    → (said : Said) → SaysIn tokens ending said → SaysLine line said
 says_by line tokens ending reads not_blank (SaysStatement statement) says =
     (tokens, says.0.0, subst (Reads 1 line tokens) says.0.1 reads, says.1)
 says_by line tokens ending reads not_blank (SaysFault at) says = record {
@@ -206,12 +136,3 @@ says_by line tokens ending reads not_blank (SaysFault at) says = record {
   reads = reads;
   fault = says;
 }
-
--- tokens that no statement is, whose end is the line's
-pub no_statement : (tokens : List Placed) (end at : ℕ) → ((statement : Statement) → Writes statement (tokens_in tokens) → ⊥)
-    → (IsMisplaced tokens at ⊎ (Viable (tokens_in tokens) × (at ≡ end))) → IsMisplaced tokens at ⊎ IsCutShort tokens (whole end) at
-no_statement tokens end at none place =
-    elim place [
-      | inl bad ↦ inl bad
-      | inr short ↦ inr (record { front = short.0; here = inr (ap whole (sym short.1), none) })
-    ]

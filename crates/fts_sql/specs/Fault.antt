@@ -2,13 +2,11 @@ use Rattle.std.specs.Prelude.{◌≡◌, ◌⊎◌, ℕ, List, [], ◌∷◌, �
 use Rattle.fts_sql.specs.declared.statement.Statement.{Statement}
 use Rattle.fts_sql.specs.Token.{Token}
 use Rattle.fts_sql.specs.Line.{Placed, placed, Ending, whole, unreadable, Reads, IsBlank}
-use Rattle.fts_sql.specs.Statement.{items_of, IsFull, semicolon, Spells, Writes, tokens_in}
+use Rattle.fts_sql.specs.Statement.{Writes, tokens_in}
 
--- some statement begins with the tokens. A front of a statement is a front of it with its `;` too.
+-- some statement begins with the tokens
 abbrev pub Viable : List Token → Type 0
-Viable tokens =
-    (statement : Statement) × (more : List Token) × IsFull statement
-    × Spells (items_of statement semicolon) (tokens ++ more)
+Viable tokens = (statement : Statement) × (more : List Token) × Writes statement (tokens ++ more)
 
 -- a token that no statement can have behind the tokens before it, which some statement begins with
 pub record IsMisplaced (tokens : List Placed) (at : ℕ) : Type 0 where

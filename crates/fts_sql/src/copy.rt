@@ -1,10 +1,7 @@
-ghost use Rattle.std.specs.Prelude.{◌≡◌, ◌∷◌, [], true, map, length, ◌<◌, IfOk, IfSome, IfNone};
-ghost use Rattle.std.specs.List.{list_all};
-ghost use Rattle.fts_sql.specs.Token.{name};
+ghost use Rattle.std.specs.Prelude.{◌≡◌, ◌∷◌, [], map, drop, length, ◌<◌, IfOk, IfSome, IfNone};
 ghost use Rattle.fts_sql.specs.Reading.{token_of, unquoted};
-ghost use Rattle.fts_sql.specs.Statement.{value_token};
-ghost use Rattle.fts_sql.specs.Grammar.{is_kind};
-ghost use Rattle.fts_sql.specs.declared.kind.Kind.TheVariants as kinds;
+ghost use Rattle.fts_sql.specs.Statement as taken;
+ghost use Rattle.fts_sql.specs.Statement.{names_in, values_in};
 
 use crate::token::Token;
 use crate::value::Value;
@@ -13,10 +10,42 @@ use fts_commits::Text;
 use fts_types::Names;
 use std::alloc::{AllocError, Global};
 
-/// The names that the tokens are; another token is left out.
+/// The first of the tokens, if it is a name, as it is written; else nothing.
+pub fn first_name<'l>(tokens: &[Token<'l>]) -> &'l [u8]
+    ensures { result.now ≡ taken.first_name (map token_of tokens.now) }
+{
+    match tokens {
+        [Token::Name(written), ..] => written,
+        _ => b"",
+    }
+}
+
+/// The tokens behind the first.
+pub fn behind_first<'t, 'l>(tokens: &'t [Token<'l>]) -> &'t [Token<'l>]
+    ensures { map token_of result.now ≡ drop 1 (map token_of tokens.now) }
+{
+    match tokens {
+        [] => tokens,
+        [_, rest @ ..] => rest,
+    }
+}
+
+/// The first string among the tokens, as written between its apostrophes; nothing where there is
+/// none.
+pub fn first_string<'l>(tokens: &[Token<'l>]) -> &'l [u8]
+    ensures { unquoted result.now ≡ taken.first_string (map token_of tokens.now) }
+{
+    for token in tokens {
+        if let Token::String(written) = token {
+            return written;
+        }
+    }
+    b""
+}
+
+/// The names among the tokens.
 pub fn copy_names(alloc: Global, tokens: &[Token]) -> Result<Names, AllocError>
-    ensures { IfOk result (λ names. list_all (is_kind kinds.Name) (map token_of tokens.now) ≡ true
-        → map name names ≡ map token_of tokens.now) }
+    ensures { IfOk result (λ names. names ≡ names_in (map token_of tokens.now)) }
 {
     let mut names = Names::new(alloc);
     for token in tokens {
@@ -27,10 +56,9 @@ pub fn copy_names(alloc: Global, tokens: &[Token]) -> Result<Names, AllocError>
     Ok(names)
 }
 
-/// The values that the tokens are; another token is left out.
+/// The numbers and strings among the tokens.
 pub fn copy_values(alloc: Global, tokens: &[Token]) -> Result<Values, AllocError>
-    ensures { IfOk result (λ values. list_all (is_kind kinds.Value) (map token_of tokens.now) ≡ true
-        → map value_token values ≡ map token_of tokens.now) }
+    ensures { IfOk result (λ values. values ≡ values_in (map token_of tokens.now)) }
 {
     let mut values = Vec::new(alloc);
     for token in tokens {

@@ -9,19 +9,19 @@
 #![tactic(auto)]
 
 mod copy;
-mod fixed;
-mod kind;
+mod form;
+mod found;
 mod line;
-mod list;
 mod parse;
+mod piece;
 mod place;
-mod reach;
 mod reader;
 mod run;
 mod statement;
 mod token;
 mod value;
 mod values;
+mod word;
 
 pub use parse::parse_statement;
 pub use statement::{ParseError, Statement};

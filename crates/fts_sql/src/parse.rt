@@ -4,11 +4,11 @@ ghost use Rattle.fts_sql.specs.Line.{IsBlank};
 ghost use Rattle.fts_sql.specs.Statement.{IsStatement};
 ghost use Rattle.fts_sql.specs.Reading.{placed_of, ending_of};
 ghost use Rattle.fts_sql.specs.Fault.{IsFaultAt};
-ghost use Rattle.fts_sql.specs.Reader.{Says, SaysIn, is_comment};
+ghost use Rattle.fts_sql.specs.Reader.{SaysLine, SaysIn, is_comment};
 
+use crate::found::{Found, find};
 use crate::line::{Ending, Placed, read_line};
 use crate::place::fault_place;
-use crate::reader::read_statement;
 use crate::run::skip_blanks;
 use crate::statement::{ParseError, Statement};
 use std::alloc::{AllocError, Global};
@@ -68,7 +68,7 @@ enum Said {
 
 fn read(alloc: Global, line: &[u8]) -> Result<Said, AllocError>
     requires { IsBlank line.now → ⊥ }
-    ensures { IfOk result (λ said. Says line.now said) }
+    ensures { IfOk result (λ said. SaysLine line.now said) }
 {
     let line = read_line(alloc, line)?;
     read_tokens(alloc, &line.tokens, line.ending)
@@ -78,11 +78,11 @@ fn read(alloc: Global, line: &[u8]) -> Result<Said, AllocError>
 fn read_tokens(alloc: Global, tokens: &[Placed], ending: Ending) -> Result<Said, AllocError>
     ensures { IfOk result (λ said. SaysIn (map placed_of tokens.now) (ending_of ending) said) }
 {
-    match ending {
-        Ending::Unreadable { .. } => Ok(Said::Fault(fault_place(tokens, ending))),
-        Ending::Whole { .. } => match read_statement(alloc, tokens)? {
-            Some(statement) => Ok(Said::Statement(statement)),
-            None => Ok(Said::Fault(fault_place(tokens, ending))),
+    match find(alloc, tokens)? {
+        Found::Front(count) => Ok(Said::Fault(fault_place(tokens, count, ending))),
+        Found::Whole(form, taken) => match ending {
+            Ending::Unreadable { at } => Ok(Said::Fault(at)),
+            Ending::Whole { .. } => Ok(Said::Statement(form.statement(alloc, &taken)?)),
         },
     }
 }

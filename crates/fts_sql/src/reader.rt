@@ -1,153 +1,149 @@
-ghost use Rattle.std.specs.Prelude.{◌≡◌, ◌∷◌, ◌↔◌, ℕ, List, IfOk, IfSome, IfNone, IsTrue};
-ghost use Rattle.fts_sql.specs.Token.{Token as definition, name, string};
-ghost use Rattle.fts_sql.specs.Reading.{unquoted};
-ghost use Rattle.fts_sql.specs.Statement.{IsEnd};
-ghost use Rattle.fts_sql.specs.Grammar.{tokens_at};
-ghost use Rattle.fts_sql.specs.Reader.{IsInsertIn, IsMatchIn, IsAgainst, IsStatementIn};
+ghost use Rattle.std.specs.Prelude.{◌≡◌, ◌∷◌, [], length, map, true, IfOk, IfSome};
+ghost use Rattle.std.specs.Option.{option_map};
+ghost use Rattle.fts_sql.specs.Reading.{token_of};
+ghost use Rattle.fts_sql.specs.Reader.{begin, enter, behind, can_end, step_of, is_table, tokens_at};
+ghost use Rattle.fts_sql.specs.Reader.{IsRead, ends};
 
-use crate::copy::{copy_names, copy_unquoted, copy_values};
-use crate::fixed::{Fixed, read_fixed, read_mark};
-use crate::kind::Kind;
 use crate::line::Placed;
-use crate::list::read_list;
-use crate::statement::Statement;
+use crate::piece::{Part, Piece};
 use crate::token::Token;
-use fts_commits::Text;
 use std::alloc::{AllocError, Global};
 
-/// The statement that the tokens of a whole line write, if they write one.
-pub fn read_statement(alloc: Global, tokens: &[Placed]) -> Result<Option<Statement>, AllocError>
-    ensures { IfOk result (λ found. IsStatementIn (tokens_at tokens.now) found) }
-{
-    match read_insert(alloc, tokens)? {
-        Some(statement) => Ok(Some(statement)),
-        None => read_match(alloc, tokens),
-    }
+/// A place in a table.
+#[derive(Clone, Copy)]
+struct Place<'g> {
+    /// What is left of the part that was begun.
+    begun: &'g [Piece],
+    /// The parts behind it.
+    ahead: &'g [Part],
 }
 
-fn read_insert(alloc: Global, tokens: &[Placed]) -> Result<Option<Statement>, AllocError>
-    ensures { IfOk result (λ found. IsInsertIn (tokens_at tokens.now) found) }
-{
-    let head = [Fixed::Keyword(b"insert"), Fixed::Keyword(b"into")];
-    let Some(rest) = read_fixed(&head, tokens) else {
-        return Ok(None);
-    };
-    let Some((table, rest)) = read_name(rest) else {
-        return Ok(None);
-    };
-    let Some(columns) = read_list(alloc, Kind::Name, rest)? else {
-        return Ok(None);
-    };
-    let Some(rest) = read_fixed(&[Fixed::Keyword(b"values")], columns.rest) else {
-        return Ok(None);
-    };
-    let Some(values) = read_list(alloc, Kind::Value, rest)? else {
-        return Ok(None);
-    };
-    if !is_end(values.rest) {
-        return Ok(None);
-    }
-    let table = Text::new(table.to_vec(alloc)?);
-    let columns = copy_names(alloc, &columns.tokens)?;
-    let values = copy_values(alloc, &values.tokens)?;
-    Ok(Some(Statement::Insert {
-        table,
-        columns,
-        values,
-    }))
+/// A token's piece, and the place behind it.
+#[derive(Clone, Copy)]
+struct Step<'g> {
+    piece: Piece,
+    place: Place<'g>,
 }
 
-fn read_match(alloc: Global, tokens: &[Placed]) -> Result<Option<Statement>, AllocError>
-    ensures { IfOk result (λ found. IsMatchIn (tokens_at tokens.now) found) }
-{
-    let head = [
-        Fixed::Keyword(b"select"),
-        Fixed::Keyword(b"fts_doc_id"),
-        Fixed::Keyword(b"from"),
-    ];
-    let Some(rest) = read_fixed(&head, tokens) else {
-        return Ok(None);
-    };
-    let Some((table, rest)) = read_name(rest) else {
-        return Ok(None);
-    };
-    let Some(rest) = read_fixed(&[Fixed::Keyword(b"where"), Fixed::Keyword(b"match")], rest) else {
-        return Ok(None);
-    };
-    let Some(columns) = read_list(alloc, Kind::Name, rest)? else {
-        return Ok(None);
-    };
-    let Some(query) = read_against(columns.rest) else {
-        return Ok(None);
-    };
-    let table = Text::new(table.to_vec(alloc)?);
-    let columns = copy_names(alloc, &columns.tokens)?;
-    let query = copy_unquoted(alloc, query)?;
-    Ok(Some(Statement::Match {
-        table,
-        columns,
-        query,
-    }))
+/// How far tokens are those of a table.
+#[derive(Drop)]
+pub struct Reached<'l> {
+    /// How many of the first ones some tokens of the table begin with.
+    pub count: usize,
+    /// What is taken of these.
+    pub taken: Vec<Token<'l>>,
+    /// Whether they are all, and the table's tokens can end with them.
+    pub whole: bool,
 }
 
-/// The query, as written between its apostrophes, where the tokens are the end of a MATCH from
-/// AGAINST on.
-fn read_against<'l>(tokens: &[Placed<'l>]) -> Option<&'l [u8]>
-    ensures some { IfSome result (λ query. IsAgainst (unquoted query.now) (tokens_at tokens.now)) }
-    ensures none { IfNone result ((other : List ℕ) → IsAgainst other (tokens_at tokens.now) → ⊥) }
+/// The step of a token that stands where the pieces begin.
+fn begin<'g>(pieces: &'g [Piece], ahead: &'g [Part], token: &Token) -> Option<Step<'g>>
+    ensures { option_map step_of result ≡ begin pieces.now ahead.now (token_of token.now) }
 {
-    let rest = read_fixed(&[Fixed::Keyword(b"against"), Fixed::Mark(b'(')], tokens)?;
-    let (query, rest) = read_string(rest)?;
-    let end = [
-        Fixed::Keyword(b"in"),
-        Fixed::Keyword(b"boolean"),
-        Fixed::Keyword(b"mode"),
-        Fixed::Mark(b')'),
-    ];
-    if !is_end(read_fixed(&end, rest)?) {
+    let (first, begun) = pieces.split_first()?;
+    if !first.has(token) {
         return None;
     }
-    Some(query)
+    Some(Step {
+        piece: *first,
+        place: Place { begun, ahead },
+    })
 }
 
-/// The name that the tokens begin with, if they do, and what follows it.
-fn read_name<'t, 'l>(tokens: &'t [Placed<'l>]) -> Option<(&'l [u8], &'t [Placed<'l>])>
-    ensures some { IfSome result (λ found. tokens_at tokens.now
-        ≡ name found.0.now ∷ tokens_at found.1.now) }
-    ensures none { IfNone result ((written : List ℕ) (rest : List definition)
-        → tokens_at tokens.now ≡ name written ∷ rest → ⊥) }
+/// The step of a token that stands where a part is this one piece.
+fn begin_one<'g>(piece: &Piece, ahead: &'g [Part], token: &Token) -> Option<Step<'g>>
+    ensures { option_map step_of result
+        ≡ begin (piece.now ∷ []) ahead.now (token_of token.now) }
 {
-    let (first, rest) = tokens.split_first()?;
-    match first.token {
-        Token::Name(written) => Some((written, rest)),
-        _ => None,
+    if !piece.has(token) {
+        return None;
+    }
+    Some(Step {
+        piece: *piece,
+        place: Place { begun: &[], ahead },
+    })
+}
+
+/// The step of a token that stands where the parts begin.
+fn enter<'g>(ahead: &'g [Part], token: &Token) -> Option<Step<'g>>
+    ensures { option_map step_of result ≡ enter ahead.now (token_of token.now) }
+{
+    let (first, rest) = ahead.split_first()?;
+    match first {
+        Part::Once(piece) => begin_one(piece, rest, token),
+        Part::Optional(piece) => match begin_one(piece, rest, token) {
+            Some(step) => Some(step),
+            None => enter(rest, token),
+        },
+        Part::Repeated(pieces) => match begin(pieces, ahead, token) {
+            Some(step) => Some(step),
+            None => enter(rest, token),
+        },
     }
 }
 
-/// The string that the tokens begin with, if they do, as written between its apostrophes, and what
-/// follows it.
-fn read_string<'t, 'l>(tokens: &'t [Placed<'l>]) -> Option<(&'l [u8], &'t [Placed<'l>])>
-    ensures some { IfSome result (λ found. tokens_at tokens.now
-        ≡ string (unquoted found.0.now) ∷ tokens_at found.1.now) }
-    ensures none { IfNone result ((text : List ℕ) (rest : List definition)
-        → tokens_at tokens.now ≡ string text ∷ rest → ⊥) }
-{
-    let (first, rest) = tokens.split_first()?;
-    match first.token {
-        Token::String(written) => Some((written, rest)),
-        _ => None,
+impl<'g> Place<'g> {
+    /// The step of a token that stands there.
+    fn behind(self, token: &Token) -> Option<Step<'g>>
+        ensures { option_map step_of result
+            ≡ behind self.entry.begun.now self.entry.ahead.now (token_of token.now) }
+    {
+        if self.begun.is_empty() {
+            return enter(self.ahead, token);
+        }
+        begin(self.begun, self.ahead, token)
+    }
+
+    /// Whether tokens can end there.
+    fn is_end(self) -> bool
+        ensures { result ≡ ends self.entry.begun.now self.entry.ahead.now }
+    {
+        if !self.begun.is_empty() {
+            return false;
+        }
+        can_end(self.ahead)
     }
 }
 
-/// Whether nothing is left of a statement, or its `;`.
-fn is_end(tokens: &[Placed]) -> bool
-    ensures { IsTrue result ↔ IsEnd (tokens_at tokens.now) }
+/// Whether tokens can end where the parts begin.
+fn can_end(ahead: &[Part]) -> bool
+    ensures { result ≡ can_end ahead.now }
 {
-    if tokens.is_empty() {
-        return true;
+    match ahead {
+        [] => true,
+        [Part::Once(_), ..] => false,
+        [_, rest @ ..] => can_end(rest),
     }
-    match read_mark(b';', tokens) {
-        Some(rest) => rest.is_empty(),
-        None => false,
+}
+
+/// How far the tokens are those of the table.
+pub fn read<'l>(
+    alloc: Global,
+    table: &[Part],
+    tokens: &[Placed<'l>],
+) -> Result<Reached<'l>, AllocError>
+    requires { is_table table.now ≡ true }
+    ensures { IfOk result (λ reached. IsRead table.now (tokens_at tokens.now) reached) }
+{
+    let mut taken = Vec::new(alloc);
+    let mut place = Place {
+        begun: &[],
+        ahead: table,
+    };
+    for (count, placed) in tokens.iter().enumerate() {
+        let Some(step) = place.behind(&placed.token) else {
+            return Ok(Reached {
+                count,
+                taken,
+                whole: false,
+            });
+        };
+        step.piece.take(&mut taken, placed.token)?;
+        place = step.place;
     }
+    Ok(Reached {
+        count: tokens.len(),
+        taken,
+        whole: place.is_end(),
+    })
 }

@@ -1,0 +1,189 @@
+-- Small statements, worked out by hand: what the tables and the definitions say of them.
+use Rattle.std.proofs.Common.{◌≡◌, ◌↔◌, ◌++◌, Bool, true, false, List, [], ◌∷◌, Option, Some, None, refl, sym, ap, subst, codes}
+use Rattle.std.proofs.lemmas.Bool.{both_ways}
+use Rattle.std.proofs.lemmas.List.{append-nil}
+use Rattle.fts_sql.specs.Token.{Token, name, number, string, mark}
+use Rattle.fts_sql.specs.declared.piece.Piece.{Piece}
+use Rattle.fts_sql.specs.declared.value.Value.TheVariants.{Number, Text}
+use Rattle.fts_sql.specs.declared.statement.Statement.{Statement}
+use Rattle.fts_sql.specs.declared.statement.Statement.TheVariants.{Insert, Match}
+use Rattle.fts_sql.specs.declared.form.Form.{Form}
+use Rattle.fts_sql.specs.declared.form.Form.TheVariants as form
+use Rattle.fts_sql.specs.Table.{taken_by, Says}
+use Rattle.fts_sql.specs.Statement.{table_of, Writes}
+use Rattle.fts_sql.specs.Fault.{Viable}
+use Rattle.fts_sql.specs.Reader.{is_table, Spot, SaysFrom, behind, ends}
+use Rattle.fts_sql.proofs.Tables.{IsStep, behind_is, spot_end, spot_completes}
+use Rattle.fts_sql.proofs.Written.{tables_are, form_of, viable_of}
+
+-- the spot behind some tokens, and what is taken of them, if a table's tokens can begin with them
+
+record Reading : Type 0 where
+  spot : Spot
+  taken : List Token
+
+abbrev then_read : Option (Piece × Spot) → Token → (Spot → List Token → Option Reading) → List Token → Option Reading
+then_read None t read taken = None
+then_read (Some step) t read taken = read step.1 (taken_by step.0 t taken)
+
+abbrev after : Spot → List Token → List Token → Option Reading
+after spot [] taken = Some (record { spot = spot; taken = taken })
+after spot (t ∷ tokens) taken = then_read (behind spot.begun spot.ahead t) t (λ s kept. after s tokens kept) taken
+
+abbrev IsAfter : Spot → List Token → List Token → Option Reading → Type 0
+IsAfter spot tokens taken None = (all more : List Token) → SaysFrom spot all (tokens ++ more) taken → ⊥
+IsAfter spot tokens taken (Some read) =
+    ((all more : List Token) → SaysFrom spot all (tokens ++ more) taken ↔ SaysFrom read.spot all more read.taken)
+    × (is_table read.spot.ahead ≡ true)
+
+later : (spot : Spot) (t : Token) (tokens taken : List Token) (step : Piece × Spot) → IsStep (SaysFrom spot) t (Some step)
+    → (read : Option Reading) → IsAfter step.1 tokens (taken_by step.0 t taken) read → IsAfter spot (t ∷ tokens) taken read
+later spot t tokens taken step is None none = λ all more h. none all more ((is.0 all (tokens ++ more) taken).0 h)
+later spot t tokens taken step is (Some read) same = (
+  λ all more. (
+    λ h. (same.0 all more).0 ((is.0 all (tokens ++ more) taken).0 h),
+    λ k. (is.0 all (tokens ++ more) taken).1 ((same.0 all more).1 k),
+  ),
+  same.1,
+)
+
+read_on : (spot : Spot) (t : Token) (tokens taken : List Token) (step : Option (Piece × Spot)) → IsStep (SaysFrom spot) t step
+    → ((s : Spot) (kept : List Token) → is_table s.ahead ≡ true → IsAfter s tokens kept (after s tokens kept))
+    → IsAfter spot (t ∷ tokens) taken (then_read step t (λ s kept. after s tokens kept) taken)
+read_on spot t tokens taken None is next = λ all more h. is all (tokens ++ more) taken h
+read_on spot t tokens taken (Some step) is next =
+    later spot t tokens taken step is (after step.1 tokens (taken_by step.0 t taken)) (next step.1 (taken_by step.0 t taken) is.1)
+
+after_is : (tokens : List Token) (spot : Spot) (taken : List Token) → is_table spot.ahead ≡ true → IsAfter spot tokens taken (after spot tokens taken)
+after_is [] spot taken table = (λ all more. (λ h. h, λ k. k), table)
+after_is (t ∷ tokens) spot taken table =
+    read_on spot t tokens taken (behind spot.begun spot.ahead t) (behind_is spot.begun spot.ahead t table) (after_is tokens)
+
+abbrev if_whole : Bool → List Token → Option (List Token)
+if_whole true taken = Some taken
+if_whole false taken = None
+
+abbrev takes : Option Reading → Option (List Token)
+takes None = None
+takes (Some read) = if_whole (ends read.spot.begun read.spot.ahead) read.taken
+
+abbrev start : Form → Spot
+start one = record { begun = []; ahead = table_of one }
+
+abbrev said_of : Option (List Token) → List Token
+said_of None = []
+said_of (Some taken) = taken
+
+abbrev is_said : Option (List Token) → Bool
+is_said None = false
+is_said (Some taken) = true
+
+by_end : (b : Bool) (taken all : List Token) → if_whole b taken ≡ Some all → (b ≡ true) × (taken ≡ all)
+by_end true taken all e = (refl, ap said_of e)
+by_end false taken all e = absurd (both_ways false refl (ap is_said e))
+
+no_end : (b : Bool) (taken : List Token) → if_whole b taken ≡ None → b ≡ true → ⊥
+no_end true taken e is = both_ways true (ap is_said e) refl
+no_end false taken e is = both_ways false refl is
+
+whole_by : (one : Form) (tokens all : List Token) (read : Option Reading) → IsAfter (start one) tokens [] read → takes read ≡ Some all
+    → Says (table_of one) all tokens []
+whole_by one tokens all None is e = absurd (both_ways false refl (ap is_said e))
+whole_by one tokens all (Some read) is e =
+    let end = by_end (ends read.spot.begun read.spot.ahead) read.taken all e in
+    subst (λ ts. Says (table_of one) all ts []) (append-nil tokens)
+    ((is.0 all []).1 ((spot_end read.spot.begun read.spot.ahead is.1 all read.taken).1 end))
+
+none_by : (one : Form) (tokens : List Token) (read : Option Reading) → IsAfter (start one) tokens [] read → takes read ≡ None
+    → (all : List Token) → Says (table_of one) all tokens [] → ⊥
+none_by one tokens None is e all says = is all [] (subst (λ ts. Says (table_of one) all ts []) (sym (append-nil tokens)) says)
+none_by one tokens (Some read) is e all says =
+    let end = (spot_end read.spot.begun read.spot.ahead is.1 all read.taken).0
+    ((is.0 all []).0 (subst (λ ts. Says (table_of one) all ts []) (sym (append-nil tokens)) says)) in
+    no_end (ends read.spot.begun read.spot.ahead) read.taken e end.0
+
+abbrev is_front : Option Reading → Bool
+is_front None = false
+is_front (Some read) = true
+
+front_by : (one : Form) (tokens : List Token) (read : Option Reading) → IsAfter (start one) tokens [] read → is_front read ≡ true → Viable tokens
+front_by one tokens None is e = absurd (both_ways false refl e)
+front_by one tokens (Some read) is e =
+    let r = spot_completes read.spot.begun read.spot.ahead read.taken in
+    viable_of one tokens (r.1, r.0, (is.0 r.1 r.0).1 r.2)
+
+-- the tokens are a whole statement of the form
+says : (one : Form) (tokens all : List Token) → takes (after (start one) tokens []) ≡ Some all → Says (table_of one) all tokens []
+says one tokens all e = whole_by one tokens all (after (start one) tokens []) (after_is tokens (start one) [] (tables_are one)) e
+
+-- they are none of any form
+writes_none : (tokens : List Token) → ((one : Form) → takes (after (start one) tokens []) ≡ None) → (statement : Statement) → Writes statement tokens → ⊥
+writes_none tokens none statement (one, all, is, same) =
+    none_by one tokens (after (start one) tokens []) (after_is tokens (start one) [] (tables_are one)) (none one) all is
+
+-- some statement begins with them
+begins : (one : Form) (tokens : List Token) → is_front (after (start one) tokens []) ≡ true → Viable tokens
+begins one tokens e = front_by one tokens (after (start one) tokens []) (after_is tokens (start one) [] (tables_are one)) e
+
+not_front : (one : Form) (tokens : List Token) (read : Option Reading) → IsAfter (start one) tokens [] read → is_front read ≡ false
+    → (all more : List Token) → Says (table_of one) all (tokens ++ more) [] → ⊥
+not_front one tokens None is e all more h = is all more h
+not_front one tokens (Some read) is e all more h = both_ways true e refl
+
+-- none does
+begins_none : (tokens : List Token) → ((one : Form) → is_front (after (start one) tokens []) ≡ false) → Viable tokens → ⊥
+begins_none tokens none viable =
+    let of = form_of tokens viable in
+    not_front of.0 tokens (after (start of.0) tokens []) (after_is tokens (start of.0) [] (tables_are of.0)) (none of.0) of.1.0 of.1.1 of.1.2
+
+-- INSERT INTO t (a, b) VALUES (1, 'x')
+
+abbrev insert_front : List Token
+insert_front =
+    name (codes "INSERT") ∷ name (codes "into") ∷ name (codes "t") ∷ mark 40 ∷ name (codes "a") ∷ mark 44 ∷ name (codes "b") ∷ mark 41
+    ∷ name (codes "Values") ∷ mark 40 ∷ number 1 ∷ mark 44 ∷ string (codes "x") ∷ []
+
+insert_row : Writes (Insert (codes "t") (codes "a" ∷ codes "b" ∷ []) (Number 1 ∷ Text (codes "x") ∷ [])) (insert_front ++ mark 41 ∷ [])
+insert_row = (form.Insert, _, says form.Insert (insert_front ++ mark 41 ∷ []) _ refl, refl)
+
+closed_row : Writes (Insert (codes "t") (codes "a" ∷ codes "b" ∷ []) (Number 1 ∷ Text (codes "x") ∷ [])) (insert_front ++ mark 41 ∷ mark 59 ∷ [])
+closed_row = (form.Insert, _, says form.Insert (insert_front ++ mark 41 ∷ mark 59 ∷ []) _ refl, refl)
+
+open_row : (statement : Statement) → Writes statement insert_front → ⊥
+open_row = writes_none insert_front none
+  where
+    none : (one : Form) → takes (after (start one) insert_front []) ≡ None
+    none form.Insert = refl
+    none form.Match = refl
+
+open_front : Viable insert_front
+open_front = begins form.Insert insert_front refl
+
+-- INSERT INTO t () ..
+no_column : Viable (name (codes "insert") ∷ name (codes "into") ∷ name (codes "t") ∷ mark 40 ∷ mark 41 ∷ []) → ⊥
+no_column = begins_none (name (codes "insert") ∷ name (codes "into") ∷ name (codes "t") ∷ mark 40 ∷ mark 41 ∷ []) none
+  where
+    none : (one : Form) → is_front (after (start one) (name (codes "insert") ∷ name (codes "into") ∷ name (codes "t") ∷ mark 40 ∷ mark 41 ∷ []) []) ≡ false
+    none form.Insert = refl
+    none form.Match = refl
+
+-- SELECT FTS_DOC_ID FROM t WHERE MATCH (a) AGAINST ('q' IN BOOLEAN MODE)
+
+abbrev match_front : List Token
+match_front =
+    name (codes "SELECT") ∷ name (codes "FTS_DOC_ID") ∷ name (codes "FROM") ∷ name (codes "t") ∷ name (codes "WHERE") ∷ name (codes "MATCH")
+    ∷ mark 40 ∷ name (codes "a") ∷ mark 41 ∷ name (codes "AGAINST") ∷ mark 40 ∷ string (codes "q")
+    ∷ name (codes "IN") ∷ name (codes "BOOLEAN") ∷ name (codes "MODE") ∷ []
+
+match_row : Writes (Match (codes "t") (codes "a" ∷ []) (codes "q")) (match_front ++ mark 41 ∷ [])
+match_row = (form.Match, _, says form.Match (match_front ++ mark 41 ∷ []) _ refl, refl)
+
+match_closed : Writes (Match (codes "t") (codes "a" ∷ []) (codes "q")) (match_front ++ mark 41 ∷ mark 59 ∷ [])
+match_closed = (form.Match, _, says form.Match (match_front ++ mark 41 ∷ mark 59 ∷ []) _ refl, refl)
+
+match_open : (statement : Statement) → Writes statement match_front → ⊥
+match_open = writes_none match_front none
+  where
+    none : (one : Form) → takes (after (start one) match_front []) ≡ None
+    none form.Insert = refl
+    none form.Match = refl

@@ -1,0 +1,131 @@
+-- The forms of statement: tokens are of one form, and take one list.
+use Rattle.std.proofs.Common.{◌≡◌, ◌⊎◌, inl, inr, ℕ, zero, suc, ◌+◌, ◌<◌, ◌≤◌, ◌==◌, true, false, List, [], ◌∷◌, ◌++◌, length, take, drop, get_or, refl, sym, ap, ◌∙◌, subst, arith}
+use Rattle.std.proofs.lemmas.Bool.{both_ways, cases_Bool, eqb-true, eqb-false}
+use Rattle.std.proofs.lemmas.List.{append_assoc, append-nil, take-append-drop}
+use Rattle.fts_sql.specs.Token.{Token}
+use Rattle.fts_sql.specs.declared.piece.Part.{Part}
+use Rattle.fts_sql.specs.declared.statement.Statement.{Statement}
+use Rattle.fts_sql.specs.declared.form.Form.{Form}
+use Rattle.fts_sql.specs.declared.form.Form.TheVariants as form
+use Rattle.fts_sql.specs.declared.form.TheConstants.{FORMS}
+use Rattle.fts_sql.specs.Table.{Says}
+use Rattle.fts_sql.specs.Statement.{table_of, statement_of, Writes}
+use Rattle.fts_sql.specs.Fault.{Viable}
+use Rattle.fts_sql.specs.Reader.{is_table, Begins, IsReached, IsFurthest}
+use Rattle.fts_sql.proofs.Tables.{one_taken, no_tokens, spot_completes, are_parted, parted}
+
+-- each form is one of the list
+
+abbrev place_of : Form → ℕ
+place_of form.Insert = 0
+place_of form.Match = 1
+
+pub is_listed : (one : Form) (d : Form) → (place_of one < length FORMS) × (get_or FORMS (place_of one) d ≡ one)
+is_listed form.Insert d = (omega arith, refl)
+is_listed form.Match d = (omega arith, refl)
+
+-- each table can be read from the left
+pub tables_are : (one : Form) → is_table (table_of one) ≡ true
+tables_are form.Insert = refl
+tables_are form.Match = refl
+
+-- two of them part
+one_or_parted : (one other : Form) → (one ≡ other) ⊎ (are_parted (table_of one) (table_of other) ≡ true)
+one_or_parted form.Insert form.Insert = inl refl
+one_or_parted form.Insert form.Match = inr refl
+one_or_parted form.Match form.Insert = inr refl
+one_or_parted form.Match form.Match = inl refl
+
+one_form : (tokens : List Token) (one other : Form) (a b : List Token) → Says (table_of one) a tokens [] → Says (table_of other) b tokens [] → one ≡ other
+one_form tokens one other a b h k =
+    elim (one_or_parted one other) [
+      | inl same ↦ same
+      | inr apart ↦ absurd (parted (table_of one) (table_of other) apart a b tokens [] [] h k)
+    ]
+
+-- tokens write one statement
+pub one_writing : (tokens : List Token) (one other : Statement) → Writes one tokens → Writes other tokens → one ≡ other
+one_writing tokens one other (f, a, h, e) (g, b, k, e2) =
+    let same = one_form tokens f g a b h k in
+    let k2 : Says (table_of f) b tokens [] = subst (λ x. Says (table_of x) b tokens []) (sym same) k in
+    let taken = one_taken (table_of f) tokens a b (tables_are f) h k2 in
+    e ∙ ap (statement_of f) taken ∙ ap (λ x. statement_of x b) same ∙ sym e2
+
+-- some statement begins with what begins some form's tokens
+
+pub viable_of : (one : Form) (tokens : List Token) → Begins (table_of one) tokens → Viable tokens
+viable_of one tokens (all, more, says) = (statement_of one all, more, (one, all, says, refl))
+
+pub form_of : (tokens : List Token) → Viable tokens → (one : Form) × Begins (table_of one) tokens
+form_of tokens (statement, more, (one, all, says, is)) = (one, (all, more, says))
+
+pub front_begins : (table : List Part) (tokens behind : List Token) → Begins table (tokens ++ behind) → Begins table tokens
+front_begins table tokens behind (all, more, says) = (all, behind ++ more, subst (λ ts. Says table all ts []) (append_assoc tokens behind more) says)
+
+pub viable_front : (tokens behind : List Token) → Viable (tokens ++ behind) → Viable tokens
+viable_front tokens behind viable =
+    let of = form_of (tokens ++ behind) viable in viable_of of.0 tokens (front_begins (table_of of.0) tokens behind of.1)
+
+pub writes_viable : (statement : Statement) (tokens : List Token) → Writes statement tokens → Viable tokens
+writes_viable statement tokens writes = (statement, [], subst (Writes statement) (sym (append-nil tokens)) writes)
+
+-- some statement begins with nothing
+pub viable_nothing : Viable []
+viable_nothing =
+    let r = spot_completes [] (table_of form.Insert) [] in
+    viable_of form.Insert [] (r.1, r.0, r.2)
+
+-- no tokens write no statement
+pub none_written : (statement : Statement) → Writes statement [] → ⊥
+none_written statement (form.Insert, all, (t, more, e, is, says), same) = no_tokens t more (sym e)
+none_written statement (form.Match, all, (t, more, e, is, says), same) = no_tokens t more (sym e)
+
+take_take : (k m : ℕ) (tokens : List Token) → k ≤ m → take k (take m tokens) ≡ take k tokens
+take_take zero m tokens less = refl
+take_take (suc k) zero tokens less = absurd (omega (arith, less))
+take_take (suc k) (suc m) [] less = refl
+take_take (suc k) (suc m) (t ∷ tokens) less = ap (λ ts. t ∷ ts) (take_take k m tokens (omega (arith, less)))
+
+shorter_begins : (table : List Part) (tokens : List Token) (k m : ℕ) → k ≤ m → Begins table (take m tokens) → Begins table (take k tokens)
+shorter_begins table tokens k m less begins =
+    subst (Begins table) (take_take k m tokens less)
+    (front_begins table (take k (take m tokens)) (drop k (take m tokens)) (subst (Begins table) (sym (take-append-drop k (take m tokens))) begins))
+
+-- so far none of the forms goes on behind so many tokens, or is all of them
+pub record IsPast (tokens : List Token) (count : ℕ) (one : Form) : Type 0 where
+  pub stops : count < length tokens → Begins (table_of one) (take (count + 1) tokens) → ⊥
+  pub none : (all : List Token) → Says (table_of one) all tokens [] → ⊥
+
+-- which a later place keeps
+pub past_later : (tokens : List Token) (count later : ℕ) (one : Form) → count ≤ later → IsPast tokens count one → IsPast tokens later one
+past_later tokens count later one less past = record {
+  stops = λ within begins. past.stops (omega (arith, less, within)) (shorter_begins (table_of one) tokens (count + 1) (later + 1) (omega (arith, less)) begins);
+  none = past.none;
+}
+
+pub past_reached : (tokens taken : List Token) (count : ℕ) (one : Form) → IsReached (table_of one) tokens count taken false → IsPast tokens count one
+past_reached tokens taken count one reached = record {
+  stops = reached.stops;
+  none = λ all says. both_ways false refl ((reached.says all).0 says).0;
+}
+
+pub past_more : (tokens : List Token) (count later i : ℕ) (d : Form) → count ≤ later → ((k : ℕ) → k < i → IsPast tokens count (get_or FORMS k d))
+    → IsPast tokens later (get_or FORMS i d) → (k : ℕ) → k < i + 1 → IsPast tokens later (get_or FORMS k d)
+past_more tokens count later i d less before here k within =
+    elim (cases_Bool (k == i)) [
+      | inl same ↦ subst (λ n. IsPast tokens later (get_or FORMS n d)) (sym (eqb-true k i same)) here
+      | inr other ↦ past_later tokens count later (get_or FORMS k d) less (before k (omega (arith, within, eqb-false k i other)))
+    ]
+
+-- where all forms are past, no statement goes on
+pub furthest : (tokens : List Token) (count : ℕ) (d : Form) → count ≤ length tokens → Viable (take count tokens)
+    → ((k : ℕ) → k < length FORMS → IsPast tokens count (get_or FORMS k d)) → IsFurthest tokens count
+furthest tokens count d within front past = record {
+  within = within;
+  front = front;
+  stops = λ less viable. (let of = form_of (take (count + 1) tokens) viable in (here of.0).stops less of.1);
+  none = λ statement writes. (here writes.0).none writes.1 writes.2;
+}
+  where
+    here : (one : Form) → IsPast tokens count one
+    here one = let listed = is_listed one d in subst (IsPast tokens count) listed.1 (past (place_of one) listed.0)

@@ -1,0 +1,61 @@
+use Rattle.std.specs.Prelude.{◌≡◌, ◌⊎◌, ℕ, zero, suc, Bool, ◌==◌, true, false, List, [], ◌∷◌, ◌++◌, codes}
+use Rattle.std.specs.Str.{bytes_eq, str_to_ascii_lowercase}
+use Rattle.fts_sql.specs.Token.{Token, name, number, string, mark}
+use Rattle.fts_sql.specs.declared.word.Word.{Word}
+use Rattle.fts_sql.specs.declared.word.Word.TheVariants as word
+use Rattle.fts_sql.specs.declared.piece.Piece.{Piece}
+use Rattle.fts_sql.specs.declared.piece.Piece.TheVariants.{Keyword, Mark, Name, Number, String, Value}
+use Rattle.fts_sql.specs.declared.piece.Part.{Part}
+use Rattle.fts_sql.specs.declared.piece.Part.TheVariants.{Once, Optional, Repeated}
+
+-- a keyword's letters, in lower case
+abbrev pub letters : Word → List ℕ
+letters word.Against = codes "against"
+letters word.Boolean = codes "boolean"
+letters word.From = codes "from"
+letters word.FtsDocId = codes "fts_doc_id"
+letters word.In = codes "in"
+letters word.Insert = codes "insert"
+letters word.Into = codes "into"
+letters word.Match = codes "match"
+letters word.Mode = codes "mode"
+letters word.Select = codes "select"
+letters word.Values = codes "values"
+letters word.Where = codes "where"
+
+-- whether the token can stand where the piece is: a keyword in any case
+abbrev pub is_piece : Piece → Token → Bool
+is_piece (Keyword w) (name written) = bytes_eq (str_to_ascii_lowercase written) (letters w)
+is_piece (Mark b) (mark c) = b == c
+is_piece Name (name written) = true
+is_piece Number (number n) = true
+is_piece String (string text) = true
+is_piece Value (number n) = true
+is_piece Value (string text) = true
+is_piece piece other = false
+
+-- what a statement takes of a line: all but keywords and marks, behind what it has taken so far
+abbrev pub taken_by : Piece → Token → List Token → List Token
+taken_by (Keyword w) token taken = taken
+taken_by (Mark b) token taken = taken
+taken_by other token taken = taken ++ token ∷ []
+
+-- the tokens are these pieces, and then the rest
+abbrev pub Are : List Piece → (List Token → List Token → Type 0) → List Token → List Token → Type 0
+Are [] Rest tokens taken = Rest tokens taken
+Are (piece ∷ pieces) Rest tokens taken =
+    (first : Token) × (more : List Token) × (tokens ≡ first ∷ more) × (is_piece piece first ≡ true)
+    × Are pieces Rest more (taken_by piece first taken)
+
+-- they are these pieces, so many times, and then the rest
+abbrev pub Often : ℕ → List Piece → (List Token → List Token → Type 0) → List Token → List Token → Type 0
+Often zero pieces Rest = Rest
+Often (suc n) pieces Rest = Are pieces (Often n pieces Rest)
+
+-- the tokens are a table's parts, one after another, and what is taken of them, behind what was taken so far, is all
+abbrev pub Says : List Part → List Token → List Token → List Token → Type 0
+Says [] all tokens taken = (tokens ≡ []) × (taken ≡ all)
+Says (Once piece ∷ parts) all tokens taken = Are (piece ∷ []) (Says parts all) tokens taken
+Says (Optional piece ∷ parts) all tokens taken =
+    Are (piece ∷ []) (Says parts all) tokens taken ⊎ Says parts all tokens taken
+Says (Repeated pieces ∷ parts) all tokens taken = (n : ℕ) × Often n pieces (Says parts all) tokens taken

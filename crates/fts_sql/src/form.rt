@@ -1,0 +1,101 @@
+//! The forms of statement. A new one is a case here: its table, its reading and its statement; what
+//! it says is in `specs/Statement.antt`.
+
+ghost use Rattle.std.specs.Prelude.{◌≡◌, map, IfOk};
+ghost use Rattle.fts_sql.specs.Reading.{token_of};
+ghost use Rattle.fts_sql.specs.Statement.{table_of, statement_of};
+ghost use Rattle.fts_sql.specs.Reader.{tokens_at, IsRead};
+
+use crate::copy::{behind_first, copy_names, copy_unquoted, copy_values, first_name, first_string};
+use crate::line::Placed;
+use crate::piece::Part::{self, Once, Optional, Repeated};
+use crate::piece::Piece::{Keyword, Mark, Name, String, Value};
+use crate::reader::{Reached, read};
+use crate::statement::Statement;
+use crate::token::Token;
+use crate::word::Word;
+use fts_commits::Text;
+use std::alloc::{AllocError, Global};
+
+/// A form of statement.
+#[derive(Clone, Copy)]
+pub enum Form {
+    Insert,
+    Match,
+}
+
+/// The forms that there are.
+pub const FORMS: [Form; 2] = [Form::Insert, Form::Match];
+
+/// `INSERT INTO table (column, ..) VALUES (value, ..)`
+pub const INSERT: [Part; 13] = [
+    Once(Keyword(Word::Insert)),
+    Once(Keyword(Word::Into)),
+    Once(Name),
+    Once(Mark(b'(')),
+    Once(Name),
+    Repeated([Mark(b','), Name]),
+    Once(Mark(b')')),
+    Once(Keyword(Word::Values)),
+    Once(Mark(b'(')),
+    Once(Value),
+    Repeated([Mark(b','), Value]),
+    Once(Mark(b')')),
+    Optional(Mark(b';')),
+];
+
+/// `SELECT FTS_DOC_ID FROM table WHERE MATCH (column, ..) AGAINST ('query' IN BOOLEAN MODE)`
+pub const MATCH: [Part; 18] = [
+    Once(Keyword(Word::Select)),
+    Once(Keyword(Word::FtsDocId)),
+    Once(Keyword(Word::From)),
+    Once(Name),
+    Once(Keyword(Word::Where)),
+    Once(Keyword(Word::Match)),
+    Once(Mark(b'(')),
+    Once(Name),
+    Repeated([Mark(b','), Name]),
+    Once(Mark(b')')),
+    Once(Keyword(Word::Against)),
+    Once(Mark(b'(')),
+    Once(String),
+    Once(Keyword(Word::In)),
+    Once(Keyword(Word::Boolean)),
+    Once(Keyword(Word::Mode)),
+    Once(Mark(b')')),
+    Optional(Mark(b';')),
+];
+
+impl Form {
+    /// How far the tokens are those of the form.
+    pub fn read<'l>(self, alloc: Global, tokens: &[Placed<'l>]) -> Result<Reached<'l>, AllocError>
+        ensures { IfOk result
+            (λ reached. IsRead (table_of self) (tokens_at tokens.now) reached) }
+    {
+        match self {
+            Form::Insert => read(alloc, &INSERT, tokens),
+            Form::Match => read(alloc, &MATCH, tokens),
+        }
+    }
+
+    /// The statement of the form that takes these tokens.
+    pub fn statement(self, alloc: Global, taken: &[Token]) -> Result<Statement, AllocError>
+        ensures { IfOk result
+            (λ statement. statement ≡ statement_of self (map token_of taken.now)) }
+    {
+        let table = Text::new(first_name(taken).to_vec(alloc)?);
+        let columns = copy_names(alloc, behind_first(taken))?;
+        match self {
+            Form::Insert => Ok(Statement::Insert {
+                table,
+                columns,
+                values: copy_values(alloc, taken)?,
+            }),
+            Form::Match => Ok(Statement::Match {
+                table,
+                columns,
+                query: copy_unquoted(alloc, first_string(taken))?,
+            }),
+        }
+    }
+}
