@@ -13,7 +13,7 @@ use Rattle.fts_types.specs.Rules.{rules_of}
 use Rattle.fts_types.specs.Limits.{standard_limits}
 use Rattle.fts_commits.specs.Commit.{Commit, Rows, after_commit, replay, no_rows}
 use Rattle.fts_commits.specs.Fits.{CanCommit}
-use Rattle.fts_commits.specs.Scan.{scan}
+use Rattle.fts_meaning.specs.Scan.{scan, one_word}
 use Rattle.fts_log.specs.Record.{IsLog, log_end}
 use Rattle.fts_log.specs.Crash.{IsBeforeOrAfter}
 use Rattle.fts_log.specs.Log as log
@@ -156,15 +156,15 @@ module _ {D : Type 0} {disk : Ghosts D} (state : State) (engine : Engine D disk)
   pub same_number : log.count_of engine.log - 1 ≡ length state.commits
   same_number = let count = keeps.count in omega (arith)
 
-  pub is_found : (number : ℕ) (docs : List ℕ) → number ≡ length state.commits → docs ≡ scan (rules_of (kept_settings engine.kept)) word (kept_rows engine.kept)
+  pub is_found : (number : ℕ) (docs : List ℕ) → number ≡ length state.commits → docs ≡ scan (rules_of (kept_settings engine.kept)) (kept_rows engine.kept).list (one_word word)
       → plain_answer (engine_limits engine) state (to_find word) ≡ found number docs
   is_found number docs numbered same =
-      let settings : scan (rules_of state.settings) word (replay state.commits) ≡ scan (rules_of (kept_settings engine.kept)) word (replay state.commits) =
-      ap (λ (s : Settings). scan (rules_of s) word (replay state.commits)) keeps.settings in
-      let rows : scan (rules_of (kept_settings engine.kept)) word (kept_rows engine.kept) ≡ scan (rules_of (kept_settings engine.kept)) word (replay state.commits) =
-      ap (scan (rules_of (kept_settings engine.kept)) word) keeps.rows in
-      let docs' : scan (rules_of state.settings) word (replay state.commits) ≡ docs = settings ∙ sym rows ∙ sym same in
-      ap (λ (n : ℕ). found n (scan (rules_of state.settings) word (replay state.commits))) (sym numbered) ∙ ap (found number) docs'
+      let settings : scan (rules_of state.settings) (replay state.commits).list (one_word word) ≡ scan (rules_of (kept_settings engine.kept)) (replay state.commits).list (one_word word) =
+      ap (λ (s : Settings). scan (rules_of s) (replay state.commits).list (one_word word)) keeps.settings in
+      let rows : scan (rules_of (kept_settings engine.kept)) (kept_rows engine.kept).list (one_word word) ≡ scan (rules_of (kept_settings engine.kept)) (replay state.commits).list (one_word word) =
+      ap (λ (rows : Rows). scan (rules_of (kept_settings engine.kept)) rows.list (one_word word)) keeps.rows in
+      let docs' : scan (rules_of state.settings) (replay state.commits).list (one_word word) ≡ docs = settings ∙ sym rows ∙ sym same in
+      ap (λ (n : ℕ). found n (scan (rules_of state.settings) (replay state.commits).list (one_word word))) (sym numbered) ∙ ap (found number) docs'
 
 -- a refusal by the rows leaves the state
 pub refusal_stays : (state : State) (commit : Commit) (error : PlanError) (answer : Answer) → answer ≡ refusal_answer error → after state (to_commit commit) answer ≡ state

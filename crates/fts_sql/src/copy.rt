@@ -9,8 +9,7 @@ ghost use Rattle.fts_sql.specs.declared.kind.Kind.TheVariants as kinds;
 use crate::token::Token;
 use crate::value::Value;
 use crate::values::Values;
-use fts_commits::Text;
-use fts_types::Names;
+use fts_types::{Names, Text};
 use std::alloc::{AllocError, Global};
 
 /// The names that the tokens are; another token is left out.

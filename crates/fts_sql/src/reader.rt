@@ -12,7 +12,7 @@ use crate::line::Placed;
 use crate::list::read_list;
 use crate::statement::Statement;
 use crate::token::Token;
-use fts_commits::Text;
+use fts_types::Text;
 use std::alloc::{AllocError, Global};
 
 /// The statement that the tokens of a whole line write, if they write one.

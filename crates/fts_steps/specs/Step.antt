@@ -4,7 +4,7 @@ use Rattle.fts_types.specs.declared.limits.Limits.{Limits}
 use Rattle.fts_types.specs.Rules.{rules_of}
 use Rattle.fts_commits.specs.Commit.{Commit, Rows, after_commit, replay}
 use Rattle.fts_commits.specs.declared.refusal.Refusal.{Refusal}
-use Rattle.fts_commits.specs.Scan.{scan}
+use Rattle.fts_meaning.specs.Scan.{scan, one_word}
 use Rattle.fts_steps.specs.State.{State, with_commits, end_after}
 
 -- what a step is asked: to make a commit, or to look for the rows that have a word
@@ -38,7 +38,7 @@ abbrev pub plain_answer : Limits → State → Ask → Answer
 plain_answer limits state (to_commit commit) = commit_answer limits state commit
     (after_commit limits commit (replay state.commits))
 plain_answer limits state (to_find word) = found (length state.commits)
-    (scan (rules_of state.settings) word (replay state.commits))
+    (scan (rules_of state.settings) (replay state.commits).list (one_word word))
 
 -- what the state is after a step, by its answer
 abbrev pub after : State → Ask → Answer → State
