@@ -13,7 +13,8 @@ use Rattle.fts_commits.specs.declared.refusal.Refusal.{Refusal}
 use Rattle.fts_commits.specs.declared.refusal.Refusal.TheVariants.{DuplicateKey, DocIdOrder, DocIdGap, IdsFull, TextTooLong, RowsFull}
 use Rattle.fts_commits.specs.declared.change.Change.{Change}
 use Rattle.fts_commits.specs.declared.change.Change.TheVariants.{Insert, Update, Delete}
-use Rattle.fts_commits.specs.Commit.{Commit, Row, Rows, no_rows, has_key, with_key, without_key, with_row, doc_within, doc_for, with_document, updated, set_bytes, after_update, after_change, on_rows, after_changes, within_rows, after_commit, rows_after, replay}
+use Rattle.fts_types.specs.Row.{Row}
+use Rattle.fts_commits.specs.Commit.{Commit, Rows, no_rows, has_key, with_key, without_key, with_row, doc_within, doc_for, with_document, updated, set_bytes, after_update, after_change, on_rows, after_changes, within_rows, after_commit, rows_after, replay}
 
 -- the one row is before the other
 abbrev pub Before : Row → Row → Type 0
@@ -125,7 +126,7 @@ commits_ordered : (commits : List Commit) (rows : Rows) → IsOrdered rows → I
 commits_ordered [] rows ordered = ordered
 commits_ordered (commit ∷ commits) rows ordered = commits_ordered commits (rows_after rows commit) (commit_ordered commit rows ordered)
 
-ids_ascend : (rows : List Row) → AllPairs Before rows → AllPairs (λ (a b : ℕ). a < b) (map (λ (row : Row). row.doc) rows)
+pub ids_ascend : (rows : List Row) → AllPairs Before rows → AllPairs (λ (a b : ℕ). a < b) (map (λ (row : Row). row.doc) rows)
 ids_ascend rows ascend i j d order less =
     let short : j < length rows = subst (λ (n : ℕ). j < n) (length-map rows (λ (row : Row). row.doc)) less in
     let none : Row = record { key = 0; doc = 0; texts = [] } in

@@ -2,3 +2,4 @@ mod Ascending
 mod WorkedRows
 mod WorkedTurns
 mod Turns
+mod Leads

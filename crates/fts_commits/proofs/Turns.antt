@@ -1,11 +1,16 @@
 -- The turns of a database's commits.
-use Rattle.std.proofs.Common.{◌≡◌, ℕ, ◌+◌, ◌<◌, ◌≤◌, Bool, true, false, cond, ◌||◌, ◌&&◌, not, filter, map, List, [], ◌∷◌, ◌++◌, nat_eq, refl, sym, ap, subst, ◌∙◌, arith, append_assoc, append-nil}
+use Rattle.std.proofs.Common.{◌≡◌, ℕ, ◌<◌, ◌≤◌, Bool, true, false, cond, ◌||◌, ◌&&◌, not, filter, List, [], ◌∷◌, ◌++◌, nat_eq, refl, sym, ap, subst, ◌∙◌, arith, append_assoc, append-nil}
 use Rattle.std.proofs.lemmas.Bool.{ne_eqb, eq-eqb}
 use Rattle.std.proofs.lemmas.List.Elements.{filter-append, All-filter, All-head, All-tail, All-map}
 use Rattle.std.specs.List.{All}
-use Rattle.fts_commits.specs.Commit.{Commit, Row, Rows, no_rows, with_row, without_key, rows_after}
+use Rattle.fts_types.specs.Row.{Row}
+use Rattle.fts_commits.specs.Commit.{Commit, Rows, no_rows, with_row, without_key, rows_after}
 use Rattle.fts_commits.specs.Turn.{RowsAscend, AreTurns, has_doc, rows_not_in, turn_between, turns_from}
 use Rattle.fts_commits.proofs.Ascending.{IsOrdered, none_ordered, commit_holds, commit_ordered}
+
+pub ids-order : (low high : ℕ) (rows : List Row) → RowsAscend low high rows → low ≤ high
+ids-order low high [] ids = ids
+ids-order low high (row ∷ rows) ids = omega (arith, ids.0, ids-order row.doc high rows ids.1)
 
 ids-push : (low high : ℕ) (rows : List Row) (row : Row) → RowsAscend low high rows → high < row.doc → RowsAscend low row.doc (rows ++ row ∷ [])
 ids-push low high [] row ids above = (omega (arith, ids, above), omega arith)
@@ -24,13 +29,13 @@ ids-filter p low high (row ∷ rows) ids = by (p row) (ids-filter p row.doc high
     by false rest = ids-lower low row.doc high (filter p rows) rest (omega (arith, ids.0))
 
 -- some of the rows before stand after it, and behind them rows with ids above all that were used
-record Grown (before after : Rows) : Type 0 where
+pub record Grown (before after : Rows) : Type 0 where
   pub test : Row → Bool
   pub news : List Row
   pub list : after.list ≡ filter test before.list ++ news
   pub ids : RowsAscend before.largest after.largest news
 
-all_pass : (rows : List Row) → filter (λ row. true) rows ≡ rows
+pub all_pass : (rows : List Row) → filter (λ row. true) rows ≡ rows
 all_pass [] = refl
 all_pass (row ∷ rows) = ap (λ (l : List Row). row ∷ l) (all_pass rows)
 
@@ -68,7 +73,7 @@ one_less before key rows grown =
     }
 
 -- no row has an id above all of theirs
-none_above : (doc largest : ℕ) (rows : List Row) → All (λ (row : Row). row.doc ≤ largest) rows → largest < doc → has_doc doc rows ≡ false
+pub none_above : (doc largest : ℕ) (rows : List Row) → All (λ (row : Row). row.doc ≤ largest) rows → largest < doc → has_doc doc rows ≡ false
 none_above doc largest [] below above = refl
 none_above doc largest (row ∷ rows) below above =
     let first = All-head (λ (r : Row). r.doc ≤ largest) row rows below in
@@ -100,24 +105,29 @@ none_new t front (row ∷ rows) =
         ∙ rest
     by false rest = rest
 
-born : (before after : Rows) → IsOrdered before → Grown before after → RowsAscend before.largest after.largest (rows_not_in before.list after.list)
-born before after ordered grown =
-    let same : rows_not_in before.list after.list ≡ grown.news =
+pub births_are : (before after : Rows) → IsOrdered before → (grown : Grown before after) → rows_not_in before.list after.list ≡ grown.news
+births_are before after ordered grown =
     ap (rows_not_in before.list) grown.list
     ∙ filter-append _ (filter grown.test before.list) grown.news
     ∙ ap (λ (l : List Row). l ++ rows_not_in before.list grown.news) (none_new grown.test [] before.list)
-    ∙ all_new before.largest after.largest before.largest before.list grown.news ordered.below (omega arith) grown.ids in
-    subst (RowsAscend before.largest after.largest) (sym same) grown.ids
+    ∙ all_new before.largest after.largest before.largest before.list grown.news ordered.below (omega arith) grown.ids
+
+born : (before after : Rows) → IsOrdered before → Grown before after → RowsAscend before.largest after.largest (rows_not_in before.list after.list)
+born before after ordered grown =
+    subst (RowsAscend before.largest after.largest) (sym (births_are before after ordered grown)) grown.ids
 
 died : (before after : Rows) → IsOrdered before → All (λ id. id ≤ before.largest) (turn_between before after).deaths
 died before after ordered =
     All-map (λ id. id ≤ before.largest) (λ (row : Row). row.doc) (rows_not_in after.list before.list) (All-filter _ (λ (row : Row). row.doc ≤ before.largest) before.list ordered.below)
 
+pub grows : (rows : Rows) (commit : Commit) → Grown rows (rows_after rows commit)
+grows rows commit = commit_holds (Grown rows) (one_more rows) (one_less rows) commit rows (begins rows)
+
 turns_go_on : (commits : List Commit) (rows : Rows) → IsOrdered rows → AreTurns rows.largest (turns_from rows commits)
 turns_go_on [] rows ordered = tt
 turns_go_on (commit ∷ commits) rows ordered =
     let after = rows_after rows commit in
-    (born rows after ordered (commit_holds (Grown rows) (one_more rows) (one_less rows) commit rows (begins rows)), died rows after ordered, turns_go_on commits after (commit_ordered commit rows ordered))
+    (born rows after ordered (grows rows commit), died rows after ordered, turns_go_on commits after (commit_ordered commit rows ordered))
 
 -- the turns of a database's commits
 pub turns_are : (commits : List Commit) → AreTurns 0 (turns_from no_rows commits)

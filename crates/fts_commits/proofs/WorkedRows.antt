@@ -5,7 +5,8 @@ use Rattle.fts_types.specs.declared.limits.Limits.{Limits}
 use Rattle.fts_types.specs.Limits.{standard_limits}
 use Rattle.fts_commits.specs.declared.change.Change.TheVariants.{Insert, Update, Delete}
 use Rattle.fts_commits.specs.declared.refusal.Refusal.TheVariants.{DuplicateKey, DocIdOrder, DocIdGap, IdsFull, RowsFull}
-use Rattle.fts_commits.specs.Commit.{Row, Rows, no_rows, after_commit, replay}
+use Rattle.fts_types.specs.Row.{Row}
+use Rattle.fts_commits.specs.Commit.{Rows, no_rows, after_commit, replay}
 
 abbrev row : ℕ → ℕ → List (List ℕ) → Row
 row key doc texts = record { key = key; doc = doc; texts = texts }

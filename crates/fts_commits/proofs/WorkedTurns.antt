@@ -3,8 +3,9 @@ use Rattle.std.proofs.Common.{◌≡◌, ℕ, List, [], ◌∷◌, Some, None, r
 use Rattle.std.specs.Prelude.{codes}
 use Rattle.fts_commits.specs.declared.change.Change.{Change}
 use Rattle.fts_commits.specs.declared.change.Change.TheVariants.{Insert, Update, Delete}
-use Rattle.fts_commits.specs.Commit.{Row, Rows, no_rows, rows_after}
-use Rattle.fts_commits.specs.Turn.{Turn, turn_between, turns_from}
+use Rattle.fts_types.specs.Row.{Row}
+use Rattle.fts_commits.specs.Commit.{Rows, no_rows, rows_after}
+use Rattle.fts_commits.specs.Turn.{Turn, turn_between, turns_from, rows_by, deaths_of}
 
 abbrev row : ℕ → ℕ → List ℕ → Row
 row key doc text = record { key = key; doc = doc; texts = text ∷ [] }
@@ -61,3 +62,12 @@ a_refused_commit = refl
 a_life : turns_from no_rows ((insert 5 (codes "cat") ∷ []) ∷ (insert 6 (codes "dog") ∷ Delete 5 ∷ []) ∷ [])
     ≡ turn (row 5 1 (codes "cat") ∷ []) [] 1 ∷ turn (row 6 2 (codes "dog") ∷ []) (1 ∷ []) 2 ∷ []
 a_life = refl
+
+-- the rows after a turn: a row that died has left its place, and the one with its key stands behind all others
+after_a_turn : rows_by two (turn (row 7 4 (codes "dog") ∷ []) (1 ∷ []) 4) ≡ record { list = row 8 2 (codes "bee") ∷ row 7 4 (codes "dog") ∷ []; largest = 4 }
+after_a_turn = refl
+
+-- a key that comes again has another id, so each id dies once
+a_key_dies_twice : deaths_of (turns_from no_rows ((insert 5 (codes "cat") ∷ []) ∷ (insert 6 (codes "dog") ∷ Delete 5 ∷ []) ∷ (insert 5 (codes "cat") ∷ []) ∷ (Delete 5 ∷ Delete 6 ∷ []) ∷ []))
+    ≡ 1 ∷ 2 ∷ 3 ∷ []
+a_key_dies_twice = refl

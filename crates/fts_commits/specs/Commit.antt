@@ -4,6 +4,7 @@ use Rattle.std.specs.List.{list_any}
 use Rattle.std.specs.Result.{result_unwrap_or}
 use Rattle.fts_types.specs.declared.limits.Limits.{Limits}
 use Rattle.fts_types.specs.Limits.{standard_limits}
+use Rattle.fts_types.specs.Row.{Row}
 use Rattle.fts_commits.specs.declared.change.Change.{Change}
 use Rattle.fts_commits.specs.declared.change.Change.TheVariants.{Insert, Update, Delete}
 use Rattle.fts_commits.specs.declared.refusal.Refusal.{Refusal}
@@ -13,12 +14,6 @@ use Rattle.fts_commits.specs.declared.refusal.Refusal.TheVariants.{TextTooLong, 
 -- a commit: the changes of one transaction, in their order
 abbrev pub Commit : Type 0
 Commit = List Change
-
--- a row: its key, its document id, and the texts of its columns
-pub record Row : Type 0 where
-  pub key : ℕ
-  pub doc : ℕ
-  pub texts : List (List ℕ)
 
 -- the rows in the order of their document ids, and the largest id that was used
 pub record Rows : Type 0 where

@@ -4,4 +4,3 @@ pub mod Commit
 pub mod Turn
 pub mod NewText
 pub mod Fits
-pub mod Scan

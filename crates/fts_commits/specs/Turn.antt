@@ -1,7 +1,8 @@
 -- What a commit does to the rows, as an index sees it: which documents are born and which die.
-use Rattle.std.specs.Prelude.{ℕ, ◌<◌, ◌≤◌, ◌==◌, Bool, not, List, [], ◌∷◌, filter, map, flat_map}
+use Rattle.std.specs.Prelude.{ℕ, ◌<◌, ◌≤◌, ◌==◌, Bool, not, List, [], ◌∷◌, ◌++◌, filter, map, flat_map}
 use Rattle.std.specs.List.{All, list_any}
-use Rattle.fts_commits.specs.Commit.{Commit, Row, Rows, rows_after}
+use Rattle.fts_types.specs.Row.{Row}
+use Rattle.fts_commits.specs.Commit.{Commit, Rows, rows_after}
 
 -- a turn: the rows that are born and the document ids that die, both in the order of the ids, and the largest id that
 -- is used after it
@@ -32,6 +33,14 @@ abbrev pub turns_from : Rows → List Commit → List Turn
 turns_from rows [] = []
 turns_from rows (commit ∷ commits) =
     turn_between rows (rows_after rows commit) ∷ turns_from (rows_after rows commit) commits
+
+-- the rows without those of some document ids
+abbrev pub rows_but : List ℕ → List Row → List Row
+rows_but ids rows = filter (λ row. not (list_any (λ id. id == row.doc) ids)) rows
+
+-- the rows after a turn: those before it without the dead, and behind them those that are born
+abbrev pub rows_by : Rows → Turn → Rows
+rows_by rows turn = record { list = rows_but turn.deaths rows.list ++ turn.births; largest = turn.largest }
 
 -- the rows that are born in some turns, and the document ids that die, in their order
 abbrev pub births_of : List Turn → List Row

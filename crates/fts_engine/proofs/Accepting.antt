@@ -7,7 +7,8 @@ use Rattle.std.specs.Prelude.{Bool, true, false, nat_lt, Result, Ok, Err, IsOk, 
 use Rattle.fts_types.specs.declared.limits.Limits.{Limits}
 use Rattle.fts_types.specs.Limits.{standard_limits}
 use Rattle.fts_commits.specs.declared.refusal.Refusal.{Refusal}
-use Rattle.fts_commits.specs.Commit.{Commit, Row, Rows, no_rows, has_key, with_key, without_key, doc_within, doc_for, with_texts, with_document, updated, after_update, after_change, on_rows, after_changes, within_rows, after_commit, rows_after, replay, AreAccepted}
+use Rattle.fts_types.specs.Row.{Row}
+use Rattle.fts_commits.specs.Commit.{Commit, Rows, no_rows, has_key, with_key, without_key, doc_within, doc_for, with_texts, with_document, updated, after_update, after_change, on_rows, after_changes, within_rows, after_commit, rows_after, replay, AreAccepted}
 use Rattle.fts_commits.specs.Fits.{IsPlainInsert, FitsNumbers, CanCommit}
 use Rattle.fts_commits.specs.declared.change.Change.{Change}
 use Rattle.fts_commits.specs.declared.change.Change.TheVariants.{Insert, Update, Delete}

@@ -6,7 +6,8 @@ use Rattle.std.specs.Prelude.{Bool, true, false, nat_lt, Result, Ok, Err, sum_by
 use Rattle.fts_types.specs.declared.limits.Limits.{Limits}
 use Rattle.fts_types.specs.Limits.{standard_limits}
 use Rattle.fts_commits.specs.declared.refusal.Refusal.{Refusal}
-use Rattle.fts_commits.specs.Commit.{Row, Rows, has_key, doc_within, doc_for, with_row, with_texts, with_document, after_change, after_changes, within_rows, after_commit}
+use Rattle.fts_types.specs.Row.{Row}
+use Rattle.fts_commits.specs.Commit.{Rows, has_key, doc_within, doc_for, with_row, with_texts, with_document, after_change, after_changes, within_rows, after_commit}
 use Rattle.fts_commits.specs.Fits.{FitsColumns, IsPlainInsert, IsCommit}
 use Rattle.fts_commits.specs.declared.change.Change.{Change}
 use Rattle.fts_commits.specs.declared.change.Change.TheVariants.{Insert, Update, Delete}

@@ -13,7 +13,7 @@ use Rattle.fts_types.specs.Rules.{rules_of}
 use Rattle.fts_types.specs.Limits.{standard_limits}
 use Rattle.fts_commits.specs.Commit.{Commit, Rows, after_commit, replay, no_rows}
 use Rattle.fts_commits.specs.Fits.{CanCommit}
-use Rattle.fts_commits.specs.Scan.{scan}
+use Rattle.fts_meaning.specs.Scan.{scan, one_word}
 use Rattle.fts_log.specs.Record.{IsLog, log_end}
 use Rattle.fts_log.specs.Crash.{IsBeforeOrAfter}
 use Rattle.fts_log.specs.Log as log
@@ -171,16 +171,16 @@ module _ {D : Type 0} {disk : Ghosts D} (running : Running) (engine : Engine D d
   pub same_number : log.count_of engine.log - 1 ≡ length running.state.commits
   same_number = let count = keeps.count in omega (arith)
 
-  pub is_found : (number : ℕ) (docs : List ℕ) → number ≡ length running.state.commits → docs ≡ scan (rules_of (kept_settings engine.kept)) word (kept_rows engine.kept)
+  pub is_found : (number : ℕ) (docs : List ℕ) → number ≡ length running.state.commits → docs ≡ scan (rules_of (kept_settings engine.kept)) (kept_rows engine.kept).list (one_word word)
       → plain_answer (engine_limits engine) running (to_find word) ≡ found number docs
   is_found number docs numbered same =
       let commits = running.state.commits in
-      let settings : scan (rules_of running.state.settings) word (replay commits) ≡ scan (rules_of (kept_settings engine.kept)) word (replay commits) =
-      ap (λ (s : Settings). scan (rules_of s) word (replay commits)) keeps.settings in
-      let rows : scan (rules_of (kept_settings engine.kept)) word (kept_rows engine.kept) ≡ scan (rules_of (kept_settings engine.kept)) word (replay commits) =
-      ap (scan (rules_of (kept_settings engine.kept)) word) keeps.rows in
-      let docs' : scan (rules_of running.state.settings) word (replay commits) ≡ docs = settings ∙ sym rows ∙ sym same in
-      ap (λ (n : ℕ). found n (scan (rules_of running.state.settings) word (replay commits))) (sym numbered) ∙ ap (found number) docs'
+      let settings : scan (rules_of running.state.settings) (replay commits).list (one_word word) ≡ scan (rules_of (kept_settings engine.kept)) (replay commits).list (one_word word) =
+      ap (λ (s : Settings). scan (rules_of s) (replay commits).list (one_word word)) keeps.settings in
+      let rows : scan (rules_of (kept_settings engine.kept)) (kept_rows engine.kept).list (one_word word) ≡ scan (rules_of (kept_settings engine.kept)) (replay commits).list (one_word word) =
+      ap (λ (rows : Rows). scan (rules_of (kept_settings engine.kept)) rows.list (one_word word)) keeps.rows in
+      let docs' : scan (rules_of running.state.settings) (replay commits).list (one_word word) ≡ docs = settings ∙ sym rows ∙ sym same in
+      ap (λ (n : ℕ). found n (scan (rules_of running.state.settings) (replay commits).list (one_word word))) (sym numbered) ∙ ap (found number) docs'
 
 -- a refusal by the rows adds nothing, and is no fault
 pub refusal_adds : (commit : Commit) (error : PlanError) (answer : Answer) → answer ≡ refusal_answer error → changes_of (to_commit commit) answer ≡ []

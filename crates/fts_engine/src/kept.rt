@@ -12,8 +12,7 @@ ghost use Rattle.fts_engine.specs.Next.{WillHold};
 use fts_commits::Change;
 use fts_index::{CommitPlan, Index};
 use fts_rows::{Plan, PlanError, Rows};
-use fts_schema::DocIds;
-use fts_types::{Limits, Settings};
+use fts_types::{DocIds, Limits, Settings};
 use std::alloc::{AllocError, Global};
 
 /// What is kept in memory of a database: its settings, its rows, and the index of their words.
@@ -39,7 +38,7 @@ impl Kept {
     ghost use Rattle.fts_types.specs.Rules.{rules_of};
     ghost use Rattle.fts_commits.specs.Commit.{Rows as RowList, after_commit, no_rows};
     ghost use Rattle.fts_commits.specs.Fits.{IsCommit};
-    ghost use Rattle.fts_commits.specs.Scan.{scan};
+    ghost use Rattle.fts_meaning.specs.Scan.{scan, one_word};
     ghost use Rattle.fts_rows.specs.Refusal.{IsNoPlan};
     ghost use Rattle.fts_engine.specs.Kept.{kept_settings, kept_rows, kept_limits, WillKeep};
 
@@ -133,7 +132,8 @@ impl Kept {
     /// The document ids of the rows that have the word.
     pub fn find(&self, word: &[u8]) -> Result<DocIds, AllocError>
         ensures { IfOk result (λ docs. docs
-            ≡ scan (rules_of (kept_settings self.now)) word.now (kept_rows self.now)) }
+            ≡ scan (rules_of (kept_settings self.now)) (kept_rows self.now).list
+            (one_word word.now)) }
     {
         self.index.find(word)
     }

@@ -2,11 +2,9 @@
 use Rattle.std.specs.Prelude.{ℕ, ◌+◌, ◌<◌, List, [], ◌∷◌, cond, length}
 use Rattle.std.specs.List.{AllPairs, flat_map}
 use Rattle.std.specs.Str.{bytes_eq}
-use Rattle.std.specs.Ordering.{nat_cmp}
-use Rattle.std.specs.Cmp.Lexicographic.{slice_cmp}
-use Rattle.std.specs.declared.cmp.Ordering.{Ordering}
 use Rattle.std.specs.declared.cmp.Ordering.TheVariants.{Less}
 use Rattle.std.specs.Prelude.{◌≡◌}
+pub use Rattle.fts_words.specs.Order.{byte_order}
 use Rattle.fts_ilist.specs.Spelling.{Posting, items_bytes, position_items, id_at_end}
 
 -- a node is the documents of its list
@@ -36,10 +34,6 @@ NodesAfter last (n ∷ ns) = BeginsAfter last n × NodesAfter (id_at_end 0 n) ns
 abbrev pub last_of : ℕ → List Docs → ℕ
 last_of before [] = before
 last_of before (n ∷ ns) = last_of (id_at_end 0 n) ns
-
--- how words are ordered: byte by byte
-abbrev pub byte_order : List ℕ → List ℕ → Ordering
-byte_order = slice_cmp nat_cmp
 
 -- words with their nodes, by ascending words
 abbrev pub AscendByWord : List (List ℕ × List Docs) → Type 0

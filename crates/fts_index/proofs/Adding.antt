@@ -6,7 +6,8 @@ use Rattle.std.proofs.lemmas.Grind.{flat_map-append}
 use Rattle.fts_ilist.specs.Spelling.{Posting}
 use Rattle.fts_cache.specs.Document.{Document, document_postings}
 use Rattle.fts_cache.specs.Cache.{CacheState, postings_of, HasRoom}
-use Rattle.fts_commits.specs.Commit.{Row, Rows}
+use Rattle.fts_types.specs.Row.{Row}
+use Rattle.fts_commits.specs.Commit.{Rows}
 use Rattle.fts_words.specs.Indexed.{Rules}
 use Rattle.fts_index.specs.declared.index.Index.{Index}
 use Rattle.fts_index.specs.declared.index.CommitPlan.{CommitPlan}

@@ -6,9 +6,8 @@ use Rattle.std.proofs.lemmas.List.Elements.{All-head, All-tail}
 use Rattle.fts_words.specs.Indexed.{Rules}
 use Rattle.fts_ilist.specs.Spelling.{Posting}
 use Rattle.fts_cache.specs.Document.{Document, document_postings}
-use Rattle.fts_commits.specs.Commit.{Row}
-use Rattle.fts_rows.specs.declared.row.Row.{Row as Kept}
-use Rattle.fts_rows.specs.Row.{row_of}
+use Rattle.fts_types.specs.Row.{Row, row_of}
+use Rattle.fts_types.specs.declared.row.Row.{Row as Kept}
 use Rattle.fts_commits.specs.Turn.{RowsAscend}
 use Rattle.fts_index.specs.Births.{CanIndex}
 use Rattle.fts_index.specs.Words.{row_postings, rows_postings}

@@ -10,11 +10,10 @@ use Rattle.std.proofs.lemmas.List.Elements.{recursion_from_All, filter-append}
 use Rattle.std.proofs.lemmas.List.Folds.{length-prefix_len}
 use Rattle.std.proofs.lemmas.List.Sorted.{sorted_far}
 use Rattle.std.proofs.lemmas.Map.Text.{is_eq-slice_cmp}
-use Rattle.fts_types.specs.Row.{IsRow}
+use Rattle.fts_types.specs.Row.{IsRow, Row}
 use Rattle.fts_words.specs.Indexed.{Rules}
 use Rattle.fts_words.proofs.RunLemmas.{AllPairs-head, AllPairs-tail}
 use Rattle.fts_ilist.specs.Spelling.{Posting, PositionsFrom}
-use Rattle.fts_commits.specs.Commit.{Row}
 use Rattle.fts_cache.specs.Document.{Document, WordPositions, document_size, found_words, postings_from, IsBefore, EndsBefore, CanPush}
 use Rattle.fts_cache.proofs.Queues.{which_word, is_same}
 use Rattle.fts_cache.proofs.Documents.{size_push, found_here, found_later}

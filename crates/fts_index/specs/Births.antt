@@ -1,7 +1,6 @@
 -- New rows that can be indexed.
 use Rattle.std.specs.Prelude.{ℕ, ◌<◌, ◌^◌, List, All}
-use Rattle.fts_types.specs.Row.{IsRow}
-use Rattle.fts_commits.specs.Commit.{Row}
+use Rattle.fts_types.specs.Row.{IsRow, Row}
 use Rattle.fts_commits.specs.Turn.{RowsAscend}
 
 -- the row can be indexed

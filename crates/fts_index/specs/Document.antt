@@ -1,7 +1,7 @@
 use Rattle.std.specs.Prelude.{◌≡◌, ℕ, List, [], ◌∷◌}
 use Rattle.fts_words.specs.Indexed.{Rules}
 use Rattle.fts_cache.specs.Document.{Document, document_postings}
-use Rattle.fts_commits.specs.Commit.{Row}
+use Rattle.fts_types.specs.Row.{Row}
 use Rattle.fts_index.specs.Words.{row_postings}
 
 -- the document has exactly the row's indexed words, each with its positions

@@ -2,7 +2,8 @@ use Rattle.std.specs.Prelude.{◌≡◌, ℕ, ◌<◌, ◌≤◌, List, [], ◌�
 use Rattle.fts_words.specs.Indexed.{Rules}
 use Rattle.fts_cache.specs.Document.{Document}
 use Rattle.fts_cache.specs.Cache.{postings_of, HasRoom}
-use Rattle.fts_commits.specs.Commit.{Row, Rows}
+use Rattle.fts_types.specs.Row.{Row}
+use Rattle.fts_commits.specs.Commit.{Rows}
 use Rattle.fts_index.specs.Words.{rows_postings}
 use Rattle.fts_index.specs.Document.{HaveWordsOf}
 use Rattle.fts_index.specs.declared.index.Index.{Index}

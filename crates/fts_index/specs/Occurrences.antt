@@ -1,10 +1,10 @@
 -- The indexed words of one row, one occurrence after another.
 use Rattle.std.specs.Prelude.{◌≡◌, ℕ, ◌≤◌, Bool, List, length, map, filter, All}
 use Rattle.std.specs.List.Sorted.{IsSortedBy}
-use Rattle.std.specs.Cmp.Lexicographic.{slice_cmp}
-use Rattle.std.specs.Ordering.{nat_cmp, is_lt}
+use Rattle.std.specs.Ordering.{nat_cmp, is_lt, ordering_then}
 use Rattle.std.specs.Str.{bytes_eq}
 use Rattle.fts_words.specs.declared.placed.PlacedWord.{PlacedWord}
+use Rattle.fts_words.specs.Order.{byte_order}
 use Rattle.fts_words.specs.RawWords.{bytes_of}
 use Rattle.fts_words.specs.Indexed.{Rules, column_text, indexed_words, word_of}
 use Rattle.fts_index.specs.declared.occurrence.Occurrence.{Occurrence}
@@ -32,7 +32,11 @@ AreListed rules texts occurrences = map spot_of occurrences ≡ map (spot_in tex
 
 -- the word of the first comes before the word of the second
 abbrev pub comes_before : Occurrence → Occurrence → Bool
-comes_before a b = is_lt (slice_cmp nat_cmp a.word.now b.word.now)
+comes_before a b = is_lt (byte_order a.word.now b.word.now)
+
+-- the same, and where the words are the same the first stands before the second
+abbrev pub stands_before : Occurrence → Occurrence → Bool
+stands_before a b = is_lt (ordering_then (byte_order a.word.now b.word.now) (nat_cmp a.position b.position))
 
 -- the occurrence is one of the word
 abbrev pub is_of : List ℕ → Occurrence → Bool

@@ -4,7 +4,7 @@ use Rattle.std.specs.List.{flat_map}
 use Rattle.std.specs.Str.{bytes_eq}
 use Rattle.fts_words.specs.Indexed.{Rules, indexed_words, word_of}
 use Rattle.fts_ilist.specs.Spelling.{Posting}
-use Rattle.fts_commits.specs.Commit.{Row}
+use Rattle.fts_types.specs.Row.{Row}
 
 -- the positions at which a row has the word, in their order
 abbrev pub positions_of : Rules → List (List ℕ) → List ℕ → List ℕ

@@ -1,15 +1,13 @@
 ghost use Rattle.std.specs.Prelude.{◌≡◌, ◌<◌, ◌^◌, length, map, IfOk};
 ghost use Rattle.std.specs.List.{take_while};
-ghost use Rattle.fts_types.specs.Row.{IsRow};
+ghost use Rattle.fts_types.specs.Row.{IsRow, row_of};
 ghost use Rattle.fts_types.specs.Rules.{rules_of};
-ghost use Rattle.fts_rows.specs.Row.{row_of};
 ghost use Rattle.fts_index.specs.Occurrences.{is_of};
 ghost use Rattle.fts_index.specs.Document.{HasWordsOf};
 
 use crate::occurrence::{Occurrence, lowered_texts, occurrences};
 use fts_cache::DocWords;
-use fts_rows::Row;
-use fts_types::Settings;
+use fts_types::{Row, Settings};
 use std::alloc::{AllocError, Global};
 
 /// How many of the occurrences from the front on are of the word.

@@ -1,14 +1,12 @@
 ghost use Rattle.std.specs.Prelude.{◌≡◌, ◌++◌, ℕ, List, map, IfOk};
 ghost use Rattle.fts_types.specs.Rules.{rules_of};
-ghost use Rattle.fts_rows.specs.Row.{row_of};
+ghost use Rattle.fts_types.specs.Row.{row_of};
 ghost use Rattle.fts_index.specs.Births.{AreBirths};
 ghost use Rattle.fts_index.specs.Document.{HaveWordsOf};
 
 use crate::document::document_words;
 use fts_cache::{Cache, DocWords};
-use fts_rows::Row;
-use fts_schema::DocIds;
-use fts_types::Settings;
+use fts_types::{DocIds, Row, Settings};
 use std::alloc::{AllocError, Global};
 
 /// The words of a table's rows, each with its documents and their positions.
@@ -43,8 +41,9 @@ fn documents_of(
 
 impl Index {
     ghost use Rattle.fts_words.specs.Indexed.{Rules};
-    ghost use Rattle.fts_commits.specs.Commit.{Row as TableRow, Rows, no_rows};
-    ghost use Rattle.fts_commits.specs.Scan.{scan};
+    ghost use Rattle.fts_types.specs.Row.{Row as TableRow};
+    ghost use Rattle.fts_commits.specs.Commit.{Rows, no_rows};
+    ghost use Rattle.fts_meaning.specs.Scan.{scan, one_word};
     ghost use Rattle.fts_index.specs.Index.{Indexes, FitsIndex, WillIndex};
 
     /// An index of no rows. What it holds later lies in this allocator.
@@ -92,7 +91,7 @@ impl Index {
     /// The ascending ids of the rows that have the word. It costs the word's own documents.
     pub fn find(&self, word: &[u8]) -> Result<DocIds, AllocError>
         ensures { IfOk result (λ docs. (rules : Rules) (rows : Rows) → Indexes rules rows self.now
-            → docs ≡ scan rules word.now rows) }
+            → docs ≡ scan rules rows.list (one_word word.now)) }
     {
         let mut docs = Vec::new(self.alloc);
         for document in self.cache.postings(word) {

@@ -1,12 +1,13 @@
-ghost use Rattle.std.specs.Prelude.{◌≡◌, map, IfOk, OnOk, IsPermutation};
-ghost use Rattle.std.specs.List.Sorted.{IsSortedBy, IsStableBy};
+ghost use Rattle.std.specs.Prelude.{◌≡◌, map, IfOk, IsPermutation};
+ghost use Rattle.std.specs.List.Sorted.{IsSortedBy};
 ghost use Rattle.fts_words.specs.Byte.{lowered};
 ghost use Rattle.fts_token.specs.Row.{LiesIn};
 ghost use Rattle.fts_types.specs.Row.{IsRow};
 ghost use Rattle.fts_types.specs.Rules.{rules_of};
-ghost use Rattle.fts_index.specs.Occurrences.{spot_of, spot_at, AreListed, comes_before, AreSorted};
+ghost use Rattle.fts_index.specs.Occurrences.{spot_of, spot_at, AreListed, stands_before};
+ghost use Rattle.fts_index.specs.Occurrences.{AreSorted};
 
-use fts_token::indexed_words;
+use fts_token::{indexed_words, lowered};
 use fts_types::{RowTexts, Settings};
 use fts_words::PlacedWord;
 use std::alloc::{AllocError, Global};
@@ -25,7 +26,7 @@ pub(crate) fn lowered_texts(alloc: Global, texts: &RowTexts) -> Result<RowTexts,
 {
     let mut lower = RowTexts::new(alloc);
     for place in 0..texts.len() {
-        lower.push(texts.text(place).to_ascii_lowercase(alloc)?)?;
+        lower.push(lowered(alloc, texts.text(place))?)?;
     }
     Ok(lower)
 }
@@ -59,13 +60,13 @@ fn listed<'a>(
     Ok(all)
 }
 
-/// Sorts occurrences by the bytes of their words. Those of one word keep their order.
-fn sort(all: &mut Vec<Occurrence<'_>>) -> Result<(), AllocError>
-    ensures same { IsPermutation all.old.items all.new.items }
-    ensures stable { IsStableBy comes_before all.old.items all.new.items }
-    ensures sorted { OnOk result (IsSortedBy comes_before all.new.items) }
+/// Sorts occurrences by the bytes of their words, and those of one word by their positions. It
+/// takes no memory.
+fn sort(all: &mut [Occurrence<'_>])
+    ensures same { IsPermutation all.old all.new }
+    ensures sorted { IsSortedBy stands_before all.new }
 {
-    all.sort_by(|a, b| a.word.cmp(&b.word))
+    all.sort_unstable_by(|a, b| a.word.cmp(&b.word).then(a.position.cmp(&b.position)));
 }
 
 /// The indexed words of a row by the order of their bytes, the same word by its positions.
@@ -84,6 +85,6 @@ pub(crate) fn occurrences<'a>(
     // That it is a byte bounds the words' lengths, and so the size of a document.
     let _longest = settings.max;
     let mut all = listed(alloc, settings, texts, lower)?;
-    sort(&mut all)?;
+    sort(&mut all);
     Ok(all)
 }

@@ -1,13 +1,12 @@
 ghost use Rattle.std.specs.Prelude.{◌≡◌, ◌<◌, ◌^◌, ◌++◌, ℕ, map, IfOk, OnOk};
 ghost use Rattle.fts_types.specs.Rules.{rules_of};
 ghost use Rattle.fts_commits.specs.Commit.{Rows};
-ghost use Rattle.fts_rows.specs.Row.{row_of};
+ghost use Rattle.fts_types.specs.Row.{row_of};
 ghost use Rattle.fts_index.specs.Births.{CanIndex, AreBirths};
 ghost use Rattle.fts_index.specs.Index.{Indexes};
 
 use crate::Index;
-use fts_rows::Row;
-use fts_types::{Names, RowTexts, Settings};
+use fts_types::{Names, Row, RowTexts, Settings};
 use std::alloc::Global;
 use std::process::Abort;
 use std::sync::Arc;

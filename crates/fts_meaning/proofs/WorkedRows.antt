@@ -12,7 +12,8 @@ use Rattle.fts_meaning.specs.Distance.{distance_tail}
 use Rattle.fts_meaning.specs.Plain.{plain, with_spaces, without}
 use Rattle.fts_meaning.specs.Tree.{Operand, word, prefix, phrase, distance, Term, Terms, leaf, group, none, more}
 use Rattle.fts_meaning.specs.Token.{stray_at, words_in, tokens_at, tokens_from, IsTreeOf}
-use Rattle.fts_meaning.specs.Scan.{Row, scan}
+use Rattle.fts_types.specs.Row.{Row}
+use Rattle.fts_meaning.specs.Scan.{scan}
 
 standard : Rules
 standard = record { min = 3; max = 84; stopwords = default_stopwords }
@@ -27,7 +28,7 @@ optional : Operand → Term
 optional operand = leaf Optional operand
 
 row : ℕ → List ℕ → Row
-row doc text = record { doc = doc; texts = text ∷ [] }
+row doc text = record { key = doc; doc = doc; texts = text ∷ [] }
 
 -- what is left of a query
 
@@ -107,11 +108,11 @@ one_word_twice : scan standard distance_rows (one (optional (distance (codes "ap
 unfolding distance_rows row one optional standard default_stopwords words_in word_at apostrophe_at in_word runs_from placed_words
 one_word_twice = refl
 
-phrase_in_one_column : scan standard (record { doc = 1; texts = codes "x" ∷ codes "test, phrase" ∷ [] } ∷ record { doc = 2; texts = codes "x" ∷ codes "test the phrase" ∷ [] } ∷ record { doc = 3; texts = codes "a test" ∷ codes "phrase b" ∷ [] } ∷ []) (one (optional (phrase (codes "test" ∷ codes "phrase" ∷ [])))) ≡ 1 ∷ []
+phrase_in_one_column : scan standard (record { key = 1; doc = 1; texts = codes "x" ∷ codes "test, phrase" ∷ [] } ∷ record { key = 2; doc = 2; texts = codes "x" ∷ codes "test the phrase" ∷ [] } ∷ record { key = 3; doc = 3; texts = codes "a test" ∷ codes "phrase b" ∷ [] } ∷ []) (one (optional (phrase (codes "test" ∷ codes "phrase" ∷ [])))) ≡ 1 ∷ []
 unfolding one optional standard default_stopwords words_in word_at apostrophe_at in_word runs_from placed_words
 phrase_in_one_column = refl
 
 -- a phrase of words that can't be indexed words is found nowhere, though they stand together
-phrase_of_stopwords : scan standard (record { doc = 1; texts = codes "all of the" ∷ [] } ∷ []) (one (optional (phrase (codes "of" ∷ codes "the" ∷ [])))) ≡ []
+phrase_of_stopwords : scan standard (record { key = 1; doc = 1; texts = codes "all of the" ∷ [] } ∷ []) (one (optional (phrase (codes "of" ∷ codes "the" ∷ [])))) ≡ []
 unfolding one optional standard default_stopwords
 phrase_of_stopwords = refl

@@ -1,7 +1,7 @@
-use Rattle.std.specs.Prelude.{nat_eq}
 use Rattle.std.specs.Prelude.{ℕ, ◌+◌, Bool, true, false, not, ◌&&◌, ◌||◌, List, [], ◌∷◌, length, take, drop, filter}
-use Rattle.std.specs.List.{list_any, list_all, range_with_len, starts_with}
+use Rattle.std.specs.List.{list_any, list_all, range_with_len}
 use Rattle.std.specs.Str.{bytes_eq}
+use Rattle.fts_words.specs.Order.{begins_with, is_among}
 use Rattle.fts_words.specs.Indexed.{Rules, is_indexable, indexed_words, word_of}
 use Rattle.fts_meaning.specs.declared.sign.Sign.{Sign}
 use Rattle.fts_meaning.specs.declared.sign.Sign.TheVariants.{Optional, Required, Excluded}
@@ -36,10 +36,6 @@ stand_together columns words = list_any (stands_in words) columns
 abbrev pub phrase_holds : Rules → List (List ℕ) → List (List ℕ) → Bool
 phrase_holds rules columns words = list_any (is_indexable rules) words && stand_together columns words
 
--- the word is one of the list
-abbrev pub is_among : List (List ℕ) → List ℕ → Bool
-is_among words w = list_any (λ v. bytes_eq v w) words
-
 -- each of the words is among n + 1 words of the text that stand one behind another, so that the largest of their word
 -- numbers less the smallest is at most n
 abbrev pub are_near_in : List (List ℕ) → ℕ → List ℕ → Bool
@@ -58,7 +54,7 @@ distance_holds rules columns words n =
 -- the operand holds in the row
 abbrev pub operand_holds : Rules → List (List ℕ) → Operand → Bool
 operand_holds rules columns (word w) = some_indexed rules columns (λ found. bytes_eq found w)
-operand_holds rules columns (prefix w) = some_indexed rules columns (λ found. starts_with nat_eq found w)
+operand_holds rules columns (prefix w) = some_indexed rules columns (begins_with w)
 operand_holds rules columns (phrase words) = phrase_holds rules columns words
 operand_holds rules columns (distance words n) = distance_holds rules columns words n
 

@@ -9,7 +9,8 @@ use Rattle.std.proofs.lemmas.List.{get_or-take, get_or-drop}
 use Rattle.std.proofs.lemmas.List.Folds.{list_any_at}
 use Rattle.std.proofs.lemmas.Slice.Eq.{bytes_eq-Decides}
 use Rattle.std.proofs.Math.ListN.{drop_of_length-le}
-use Rattle.fts_meaning.specs.Holds.{starts_with_words, is_among, lie_near, distance_holds}
+use Rattle.fts_words.specs.Order.{is_among}
+use Rattle.fts_meaning.specs.Holds.{starts_with_words, lie_near, distance_holds}
 use Rattle.fts_words.specs.Indexed.{Rules, is_indexable}
 use Rattle.fts_plain.proofs.Walking.{drop_first}
 

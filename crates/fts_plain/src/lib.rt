@@ -13,4 +13,4 @@ mod tests;
 mod verdict;
 mod words;
 
-pub use rows::{Row, scan};
+pub use rows::scan;

@@ -10,8 +10,8 @@ ghost use Rattle.fts_meaning.specs.Holds.{are_near_in, lie_near};
 ghost use Rattle.fts_plain.specs.Words.{fits};
 
 use crate::words::{fits, has_run, is_near, some_indexable};
-use fts_query::{Operand, lowered, words_in};
-use fts_token::indexed_words;
+use fts_query::{Operand, words_in};
+use fts_token::{indexed_words, lowered};
 use fts_types::{RowTexts, Settings, Texts};
 use fts_words::PlacedWord;
 use std::alloc::{AllocError, Global};

@@ -1,8 +1,9 @@
 use super::*;
 use fts_query::parse;
-use fts_types::{Names, RowTexts, Settings};
+use fts_types::{Names, Row, RowTexts, Settings};
 use std::alloc::{AllocError, Global};
 use std::process::Abort;
+use std::sync::Arc;
 use std::test::Fail;
 
 fn settings(alloc: Global) -> Settings {
@@ -18,13 +19,21 @@ fn settings(alloc: Global) -> Settings {
 }
 
 /// A row of one or two columns; the second is left out where it is empty.
-fn row(alloc: Global, id: u64, first: &str, second: &str) -> Result<Row, Fail> {
+fn row(alloc: Global, doc: u64, first: &str, second: &str) -> Result<Row, Fail> {
     let mut texts = RowTexts::new(alloc);
     texts.push(first.as_bytes().to_vec(alloc)?)?;
     if !second.is_empty() {
         texts.push(second.as_bytes().to_vec(alloc)?)?;
     }
-    Ok(Row { id, texts })
+    let texts = match Arc::new(alloc, texts) {
+        Ok(texts) => texts,
+        Err(_) => return Err(Fail::from("no memory")),
+    };
+    Ok(Row {
+        key: doc,
+        doc,
+        texts,
+    })
 }
 
 /// The ids of the rows that a query finds, each row scanned alone.

@@ -2,8 +2,9 @@ ghost use Rattle.std.specs.Prelude.{◌≡◌, ◌+◌, ◌<◌, ◌≤◌, ◌^
 ghost use Rattle.std.specs.List.{list_any};
 ghost use Rattle.fts_words.specs.Indexed.{is_indexable};
 ghost use Rattle.fts_types.specs.Rules.{rules_of};
-ghost use Rattle.fts_meaning.specs.Holds.{starts_with_words, from_some_place, is_among};
-ghost use Rattle.fts_plain.specs.Words.{fits, begins_with, is_close};
+ghost use Rattle.fts_words.specs.Order.{is_among};
+ghost use Rattle.fts_meaning.specs.Holds.{starts_with_words, from_some_place};
+ghost use Rattle.fts_plain.specs.Words.{fits, stand_first, is_close};
 
 use fts_token::is_indexable;
 use fts_types::{Settings, Texts};
@@ -48,7 +49,7 @@ fn stands_at(all: &Texts, place: usize, words: &Texts) -> bool
 
 /// Whether words stand one behind another somewhere.
 pub(crate) fn has_run(all: &Texts, words: &Texts) -> bool
-    ensures { result ≡ from_some_place all.now (begins_with words.now) }
+    ensures { result ≡ from_some_place all.now (stand_first words.now) }
 {
     for place in 0..all.len() {
         if stands_at(all, place, words) {

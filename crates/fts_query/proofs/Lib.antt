@@ -1,6 +1,6 @@
 pub mod Views
 pub mod QuoteLemmas
-pub mod WordEnds
+pub mod Ahead
 pub mod Gathering
 pub mod TailLemmas
 pub mod PlainLemmas

@@ -1,4 +1,5 @@
 pub mod View
+pub mod Ahead
 pub mod Found
 pub mod Built
 pub mod Refused

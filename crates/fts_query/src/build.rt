@@ -1,7 +1,5 @@
 ghost use Rattle.std.specs.Prelude.{◌≡◌, ◌+◌, ◌-◌, ◌<◌, ◌≤◌, ◌^◌, [], ◌∷◌, ◌++◌, length};
 ghost use Rattle.std.specs.Prelude.{slice_index, IfOk, OnOk, IsSome};
-ghost use Rattle.fts_words.specs.Run.{starts, run_at};
-ghost use Rattle.fts_words.specs.RawWords.{in_word};
 ghost use Rattle.fts_meaning.specs.Quote.{closing_quote};
 ghost use Rattle.fts_meaning.specs.Tree.{opening, closing, single, written, written_term};
 ghost use Rattle.fts_meaning.specs.Token.{sign_of, stray_at, quoted, word_operand, tokens_at};
@@ -9,12 +7,15 @@ ghost use Rattle.fts_meaning.specs.Token.{tokens_from};
 ghost use Rattle.fts_meaning.specs.Nesting.{Nests};
 ghost use Rattle.fts_query.specs.View.{operand_view, term_view, terms_view};
 ghost use Rattle.fts_query.specs.Built.{written_so_far, height_of};
+ghost use Rattle.fts_query.specs.Ahead.{word_from};
 
 use crate::distance::distance_tail;
 use crate::query::{Operand, Term};
 use crate::quotes::next_quote;
-use crate::words::{byte_at, lowered, starts_word, word_end, words_in};
+use crate::words::{WordsAhead, byte_at, words_in};
 use fts_meaning::Sign;
+use fts_token::lowered;
+use fts_words::Span;
 use std::alloc::{AllocError, Global};
 use std::mem;
 
@@ -31,18 +32,17 @@ fn sign_of(byte: u8) -> Sign
     Sign::Optional
 }
 
-/// The word or prefix of the word that starts at a place.
-fn word_at(alloc: Global, text: &[u8], from: usize) -> Result<Operand, AllocError>
-    requires { from ≤ length text.now }
-    ensures { IfOk result (λ operand. operand_view operand
-        ≡ word_operand text.now (run_at (in_word text.now) (length text.now) from)) }
+/// The word or prefix that a raw word of the text is.
+fn word_operand(alloc: Global, text: &[u8], word: &Span) -> Result<Operand, AllocError>
+    requires order { word.now.from ≤ word.now.to }
+    requires within { word.now.to ≤ length text.now }
+    ensures { IfOk result (λ operand. operand_view operand ≡ word_operand text.now word.now) }
 {
-    let to = word_end(text, from);
-    let word = lowered(alloc, &text[from..to])?;
-    if byte_at(text, to) == b'*' {
-        return Ok(Operand::Prefix(word));
+    let lower = lowered(alloc, word.of(text))?;
+    if byte_at(text, word.to) == b'*' {
+        return Ok(Operand::Prefix(lower));
     }
-    Ok(Operand::Word(word))
+    Ok(Operand::Word(lower))
 }
 
 /// The phrase or distance that opens at a place and whose closing quote is given.
@@ -120,15 +120,18 @@ impl Builder {
         Ok(())
     }
 
-    /// Goes on by what begins at a place. `text` is what is left of the query.
+    /// Goes on by what begins at a place. `text` is what is left of the query, and `word` the raw
+    /// word that starts there.
     fn take(
         &mut self,
         alloc: Global,
         query: &[u8],
         text: &[u8],
         place: usize,
+        word: Option<Span>,
     ) -> Result<(), AllocError>
         requires within { place < length text.now }
+        requires word { word ≡ word_from text.now place }
         requires nests { Nests (height_of self.old) (tokens_from query.now text.now place) }
         ensures written { OnOk result
             (written_so_far self.new
@@ -146,11 +149,13 @@ impl Builder {
         if text[place] == b')' {
             return self.close_bracket();
         }
-        if !starts_word(text, place) {
-            return Ok(());
+        match word {
+            None => Ok(()),
+            Some(word) => {
+                let operand = word_operand(alloc, text, &word)?;
+                self.add(sign, operand)
+            }
         }
-        let operand = word_at(alloc, text, place)?;
-        self.add(sign, operand)
     }
 
     /// Adds the phrase or distance that opens at a place.
@@ -184,8 +189,10 @@ pub(crate) fn build(alloc: Global, query: &[u8], text: &[u8]) -> Result<Vec<Term
         ≡ tokens_from query.now text.now 0) }
 {
     let mut builder = Builder::new(alloc);
+    let mut words = WordsAhead::new(text);
     for place in 0..text.len() {
-        builder.take(alloc, query, text, place)?;
+        let word = words.take_at(place);
+        builder.take(alloc, query, text, place, word)?;
     }
     let Builder { brackets: _, terms } = builder;
     Ok(terms)

@@ -4,7 +4,7 @@ ghost use Rattle.std.specs.List.{prefix_len};
 ghost use Rattle.std.specs.Char.{is_ascii_digit};
 ghost use Rattle.fts_meaning.specs.Distance.{decimal_value, blanks, distance_tail};
 
-use crate::words::has_word_byte;
+use fts_token::has_word_byte;
 
 /// How many spaces and tabs stand at the front.
 fn blank_count(bytes: &[u8]) -> usize

@@ -5,8 +5,8 @@ ghost use Rattle.fts_query.specs.Found.{IsEarly, IsFirstBetween, IsSeenFrom, hei
 ghost use Rattle.fts_query.specs.Found.{earlier};
 
 use crate::quotes::next_quote;
-use crate::words::{byte_at, has_word_byte};
-use fts_token::is_word_byte;
+use crate::words::byte_at;
+use fts_token::{has_word_byte, is_word_byte};
 
 /// How deep brackets may stand.
 const DEEPEST: usize = 32;

@@ -19,4 +19,4 @@ mod words;
 
 pub use parser::{ParseError, parse};
 pub use query::{Operand, Query, Term};
-pub use words::{lowered, words_in};
+pub use words::words_in;

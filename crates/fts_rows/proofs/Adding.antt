@@ -1,6 +1,7 @@
 -- Plans with one more row, and rows with a plan's.
 use Rattle.std.proofs.Common.{◌≡◌, ℕ, ◌+◌, ◌<◌, ◌≤◌, false, List, [], ◌∷◌, ◌++◌, length, sym, subst, arith, append_assoc, append-nil, length-append}
-use Rattle.fts_commits.specs.Commit.{Row, Rows, has_key}
+use Rattle.fts_types.specs.Row.{Row}
+use Rattle.fts_commits.specs.Commit.{Rows, has_key}
 use Rattle.fts_rows.specs.Plan.{Planned, AreNew, Fits}
 use Rattle.fts_rows.proofs.Ids.{ids-push}
 

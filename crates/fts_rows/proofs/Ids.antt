@@ -1,7 +1,7 @@
 -- Rows by ascending ids.
 use Rattle.std.proofs.Common.{◌≡◌, ℕ, ◌<◌, ◌≤◌, Bool, Option, cond, List, [], ◌∷◌, ◌++◌, ap, ◌∙◌, arith, not, true, false, nat_eq, Some, None, refl}
 use Rattle.std.proofs.lemmas.Bool.{ne_eqb}
-use Rattle.fts_commits.specs.Commit.{Row}
+use Rattle.fts_types.specs.Row.{Row}
 use Rattle.fts_commits.specs.Turn.{RowsAscend}
 use Rattle.fts_rows.specs.Rows.{row_with_id, without_id}
 

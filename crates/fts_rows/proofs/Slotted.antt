@@ -3,10 +3,9 @@ use Rattle.std.proofs.Common.{◌≡◌, ℕ, ◌<◌, ◌≤◌, Bool, true, fa
 use Rattle.std.proofs.lemmas.Bool.{cases_Bool, eqb-true, eqb-false, ne_eqb, eq-eqb}
 use Rattle.std.specs.Map.{lookup, set_value}
 use Rattle.indexmap.specs.IndexMap.{insert_entry}
-use Rattle.fts_commits.specs.Commit.{Row}
+use Rattle.fts_types.specs.Row.{Row, row_of}
 use Rattle.fts_commits.specs.Turn.{RowsAscend}
-use Rattle.fts_rows.specs.declared.row.Row.{Row as Kept}
-use Rattle.fts_rows.specs.Row.{row_of}
+use Rattle.fts_types.specs.declared.row.Row.{Row as Kept}
 use Rattle.fts_rows.specs.Rows.{row_with_id, without_id}
 use Rattle.fts_rows.specs.Slots.{Slots, row_in, rows_in, IsAt, AreSlots}
 use Rattle.fts_rows.proofs.Ids.{ids-lower, none_below, none_out}

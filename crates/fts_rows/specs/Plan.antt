@@ -1,6 +1,7 @@
 -- What a commit does to the rows of a table.
 use Rattle.std.specs.Prelude.{◌≡◌, ℕ, ◌≤◌, false, List, [], ◌∷◌, ◌++◌, length}
-use Rattle.fts_commits.specs.Commit.{Row, Rows, has_key}
+use Rattle.fts_types.specs.Row.{Row}
+use Rattle.fts_commits.specs.Commit.{Rows, has_key}
 use Rattle.fts_commits.specs.Turn.{Turn, RowsAscend, turn_between}
 use Rattle.fts_rows.specs.Rows.{Held}
 

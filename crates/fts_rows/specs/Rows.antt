@@ -1,7 +1,8 @@
 -- The rows of a table, in memory.
 use Rattle.std.specs.Prelude.{ℕ, ◌==◌, not, List, filter, find, Option, option_map}
 use Rattle.fts_types.specs.declared.limits.Limits.{Limits}
-use Rattle.fts_commits.specs.Commit.{Row, Rows}
+use Rattle.fts_types.specs.Row.{Row}
+use Rattle.fts_commits.specs.Commit.{Rows}
 
 -- the rows of a table, the limits that it has, and how many more rows it can take without memory
 pub record Held : Type 0 where

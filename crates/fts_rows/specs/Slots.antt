@@ -1,8 +1,8 @@
 -- Where the rows of a table stand.
 use Rattle.std.specs.Prelude.{◌≡◌, ℕ, ◌<◌, ◌≤◌, List, [], ◌∷◌, length, map, flat_map, Option, Some, None}
-use Rattle.fts_commits.specs.Commit.{Row, with_key}
-use Rattle.fts_rows.specs.declared.row.Row.{Row as Kept}
-use Rattle.fts_rows.specs.Row.{row_of}
+use Rattle.fts_types.specs.Row.{Row, row_of}
+use Rattle.fts_commits.specs.Commit.{with_key}
+use Rattle.fts_types.specs.declared.row.Row.{Row as Kept}
 
 -- slots: document ids, each with its row, or with none where it was taken out
 abbrev pub Slots : Type 0

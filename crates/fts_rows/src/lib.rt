@@ -11,13 +11,11 @@
 mod error;
 mod plan;
 mod planning;
-mod row;
 mod rows;
 mod slots;
 
 pub use error::PlanError;
 pub use plan::Plan;
-pub use row::Row;
 pub use rows::Rows;
 
 #[cfg(test)]

@@ -1,12 +1,11 @@
 ghost use Rattle.std.specs.Prelude.{◌≡◌, [], ◌∷◌, ◌++◌, map, OnOk};
 ghost use Rattle.fts_commits.specs.Commit.{Rows as RowList, has_key};
 ghost use Rattle.fts_commits.specs.Turn.{turn_between};
-ghost use Rattle.fts_rows.specs.Row.{row_of};
+ghost use Rattle.fts_types.specs.Row.{row_of};
 ghost use Rattle.fts_rows.specs.Rows.{Held, rows_of};
 ghost use Rattle.fts_rows.specs.Plan.{PlanFor};
 
-use crate::row::Row;
-use fts_types::{DocId, Key};
+use fts_types::{DocId, Key, Row};
 use std::alloc::{AllocError, Global};
 use std::collections::HashSet;
 use std::marker::Model;
@@ -26,7 +25,7 @@ impl Model for Plan {
     ghost use Rattle.std.specs.Prelude.{◌≡◌, ℕ, map, nat_eq};
     ghost use Rattle.std.specs.HashSet.{contains};
     ghost use Rattle.fts_commits.specs.Commit.{has_key};
-    ghost use Rattle.fts_rows.specs.Row.{row_of};
+    ghost use Rattle.fts_types.specs.Row.{row_of};
     ghost use Rattle.fts_rows.specs.Plan.{Planned};
 
     ghost Value = { Planned };

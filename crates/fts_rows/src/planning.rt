@@ -12,10 +12,9 @@ ghost use Rattle.fts_rows.specs.Refusal.{IsNoPlan, IsTooLong, IsTooMany};
 
 use crate::error::PlanError;
 use crate::plan::Plan;
-use crate::row::Row;
 use crate::rows::Rows;
 use fts_commits::{Change, Refusal};
-use fts_types::{DocId, Key, RowTexts};
+use fts_types::{DocId, Key, Row, RowTexts};
 use std::sync::Arc;
 
 /// How far a given document id may be above the largest that was used (MySQL:

@@ -4,14 +4,13 @@ ghost use Rattle.std.specs.Arc.{arc_value};
 ghost use Rattle.std.specs.Option.{option_copied, option_map};
 ghost use Rattle.fts_commits.specs.Commit.{Rows as RowList, no_rows, has_key, without_key};
 ghost use Rattle.fts_commits.specs.Turn.{RowsAscend};
-ghost use Rattle.fts_rows.specs.Row.{row_of};
+ghost use Rattle.fts_types.specs.Row.{row_of};
 ghost use Rattle.fts_rows.specs.Rows.{rows_of, limits_of, row_with_key, texts_with_id};
 ghost use Rattle.fts_rows.specs.Plan.{PlanFor};
 
 use crate::plan::Plan;
-use crate::row::Row;
 use crate::slots::{Slots, compact, push_row, row_at, take_row};
-use fts_types::{DocId, Key, Limits, RowTexts};
+use fts_types::{DocId, Key, Limits, Row, RowTexts};
 use indexmap::IndexMap;
 use std::alloc::{AllocError, Global};
 use std::collections::HashMap;

@@ -2,12 +2,11 @@
 ghost use Rattle.std.specs.Prelude.{◌≡◌, ◌+◌, ◌<◌, ◌≤◌, ℕ, [], ◌∷◌, ◌++◌, is_some};
 ghost use Rattle.std.specs.Option.{option_copied, option_map};
 ghost use Rattle.std.specs.HashMap.{spare};
-ghost use Rattle.fts_rows.specs.Row.{row_of};
+ghost use Rattle.fts_types.specs.Row.{row_of};
 ghost use Rattle.fts_rows.specs.Rows.{row_with_id, without_id};
 ghost use Rattle.fts_rows.specs.Slots.{AreSlots, rows_in};
 
-use crate::row::Row;
-use fts_types::DocId;
+use fts_types::{DocId, Row};
 use indexmap::IndexMap;
 
 /// For each document id that was given its row, or none where it was taken out, by ascending ids.

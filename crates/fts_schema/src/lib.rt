@@ -6,8 +6,6 @@
 //! A text costs its bytes.
 #![tactic(auto)]
 
-mod doc_ids;
 mod reply;
 
-pub use doc_ids::DocIds;
 pub use reply::{Reply, created_text, fixed_text, reply_text};

@@ -2,8 +2,8 @@ ghost use Rattle.std.specs.Prelude.{◌≡◌, ◌∷◌, ◌++◌, [], ℕ, Lis
 ghost use Rattle.std.specs.Prelude.{OnOk, IfOk, IfSome, IfNone};
 ghost use Rattle.fts_schema.specs.Reply.{text_of, is_fixed, ids_text};
 
-use crate::doc_ids::DocIds;
-use fts_commits::{Refusal, Text};
+use fts_commits::Refusal;
+use fts_types::{DocIds, Text};
 use std::alloc::{AllocError, Global};
 
 /// The reply to one line of a script.

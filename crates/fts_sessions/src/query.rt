@@ -4,8 +4,8 @@ ghost use Rattle.fts_words.specs.Word.{IsRawWord};
 ghost use Rattle.fts_words.specs.RawWords.{raw_words};
 ghost use Rattle.fts_sessions.specs.Query.{is_all, query_word as the_query_word};
 
-use fts_commits::Text;
-use fts_token::raw_words;
+use fts_token::{lowered, raw_words};
+use fts_types::Text;
 use std::alloc::{AllocError, Global};
 
 /// The word that a query is, with its letters lowered, if the query is one raw word and nothing
@@ -21,7 +21,7 @@ pub fn query_word(alloc: Global, query: &[u8]) -> Result<Option<Text>, AllocErro
     if !is_raw_word(query) {
         return Ok(None);
     }
-    Ok(Some(Text::new(query.to_ascii_lowercase(alloc)?)))
+    Ok(Some(Text::new(lowered(alloc, query)?)))
 }
 
 // Whether the whole of a text is one raw word.

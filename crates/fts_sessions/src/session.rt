@@ -13,12 +13,12 @@ use crate::EngineSteps;
 use crate::insert::change_of;
 use crate::names::{are_text_columns, first_unknown, is_same};
 use crate::query::query_word;
-use fts_commits::{Change, Text};
+use fts_commits::Change;
 use fts_io::{Gate, Point};
 use fts_schema::Reply;
 use fts_sql::{ParseError, Statement, Values, parse_statement};
 use fts_steps::{CommitError, View};
-use fts_types::Names;
+use fts_types::{Names, Text};
 use std::alloc::{AllocError, Global};
 
 /// A session: who sends statements one after another.

@@ -6,8 +6,7 @@ ghost use Rattle.fts_sql.specs.Statement.{names_in, values_in};
 use crate::token::Token;
 use crate::value::Value;
 use crate::values::Values;
-use fts_commits::Text;
-use fts_types::Names;
+use fts_types::{Names, Text};
 use std::alloc::{AllocError, Global};
 
 /// The first of the tokens, if it is a name, as it is written; else nothing.

@@ -14,7 +14,7 @@ use crate::reader::{Reached, read};
 use crate::statement::Statement;
 use crate::token::Token;
 use crate::word::Word;
-use fts_commits::Text;
+use fts_types::Text;
 use std::alloc::{AllocError, Global};
 
 /// A form of statement.

@@ -2,8 +2,7 @@ ghost use Rattle.std.specs.Prelude.{Some};
 ghost use Rattle.fts_sql.specs.ParseError.{error_text};
 
 use crate::values::Values;
-use fts_commits::Text;
-use fts_types::Names;
+use fts_types::{Names, Text};
 use std::error::Error;
 use std::fmt;
 

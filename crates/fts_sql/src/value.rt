@@ -1,4 +1,4 @@
-use fts_commits::Text;
+use fts_types::Text;
 
 /// A value of an INSERT.
 #[derive(Debug, Drop)]

@@ -6,7 +6,7 @@ use Rattle.fts_types.specs.declared.settings.Settings.{Settings}
 use Rattle.fts_types.specs.Rules.{rules_of}
 use Rattle.fts_commits.specs.Commit.{Commit, Rows, after_commit, replay}
 use Rattle.fts_commits.specs.declared.refusal.Refusal.{Refusal}
-use Rattle.fts_commits.specs.Scan.{scan}
+use Rattle.fts_meaning.specs.Scan.{scan, one_word}
 use Rattle.fts_steps.specs.State.{State, end_after}
 use Rattle.fts_steps.specs.Running.{Running, What, made, failed, Entry, grown}
 
@@ -47,7 +47,7 @@ abbrev pub plain_answer : Limits → Running → Ask → Answer
 plain_answer limits running (to_commit commit) = unless_stopped running.stopped
     (commit_answer limits running.state commit (after_commit limits commit (replay running.state.commits)))
 plain_answer limits running (to_find word) = found (length running.state.commits)
-    (scan (rules_of running.state.settings) word (replay running.state.commits))
+    (scan (rules_of running.state.settings) (replay running.state.commits).list (one_word word))
 
 -- the answers that a step may give: its plain one, want of memory, and a disk fault where it would have committed
 abbrev pub MayAnswer : Limits → Running → Ask → Answer → Type 0

@@ -1,4 +1,4 @@
-use fts_schema::DocIds;
+use fts_types::DocIds;
 
 /// What a search found: the number of commits that it saw, and the ascending ids of the rows.
 #[derive(Debug, Drop)]

@@ -14,7 +14,8 @@ use Rattle.std.proofs.lemmas.Simd.{length-chunk, get_or-chunk}
 use lib.Lanes.{chunk}
 use native.Mathlib.Nat.{div-one, zero-add}
 use Rattle.fts_words.specs.Byte.{lowered}
-use Rattle.fts_words.specs.Stopwords.{default_stopwords, is_listed}
+use Rattle.fts_words.specs.Stopwords.{default_stopwords}
+use Rattle.fts_words.specs.Order.{is_among}
 use Rattle.fts_stopwords.specs.Number.{number_of, is_stopword_number, place_of, number_at, fronts, letter_at}
 use Rattle.fts_stopwords.proofs.Listed.{tests_agree, lowered_at}
 
@@ -262,12 +263,12 @@ module _ (text word : List ℕ) (from len n : ℕ) (fits : (k : ℕ) → Fits w8
     one_test : (number_of key == n) ≡ bytes_eq key (lowered word)
     one_test = tests_agree _ key (lowered word) ((λ h. found (eqb-true _ _ h)), (λ e. eq-eqb _ _ (told e)))
 
-  all_tests : (keys : List (List ℕ)) → list_all is_plain keys ≡ true → list_any (λ key. number_of key == n) keys ≡ is_listed keys (lowered word)
+  all_tests : (keys : List (List ℕ)) → list_all is_plain keys ≡ true → list_any (λ key. number_of key == n) keys ≡ is_among keys (lowered word)
   all_tests [] all = refl
   all_tests (key ∷ keys) all =
       let parts = and_parts (is_plain key) (list_all is_plain keys) all in
       ap₂ (λ (a b : Bool). a || b) (one_test key (plain_from key parts.0)) (all_tests keys parts.1)
 
-  pub decided_by_number : is_stopword_number n ≡ is_listed default_stopwords (lowered word)
+  pub decided_by_number : is_stopword_number n ≡ is_among default_stopwords (lowered word)
   unfolding default_stopwords is_plain is_plain_at
   decided_by_number = all_tests default_stopwords refl

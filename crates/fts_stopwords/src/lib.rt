@@ -1,7 +1,7 @@
 //! Stopwords: the words that are never indexed.
 //!
-//! `StopSet::Default` has the 36 words of the manual, and `set.contains_lowered(b"The")` says that
-//! `the` is one of them. Source: MySQL 8.0 Reference Manual, "Full-Text Stopwords".
+//! `StopSet::Default` has the 36 words of the manual, and `set.contains(b"the")` says that `the` is
+//! one of them. Source: MySQL 8.0 Reference Manual, "Full-Text Stopwords".
 //!
 //! A look-up costs one load of eight bytes and one comparison.
 #![tactic(auto)]
@@ -9,7 +9,8 @@
 ghost use Rattle.std.specs.Prelude.{◌≡◌, ◌<◌, ◌≤◌, ◌↔◌, length, map, IsTrue, Contains};
 ghost use Rattle.fts_words.specs.Byte.{lowered};
 ghost use Rattle.fts_words.specs.RawWords.{bytes_of};
-ghost use Rattle.fts_words.specs.Stopwords.{default_stopwords, is_listed};
+ghost use Rattle.fts_words.specs.Stopwords.{default_stopwords};
+ghost use Rattle.fts_words.specs.Order.{is_among};
 ghost use Rattle.fts_stopwords.specs.StopSet.{words_of};
 
 mod number;
@@ -41,7 +42,7 @@ pub enum StopSet {
 fn is_default_at(text: &[u8], word: &Span) -> bool
     requires order { word.now.from ≤ word.now.to }
     requires within { word.now.to ≤ length text.now }
-    ensures { result ≡ is_listed default_stopwords (lowered (bytes_of text.now word.now)) }
+    ensures { result ≡ is_among default_stopwords (lowered (bytes_of text.now word.now)) }
 {
     let len = word.to - word.from;
     if word.from >= text.len().saturating_sub(7) {
@@ -69,14 +70,14 @@ impl StopSet {
     /// Whether the word is in the set, byte by byte. It takes no memory.
     pub fn contains(&self, word: &[u8]) -> bool
         ensures member { IsTrue result ↔ Contains (words_of self.now) word.now }
-        ensures listed { result ≡ is_listed (words_of self.now) word.now }
+        ensures listed { result ≡ is_among (words_of self.now) word.now }
     {
         self.contains_lowered(word) && is_lowered(word)
     }
 
     /// Whether the word is in the set once its letters are lowered. It takes no memory.
-    pub fn contains_lowered(&self, word: &[u8]) -> bool
-        ensures { result ≡ is_listed (words_of self.now) (lowered word.now) }
+    fn contains_lowered(&self, word: &[u8]) -> bool
+        ensures { result ≡ is_among (words_of self.now) (lowered word.now) }
     {
         let whole = Span {
             from: 0,
@@ -91,7 +92,7 @@ impl StopSet {
     pub fn contains_lowered_at(&self, text: &[u8], word: &Span) -> bool
         requires order { word.now.from ≤ word.now.to }
         requires within { word.now.to ≤ length text.now }
-        ensures { result ≡ is_listed (words_of self.now) (lowered (bytes_of text.now word.now)) }
+        ensures { result ≡ is_among (words_of self.now) (lowered (bytes_of text.now word.now)) }
     {
         match self {
             StopSet::Empty => false,

@@ -1,15 +1,12 @@
-ghost use Rattle.std.specs.Prelude.{◌≡◌, ◌≤◌, ◌++◌, length, drop};
+ghost use Rattle.std.specs.Prelude.{◌≡◌, IfOk};
 ghost use Rattle.fts_words.specs.Byte.{lowered};
 
-/// Writes a word with its ASCII letters lowered to the front of a buffer that holds it, and returns
-/// its length.
-pub fn lowered_into(word: &[u8], buf: &mut [u8]) -> usize
-    requires { length word.now ≤ length buf.old }
-    ensures len { result ≡ length word.now }
-    ensures lowered { buf.new ≡ lowered word.now ++ drop (length word.now) buf.old }
+use std::alloc::{AllocError, Global};
+
+/// The bytes of a word or a text with their ASCII letters lowered. The only refusal is for want of
+/// memory.
+pub fn lowered(alloc: Global, text: &[u8]) -> Result<Vec<u8>, AllocError>
+    ensures { IfOk result (λ lower. lower.items ≡ lowered text.now) }
 {
-    let front = &mut buf[..word.len()];
-    front.copy_from_slice(word);
-    front.make_ascii_lowercase();
-    word.len()
+    text.to_ascii_lowercase(alloc)
 }

@@ -17,7 +17,7 @@ pub fn is_word_byte(byte: u8) -> bool
 
 /// Whether the text has a word byte at a place. It has none behind its end.
 #[inline(always)]
-pub(crate) fn has_word_byte(text: &[u8], place: usize) -> bool
+pub fn has_word_byte(text: &[u8], place: usize) -> bool
     ensures { result ≡ word_at text.now place }
 {
     place < text.len() && is_word_byte(text[place])

@@ -1,4 +1,4 @@
-use crate::{indexed_words, is_indexable, is_word_byte, lowered_into, placed_words, raw_words};
+use crate::{indexed_words, is_indexable, is_word_byte, lowered, placed_words, raw_words};
 use fts_types::{Names, RowTexts, Settings};
 use fts_words::{PlacedWord, Span};
 use std::alloc::Global;
@@ -183,10 +183,9 @@ fn each_raw_word_is_given(rt: HostRuntime) -> Result<(), Fail> {
 }
 
 #[test]
-fn letters_are_lowered(rt: HostRuntime) {
-    let mut buf = [b'.'; 8];
-    let len = lowered_into(b"Aa'Z_9", &mut buf);
-    assert_eq!(rt; len, 6);
-    assert_eq!(rt; buf, *b"aa'z_9..");
+fn letters_are_lowered(rt: HostRuntime) -> Result<(), Fail> {
+    let word = lowered(rt.alloc(), b"Aa'Z_9")?;
+    assert_eq!(rt; word.as_slice(), b"aa'z_9".as_slice());
     assert!(rt; is_word_byte(b'_') && !is_word_byte(b'\''));
+    Ok(())
 }

@@ -1,9 +1,10 @@
 use Rattle.std.specs.Prelude.{◌≡◌, ℕ, Bool, ◌&&◌, ◌||◌, ◌==◌, not, nat_lt, true, false, if◌then◌else◌, List, [], ◌∷◌}
 use Rattle.std.specs.Prelude.{length, codes, Option, Some, None}
-use Rattle.std.specs.List.{list_all, list_any}
+use Rattle.std.specs.List.{list_all}
 use Rattle.std.specs.Int.{is_in_range}
 use Rattle.std.specs.Char.{is_ascii_digit, is_ascii_lowercase}
 use Rattle.std.specs.Str.{bytes_eq}
+use Rattle.fts_words.specs.Order.{is_among}
 use Rattle.fts_types.specs.declared.settings.Settings.{Settings}
 use Rattle.fts_types.specs.declared.check.Field.{Field}
 use Rattle.fts_types.specs.declared.check.Field.TheVariants.{Columns, Min, Max, OptimizeWords, CacheBytes, BatchDocs}
@@ -20,14 +21,10 @@ is_column_name name =
     && list_all (λ b. is_ascii_lowercase b || is_ascii_digit b || (b == 95)) name
     && not (bytes_eq name (codes "id")) && not (bytes_eq name (codes "fts_doc_id"))
 
--- whether the name is one of these
-abbrev pub is_listed : List ℕ → List (List ℕ) → Bool
-is_listed name names = list_any (λ other. bytes_eq other name) names
-
 -- no name stands twice
 abbrev pub are_distinct : List (List ℕ) → Bool
 are_distinct [] = true
-are_distinct (name ∷ names) = not (is_listed name names) && are_distinct names
+are_distinct (name ∷ names) = not (is_among names name) && are_distinct names
 
 -- the columns of a table: 1 to 8 distinct names
 abbrev pub are_columns : List (List ℕ) → Bool

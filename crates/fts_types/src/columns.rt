@@ -2,8 +2,9 @@ ghost use Rattle.std.specs.Prelude.{◌≡◌, ◌&&◌, ◌||◌, ◌==◌, not
 ghost use Rattle.std.specs.List.{list_all};
 ghost use Rattle.std.specs.Str.{bytes_eq};
 ghost use Rattle.std.specs.Char.{is_ascii_digit, is_ascii_lowercase};
-ghost use Rattle.fts_types.specs.Settings.{begins_with_letter, is_column_name, is_listed};
+ghost use Rattle.fts_types.specs.Settings.{begins_with_letter, is_column_name};
 ghost use Rattle.fts_types.specs.Settings.{are_distinct, are_columns};
+ghost use Rattle.fts_words.specs.Order.{is_among};
 
 use crate::texts::Names;
 
@@ -53,7 +54,7 @@ pub fn is_column_name(name: &[u8]) -> bool
 
 /// Whether the name is one of these.
 fn is_listed(name: &[u8], names: &[Vec<u8>]) -> bool
-    ensures { result ≡ is_listed name.now (map (λ v. v.items) names.now) }
+    ensures { result ≡ is_among (map (λ v. v.items) names.now) name.now }
 {
     match names {
         [] => false,

@@ -1,8 +1,8 @@
 ghost use Rattle.std.specs.Prelude.{◌≡◌, IfOk, Some, nat_eq, refl};
-ghost use Rattle.std.specs.Ordering.{nat_cmp};
-ghost use Rattle.std.specs.Cmp.Lexicographic.{pointwise, slice_cmp, nat_list_cmp_total};
+ghost use Rattle.std.specs.Cmp.Lexicographic.{pointwise, nat_list_cmp_total};
 ghost use Rattle.std.specs.Cmp.Lexicographic.{nat_list_eq_equiv, texts_ties, texts_po};
 ghost use Rattle.std.specs.Cmp;
+ghost use Rattle.fts_words.specs.Order.{byte_order};
 
 use std::alloc::{AllocError, Global};
 use std::cmp::Ordering;
@@ -70,7 +70,7 @@ impl Eq for Word {
 }
 
 impl PartialOrd for Word {
-    ghost partial_cmp = { λ x y. Some (slice_cmp nat_cmp x y) };
+    ghost partial_cmp = { λ x y. Some (byte_order x y) };
 
     ghost laws = { texts_po };
 
@@ -80,7 +80,7 @@ impl PartialOrd for Word {
 }
 
 impl Ord for Word {
-    ghost cmp = { slice_cmp nat_cmp };
+    ghost cmp = { byte_order };
 
     ghost total = { nat_list_cmp_total };
 

@@ -6,7 +6,7 @@ use Rattle.fts_words.specs.declared.placed.PlacedWord.{PlacedWord}
 use Rattle.fts_words.specs.Byte.{lowered}
 use Rattle.fts_words.specs.Word.{IsRawWord}
 use Rattle.fts_words.specs.RawWords.{raw_words, bytes_of}
-use Rattle.fts_words.specs.Stopwords.{is_listed}
+use Rattle.fts_words.specs.Order.{is_among}
 
 -- which words are indexed: the least and the greatest length in bytes, and the words that are left out
 pub record Rules : Type 0 where
@@ -17,7 +17,7 @@ pub record Rules : Type 0 where
 -- the lowered word can be an indexed word: it is neither too short nor too long, and no stopword
 abbrev pub is_indexable : Rules → List ℕ → Bool
 is_indexable rules word =
-    (nat_le rules.min (length word) && nat_le (length word) rules.max) && not (is_listed rules.stopwords word)
+    (nat_le rules.min (length word) && nat_le (length word) rules.max) && not (is_among rules.stopwords word)
 
 -- the text of a column, counted from 0; there is none behind the last column
 abbrev pub column_text : List (List ℕ) → ℕ → List ℕ

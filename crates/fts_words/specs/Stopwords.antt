@@ -1,6 +1,4 @@
-use Rattle.std.specs.Prelude.{ℕ, Bool, List, [], ◌∷◌, codes}
-use Rattle.std.specs.List.{list_any}
-use Rattle.std.specs.Str.{bytes_eq}
+use Rattle.std.specs.Prelude.{ℕ, List, [], ◌∷◌, codes}
 
 -- the default stopwords, in the order of the manual's list ("Full-Text Stopwords"), in which `the` stands twice
 unfoldable pub default_stopwords : List (List ℕ)
@@ -10,7 +8,3 @@ default_stopwords =
     codes "is" ∷ codes "it" ∷ codes "la" ∷ codes "of" ∷ codes "on" ∷ codes "or" ∷ codes "that" ∷ codes "the" ∷
     codes "this" ∷ codes "to" ∷ codes "was" ∷ codes "what" ∷ codes "when" ∷ codes "where" ∷ codes "who" ∷
     codes "will" ∷ codes "with" ∷ codes "und" ∷ codes "the" ∷ codes "www" ∷ []
-
--- the word is one of the list
-abbrev pub is_listed : List (List ℕ) → List ℕ → Bool
-is_listed words word = list_any (λ listed. bytes_eq listed word) words

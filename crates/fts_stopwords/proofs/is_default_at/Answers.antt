@@ -3,13 +3,14 @@ use Rattle.std.specs.Prelude.{slice_range}
 use Rattle.std.specs.Int.{w64, to_le_bytes}
 use Rattle.std.proofs.lemmas.Simd.{length-chunk, get_or-chunk}
 use Rattle.fts_words.specs.Byte.{lowered}
-use Rattle.fts_words.specs.Stopwords.{default_stopwords, is_listed}
+use Rattle.fts_words.specs.Stopwords.{default_stopwords}
+use Rattle.fts_words.specs.Order.{is_among}
 use Rattle.fts_stopwords.specs.Number.{is_stopword_number, letter_at}
 use Rattle.fts_stopwords.proofs.Numbers.{decided_by_number}
 use Rattle.fts_stopwords.proofs.is_default_at.Goals as goal
 
 decided : (text : List ℕ) (from to n : ℕ) → ((k : ℕ) → Fits w8 (get_or text k 0)) → from ≤ to → to ≤ length text → n < 2 ^ 64
-    → ((i : ℕ) → i < 8 → get_or (to_le_bytes w64 n) i 0 ≡ letter_at text from (to - from) i) → is_stopword_number n ≡ is_listed default_stopwords (lowered (slice_range text from to))
+    → ((i : ℕ) → i < 8 → get_or (to_le_bytes w64 n) i 0 ≡ letter_at text from (to - from) i) → is_stopword_number n ≡ is_among default_stopwords (lowered (slice_range text from to))
 decided text from to n fits order within small spells =
     decided_by_number text (slice_range text from to) from (to - from) n fits
     (length-chunk from (to - from) text (omega arith))

@@ -1,6 +1,6 @@
 use Rattle.std.proofs.Common.{length}
 use Rattle.fts_types.specs.Rules.{rules_of}
-use Rattle.fts_rows.specs.Row.{row_of}
+use Rattle.fts_types.specs.Row.{row_of}
 use Rattle.fts_index.proofs.Runs.{IsBuilding}
 use Rattle.fts_index.proofs.document.document_words.Given as goal
 

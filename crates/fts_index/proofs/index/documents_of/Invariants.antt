@@ -1,6 +1,6 @@
 use Rattle.std.proofs.Common.{map, take}
 use Rattle.fts_types.specs.Rules.{rules_of}
-use Rattle.fts_rows.specs.Row.{row_of}
+use Rattle.fts_types.specs.Row.{row_of}
 use Rattle.fts_index.specs.Document.{HaveWordsOf}
 use Rattle.fts_index.proofs.index.documents_of.Given as goal
 

@@ -1,6 +1,6 @@
 use Rattle.std.proofs.Common.{map}
 use Rattle.fts_types.specs.Rules.{rules_of}
-use Rattle.fts_rows.specs.Row.{row_of}
+use Rattle.fts_types.specs.Row.{row_of}
 use Rattle.fts_index.proofs.tests.commit.Goals as goal
 
 pub returns : goal.returns

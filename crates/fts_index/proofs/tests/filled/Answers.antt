@@ -1,8 +1,8 @@
 use Rattle.std.proofs.Common.{◌≡◌, ℕ, List, map, sym, subst}
 use Rattle.fts_types.specs.Rules.{rules_of}
 use Rattle.fts_commits.specs.Commit.{Rows, no_rows}
-use Rattle.fts_rows.specs.declared.row.Row.{Row}
-use Rattle.fts_rows.specs.Row.{row_of}
+use Rattle.fts_types.specs.declared.row.Row.{Row}
+use Rattle.fts_types.specs.Row.{row_of}
 use Rattle.fts_index.specs.Births.{AreBirths}
 use Rattle.fts_index.proofs.tests.filled.Goals as goal
 

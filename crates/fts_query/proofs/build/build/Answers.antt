@@ -8,11 +8,17 @@ use Rattle.fts_meaning.specs.Nesting.{Nests}
 use Rattle.fts_meaning.proofs.Places.{tokens_step, tokens_end}
 use Rattle.fts_query.proofs.build.build.Goals as goal
 
+pub take-requires-clause-word : goal.take-requires-clause-word
+take-requires-clause-word c =
+    let within : c.loop-place.place < length c.args.text.now = omega arith in
+    c.take_at-word.ensures.word c.args.text.now c.loop-place.invariant.words within
+
 pub loop-place-preserved : goal.loop-place-preserved
 loop-place-preserved c =
     let within : c.loop-place.place < length c.args.text.now = omega arith in
     record {
       same = goes_on _ _ _ _ _ _ c.in_ok-take.ensures.written (tokens_step c.args.query.now c.args.text.now c.loop-place.place within) c.loop-place.invariant.same;
+      words = c.take_at-word.ensures.left c.args.text.now c.loop-place.invariant.words within;
       nests = c.in_ok-take.ensures.nests;
     }
 

@@ -1,5 +1,5 @@
 use Rattle.std.proofs.Common.{ap, option_map, ◌∙◌}
-use Rattle.fts_rows.specs.Row.{row_of}
+use Rattle.fts_types.specs.Row.{row_of}
 use Rattle.fts_rows.proofs.Slotted.{row_found, located}
 use Rattle.fts_rows.proofs.slots.row_at.Goals as goal
 

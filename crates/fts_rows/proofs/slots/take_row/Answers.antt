@@ -1,8 +1,8 @@
 use Rattle.std.proofs.Common.{ℕ, Option, option_map, nat_eq, sym, ap, subst, ◌∙◌}
 use Rattle.std.specs.Map.{set_value}
 use Rattle.indexmap.specs.IndexMap.{IndexMap}
-use Rattle.fts_rows.specs.declared.row.Row.{Row as Kept}
-use Rattle.fts_rows.specs.Row.{row_of}
+use Rattle.fts_types.specs.declared.row.Row.{Row as Kept}
+use Rattle.fts_types.specs.Row.{row_of}
 use Rattle.fts_rows.specs.Slots.{Slots, AreSlots, rows_in}
 use Rattle.fts_rows.proofs.Ids.{none_out}
 use Rattle.fts_rows.proofs.Slotted.{row_found, located, slots-emptied, rows-emptied}

@@ -1,11 +1,11 @@
 use Rattle.std.proofs.Common.{◌≡◌, ◌∙◌, ◌↔◌, sym, subst, List, ℕ, Bool}
 use Rattle.std.specs.Prelude.{IsTrue, Contains}
-use Rattle.fts_words.specs.Stopwords.{is_listed}
+use Rattle.fts_words.specs.Order.{is_among}
 use Rattle.fts_stopwords.specs.StopSet.{words_of}
 use Rattle.fts_stopwords.proofs.Listed.{listed_iff_contains, listed_if_lower, not_listed}
 use Rattle.fts_stopwords.proofs.StopSet.contains.Goals as goal
 
-contained : (words : List (List ℕ)) (word : List ℕ) (answer : Bool) → answer ≡ is_listed words word → IsTrue answer ↔ Contains words word
+contained : (words : List (List ℕ)) (word : List ℕ) (answer : Bool) → answer ≡ is_among words word → IsTrue answer ↔ Contains words word
 contained words word answer is = subst (λ (b : Bool). IsTrue b ↔ Contains words word) (sym is) (listed_iff_contains words word)
 
 pub returns-then-contains_lowered-clause-listed : goal.returns-then-contains_lowered-clause-listed

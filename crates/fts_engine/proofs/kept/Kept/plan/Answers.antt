@@ -2,7 +2,8 @@ use Rattle.std.proofs.Common.{List, subst, sym}
 use Rattle.fts_types.specs.declared.limits.Limits.{Limits}
 use Rattle.fts_types.specs.Limits.{standard_limits}
 use Rattle.fts_types.specs.Rules.{rules_of}
-use Rattle.fts_commits.specs.Commit.{Row, Rows}
+use Rattle.fts_types.specs.Row.{Row}
+use Rattle.fts_commits.specs.Commit.{Rows}
 use Rattle.fts_rows.specs.Rows.{rows_of}
 use Rattle.fts_index.specs.Births.{AreBirths}
 use Rattle.fts_index.specs.Index.{Indexes, WillIndex}

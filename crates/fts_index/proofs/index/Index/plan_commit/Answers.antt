@@ -1,6 +1,6 @@
 use Rattle.std.proofs.Common.{◌≤◌, map, subst, arith}
 use Rattle.fts_types.specs.Rules.{rules_of}
-use Rattle.fts_rows.specs.Row.{row_of}
+use Rattle.fts_types.specs.Row.{row_of}
 use Rattle.fts_cache.specs.Cache.{HasRoom}
 use Rattle.fts_index.proofs.Births.{documents_ascend}
 use Rattle.fts_index.proofs.index.Index.plan_commit.Goals as goal

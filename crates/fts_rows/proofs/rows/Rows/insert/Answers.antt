@@ -1,5 +1,5 @@
 use Rattle.std.proofs.Common.{◌<◌, sym, subst, ◌∙◌}
-use Rattle.fts_rows.specs.Row.{row_of}
+use Rattle.fts_types.specs.Row.{row_of}
 use Rattle.fts_rows.proofs.Adding.{fits-push}
 use Rattle.fts_rows.proofs.rows.Rows.insert.Goals as goal
 

@@ -1,5 +1,5 @@
 use Rattle.std.proofs.Common.{◌≤◌, map, sym, subst}
-use Rattle.fts_rows.specs.Row.{row_of}
+use Rattle.fts_types.specs.Row.{row_of}
 use Rattle.fts_rows.specs.Rows.{Held}
 use Rattle.fts_rows.proofs.Ids.{ids-bounds}
 use Rattle.fts_rows.proofs.Slotted.{slots-raise}

@@ -1,5 +1,5 @@
 use Rattle.std.proofs.Common.{◌≡◌, ◌++◌, map}
-use Rattle.fts_rows.specs.Row.{row_of}
+use Rattle.fts_types.specs.Row.{row_of}
 use Rattle.fts_rows.specs.Plan.{Fits}
 use Rattle.fts_rows.proofs.rows.Rows.install.Given as goal
 

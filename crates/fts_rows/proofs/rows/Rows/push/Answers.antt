@@ -1,7 +1,7 @@
 use Rattle.std.proofs.Common.{◌≡◌, ◌<◌, ◌+◌, false, length, nat_eq, sym, ap, subst, ◌∙◌, Bool, is_some, if◌then◌else◌}
 use Rattle.std.specs.HashMap.{get, hash_map_len}
 use Rattle.fts_commits.specs.Commit.{has_key}
-use Rattle.fts_rows.specs.Row.{row_of}
+use Rattle.fts_types.specs.Row.{row_of}
 use Rattle.fts_rows.specs.Rows.{Held}
 use Rattle.fts_rows.specs.Slots.{LeadToRows, rows_in}
 use Rattle.fts_rows.proofs.Keys.{has_led, lead-push, count-push}

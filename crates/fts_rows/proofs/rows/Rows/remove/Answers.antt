@@ -1,6 +1,7 @@
 use Rattle.std.proofs.Common.{◌≡◌, List, length, nat_eq, sym, ap, subst, ◌∙◌}
 use Rattle.std.specs.HashMap.{get, hash_map_len}
-use Rattle.fts_commits.specs.Commit.{Row, Rows, without_key}
+use Rattle.fts_types.specs.Row.{Row}
+use Rattle.fts_commits.specs.Commit.{Rows, without_key}
 use Rattle.fts_rows.specs.Rows.{Held, row_with_key}
 use Rattle.fts_rows.specs.Slots.{LeadToRows, rows_in, id_list}
 use Rattle.fts_rows.proofs.Slotted.{slots-ids}

@@ -1,5 +1,5 @@
 use Rattle.std.proofs.Common.{ap, option_map, ◌∙◌}
-use Rattle.fts_commits.specs.Commit.{Row}
+use Rattle.fts_types.specs.Row.{Row}
 use Rattle.fts_rows.specs.Rows.{Held, texts_with_id}
 use Rattle.fts_rows.proofs.rows.Rows.text_of.Goals as goal
 

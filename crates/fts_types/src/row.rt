@@ -1,4 +1,5 @@
-use fts_types::{DocId, Key, RowTexts};
+use crate::ids::{DocId, Key};
+use crate::texts::RowTexts;
 use std::sync::Arc;
 
 /// A row of the table.
