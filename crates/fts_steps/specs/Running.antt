@@ -3,8 +3,8 @@ use Rattle.std.specs.Prelude.{ℕ, List, [], ◌∷◌, Option, Some, None}
 use Rattle.fts_commits.specs.Commit.{Commit}
 use Rattle.fts_steps.specs.State.{State, with_commits}
 
--- the database that the steps so far made; where a fault stopped the engine, the sum of its devices' counts of faults at
--- that fault; and the commit, if any, that the fault left in doubt
+-- the database that the steps so far made; where a fault stopped the engine, the sum of the counts of faults at that
+-- fault; and the commit, if any, that the fault left in doubt
 pub record Running : Type 0 where
   pub state : State
   pub stopped : Option ℕ
