@@ -25,6 +25,7 @@ use Rattle.fts_log.proofs.Bytes.{length-front-push}
 use Rattle.fts_rowcodec.specs.Payload.{commit_payload, settings_payload, IsWritten}
 use Rattle.fts_steps.specs.State.{State, payloads, rows_magic, end_after, with_commits, IsSound, IsDatabase}
 use Rattle.fts_steps.specs.Running.{Running}
+use Rattle.fts_steps.specs.Crash.{MayHold}
 use Rattle.fts_steps.specs.Step.{Answer, to_commit, to_find, committed, full, found, plain_answer, changes_of, is_disk_fault, MayAnswer}
 use Rattle.fts_commits.specs.declared.refusal.Refusal.{Refusal}
 use Rattle.fts_rows.specs.declared.error.PlanError.{PlanError}
@@ -34,7 +35,7 @@ use Rattle.fts_engine.specs.Refusing.{refusal_answer}
 use Rattle.fts_engine.specs.declared.engine.Engine.{Engine}
 use Rattle.fts_engine.specs.Bounds.{AreWithin}
 use Rattle.fts_engine.specs.Kept.{kept_settings, kept_rows, kept_limits}
-use Rattle.fts_engine.specs.Stands.{Keeps, MayHold, OnDevice, engine_limits}
+use Rattle.fts_engine.specs.Stands.{Keeps, OnDevice, engine_limits}
 use Rattle.fts_engine.proofs.Accepting.{accepted_more, accepted_fits, replay_accepted, AreAccepted-push}
 
 -- the entries of a state with one commit more
@@ -162,10 +163,6 @@ module _ {D : Type 0} {disk : Ghosts D} (state : State) (engine : Engine D disk)
       → kept_limits new.kept ≡ kept_limits engine.kept → new.log ≡ engine.log → Keeps state' new
   keeps_in state' is new settings kept limits same =
       subst (λ (s : State). Keeps s new) (sym is) (keeps_still new settings kept limits (ap magic_of same) (ap limit_of same) (ap log.count_of same) (ap end_of same))
-
-  -- no call of the device: a crash leaves the database of the state
-  pub held_now : StandsFor (payloads state) engine.log → (c : Files) → disk.images (device_of engine.log) c → MayHold state (commit ∷ []) c
-  held_now logged c may = inl (crashed state engine keeps logged c may)
 
 module _ {D : Type 0} {disk : Ghosts D} (running : Running) (engine : Engine D disk) (keeps : Keeps running.state engine) (word : List ℕ) where
   pub same_number : log.count_of engine.log - 1 ≡ length running.state.commits

@@ -1,6 +1,5 @@
-use Rattle.std.specs.Prelude.{◌≡◌, ◌⊎◌, ℕ, ◌+◌, List, [], false, length, Result, Ok, Err, Option, None, IsTrue}
+use Rattle.std.specs.Prelude.{◌≡◌, ℕ, ◌+◌, [], false, length, Result, Ok, Err, Option, None, IsTrue}
 use Rattle.fts_disk.specs.Device.{Files}
-use Rattle.fts_disk.specs.Crash.{Images}
 use Rattle.fts_disk.specs.declared.disk.Disk.{Ghosts}
 use Rattle.fts_log.specs.declared.log.Log.{Log}
 use Rattle.fts_log.specs.Record.{log_end}
@@ -8,9 +7,10 @@ use Rattle.fts_log.specs.Log.{StandsFor, device_of, magic_of, limit_of, count_of
 use Rattle.fts_types.specs.declared.limits.Limits.{Limits}
 use Rattle.fts_types.specs.declared.settings.Settings.{Settings}
 use Rattle.fts_types.specs.Limits.{standard_limits}
-use Rattle.fts_commits.specs.Commit.{Commit, replay}
-use Rattle.fts_steps.specs.State.{State, payloads, rows_magic, with_commits, IsSound, IsDatabase}
+use Rattle.fts_commits.specs.Commit.{replay}
+use Rattle.fts_steps.specs.State.{State, payloads, rows_magic, IsSound, IsDatabase}
 use Rattle.fts_steps.specs.Running.{Running}
+use Rattle.fts_steps.specs.Crash.{MayHold}
 use Rattle.fts_steps.specs.Step.{Sight}
 use Rattle.fts_engine.specs.declared.engine.Engine.{Engine}
 use Rattle.fts_engine.specs.Bounds.{AreWithin}
@@ -56,10 +56,6 @@ pub record Keeps {D : Type 0} {disk : Ghosts D} (state : State) (engine : Engine
   pub limit : limit_of engine.log ≡ (engine_limits engine).log_bytes
   pub magic : magic_of engine.log ≡ rows_magic
 
--- these files are the database of the state, or of the state and the commits in doubt
-abbrev pub MayHold : State → List Commit → Images
-MayHold state doubt c = IsDatabase state (c 0) ⊎ IsDatabase (with_commits state doubt) (c 0)
-
 -- a device reads as the database of what runs, and a crash leaves it; where a fault stopped the engine, perhaps with
 -- the commit in doubt
 pub record OnDevice {D : Type 0} (disk : Ghosts D) (running : Running) (device : D) : Type 0 where
@@ -81,10 +77,13 @@ pub record Stands {D : Type 0} {disk : Ghosts D} (running : Running) (engine : E
 
 -- what contracts see of an engine that one thread owns
 abbrev pub engine_sight : {D : Type 0} {disk : Ghosts D} → Sight (Engine D disk)
-engine_sight = record {
+engine_sight {D} {disk} = record {
   is_shared = false;
   settings = engine_settings;
   limits = engine_limits;
   faults = engine_faults;
   stands = Stands;
+  Device = D;
+  disk = disk;
+  device = engine_device;
 }

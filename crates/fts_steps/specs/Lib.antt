@@ -1,5 +1,6 @@
 pub mod State
 pub mod Fault
 pub mod Running
+pub mod Crash
 pub mod Step
 pub mod Answers

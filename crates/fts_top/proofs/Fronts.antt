@@ -7,14 +7,15 @@ use Rattle.fts_io.specs.Text.{Line}
 use Rattle.fts_schema.specs.declared.reply.Reply.{Reply}
 use Rattle.fts_schema.specs.Reply.{text_of}
 use Rattle.fts_steps.specs.Running.{Running}
-use Rattle.fts_steps.specs.Step.{Sight, after_all, Follows}
+use Rattle.fts_steps.specs.Step.{Sight, Leaves, after_all, Follows}
 use Rattle.fts_sessions.specs.Execute.{Executes, Says}
 use Rattle.fts_top.specs.declared.ends.Health.{Health}
 use Rattle.fts_top.specs.declared.ends.Health.TheVariants.{Sound, Short, Failed}
 use Rattle.fts_top.specs.declared.ends.Halt.{Halt}
 use Rattle.fts_top.specs.declared.ends.Halt.TheVariants as halt
 use Rattle.fts_top.specs.Health.{health_of, worse, health_of_all, end_of, read_end}
-use Rattle.fts_top.specs.Run.{Sides, Stays, Front, IsWhole, IsCut, Reads, OneLine, Outcome}
+use Rattle.fts_top.specs.Run.{MayCrash, Sides, Stays, Front, IsWhole, IsCut, Reads, OneLine, Outcome}
+use Rattle.fts_top.proofs.Crashing.{grows, stays_sure, adds, crash_more}
 use Rattle.fts_top.proofs.Health.{health_more, failed_before, failed_now}
 use Rattle.fts_top.proofs.Talking.{after_more, follows_more, alone_more, talks_more, texts_more, line_still}
 
@@ -35,6 +36,7 @@ module _ {S : Type 0} (sight : Sight S) (start : Running) (script : List Line) w
     limits = refl;
     stands = stands;
     going = λ e calm. refl;
+    crash = λ e told sure. inl refl;
   }
 
   -- the same front, seen by equal lines, and by what holds as much
@@ -54,6 +56,8 @@ module _ {S : Type 0} (sight : Sight S) (start : Running) (script : List Line) w
     limits = ap sight.limits stays.unmade ∙ front.limits;
     stands = subst (λ (s : S). sight.stands (after_all start front.calls) s) (sym stays.unmade) front.stands;
     going = front.going;
+    crash = λ single told sure.
+        subst (λ (s : S). Leaves sight (MayCrash sight start (after_all start front.calls) before.steps) before.steps s) (sym stays.unmade) (front.crash single told sure);
   }
 
   -- one line more was executed, and a part of its reply written
@@ -82,6 +86,13 @@ module _ {S : Type 0} (sight : Sight S) (start : Running) (script : List Line) w
             ∙ line_still (sight.settings before.steps) line executes.calls reply (after_all start front.calls) says (executes.alone single)
             (λ is. calm (health_more front.replies reply ∙ failed_now (health_of_all front.replies) (health_of reply) (ap health_of is)))
             ∙ front.going single (λ is. calm (health_more front.replies reply ∙ failed_before (health_of_all front.replies) (health_of reply) is));
+        crash = λ single told sure.
+            let mid = after_all start front.calls in
+            let follows = executes.follows mid front.stands in
+            subst (λ (now_is : Running). Leaves sight (MayCrash sight start now_is before.steps) before.steps now.steps) (sym (after_more start front.calls executes.calls))
+            (crash_more sight before.steps middle.steps now.steps start mid (after_all mid executes.calls) (grows start front.calls)
+            (adds (sight.limits middle.steps) mid executes.calls (stays_sure start front.calls sure) (executes.alone single) follows)
+            (front.crash single told sure) (executes.crash single told mid front.stands));
       }
 
   -- a run so far: each reply was written whole, and the lines met this

@@ -6,3 +6,4 @@ pub mod Opening
 pub mod Filing
 pub mod Asking
 pub mod Health
+pub mod Crashing

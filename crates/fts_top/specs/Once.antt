@@ -6,6 +6,7 @@ use Rattle.fts_steps.specs.Step.{Sight}
 use Rattle.fts_types.specs.declared.limits.Limits.{Limits}
 use Rattle.fts_types.specs.declared.settings.Settings.{Settings}
 use Rattle.fts_faults.specs.Count.{CountsFault, Rose}
+use Rattle.fts_disk.specs.Moments.{Looks}
 use Rattle.fts_disk.specs.declared.disk.Disk as disk
 use Rattle.fts_io.specs.declared.source.Source as source
 use Rattle.fts_io.specs.declared.sink.Sink as sink
@@ -66,12 +67,15 @@ seen_from here = record { left = here.source.left; held = here.sink.held; steps 
 
 -- the steps of a run, seen by the device alone
 abbrev pub device_sight : {D : Type 0} → disk.Ghosts D → Settings → Limits → Sight D
-device_sight ghosts settings limits = record {
+device_sight {D} ghosts settings limits = record {
   is_shared = false;
   settings = λ device. settings;
   limits = λ device. limits;
   faults = λ device. ghosts.faults device;
   stands = OnDevice ghosts;
+  Device = D;
+  disk = ghosts;
+  device = λ device. device;
 }
 
 -- a script was executed on the database that the opening found, and ended so
@@ -95,11 +99,12 @@ IsWhy (opening.Damaged at) file = IsDamaged at file
 IsWhy opening.NoMemory file = Unit {0}
 IsWhy opening.DiskFault file = Unit {0}
 
--- no database was opened, for this cause; `unused` says that the source and the sink are as they were
+-- no database was opened, for this cause; `unused` says that the source and the sink are as they were. The device was
+-- only looked at
 pub record Unopened {D : Type 0} (ghosts : disk.Ghosts D) (error : OpenError) (unused : Type 0) (before after : D)
     : Type 0 where
   pub untouched : unused
-  pub unchanged : IsTrue ghosts.tells → ghosts.seen after ≡ ghosts.seen before
+  pub looks : IsTrue ghosts.tells → Looks ghosts before after
   pub why : IsTrue ghosts.tells → IsWhy error (file_of ghosts before)
   pub fault : CountsFault (error ≡ opening.DiskFault) (ghosts.faults before) (ghosts.faults after)
 

@@ -1,11 +1,14 @@
-use Rattle.std.specs.Prelude.{◌≡◌, ◌⊎◌, ◌<◌, ◌+◌, ◌^◌, ℕ, false, List, [], ◌∷◌, ◌++◌, length, take, Ok, Err, Result}
+use Rattle.std.specs.Prelude.{◌≡◌, ◌⊎◌, ◌<◌, ◌+◌, ◌^◌, ℕ, false, List, [], ◌∷◌, ◌++◌, length, take, IsTrue}
+use Rattle.std.specs.Prelude.{None, Result, Ok, Err}
 use Rattle.fts_io.specs.Text.{Line}
 use Rattle.fts_io.specs.Reading.{OnlyBegun, lines_from}
 use Rattle.fts_schema.specs.declared.reply.Reply.{Reply}
 use Rattle.fts_schema.specs.declared.reply.Reply.TheVariants.{DiskFault}
 use Rattle.fts_schema.specs.Reply.{text_of}
 use Rattle.fts_steps.specs.Running.{Running}
-use Rattle.fts_steps.specs.Step.{Call, Sight, AreAlone, Follows, after_all}
+use Rattle.fts_disk.specs.Crash.{Images}
+use Rattle.fts_steps.specs.Crash.{IsBetween}
+use Rattle.fts_steps.specs.Step.{Call, Sight, Leaves, AreAlone, Follows, after_all}
 use Rattle.fts_sessions.specs.Execute.{Executes}
 use Rattle.fts_top.specs.declared.ends.Health.{Health}
 use Rattle.fts_top.specs.declared.ends.Health.TheVariants as health
@@ -32,8 +35,17 @@ pub record Stays {S : Type 0} (before after : Sides S) : Type 0 where
   pub unwritten : after.held ≡ before.held
   pub unmade : after.steps ≡ before.steps
 
+-- what a crash could leave before, or the database with a front of what was added
+abbrev pub MayCrash : {S : Type 0} → Sight S → Running → Running → S → Images
+MayCrash sight start now before c = sight.disk.images (sight.device before) c ⊎ IsBetween start now c
+
+-- where no fault stopped it, nothing is in doubt
+abbrev pub IsSure : Running → Type 0
+IsSure running = running.stopped ≡ None → running.doubt ≡ []
+
 -- the lines from the front of the script that were executed, what is ahead, and the text that was written. While no
--- line met a fault, commits are taken
+-- line met a fault, commits are taken. A crash at any moment leaves what it could leave before, or the database with a
+-- front of the commits that were made
 pub record Front {S : Type 0} (sight : Sight S) (start : Running) (script ahead : List Line) (before after : Sides S)
     : Type 0 where
   pub lines : List Line
@@ -50,6 +62,8 @@ pub record Front {S : Type 0} (sight : Sight S) (start : Running) (script ahead 
   pub stands : sight.stands (after_all start calls) after.steps
   pub going : sight.is_shared ≡ false → (health_of_all replies ≡ health.Failed → ⊥)
       → (after_all start calls).stopped ≡ start.stopped
+  pub crash : sight.is_shared ≡ false → IsTrue sight.disk.tells → IsSure start
+      → Leaves sight (MayCrash sight start (after_all start calls) before.steps) before.steps after.steps
 
 -- each reply was written, to the end
 abbrev pub IsWhole : List Reply → List ℕ → Type 0

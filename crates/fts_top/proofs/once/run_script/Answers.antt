@@ -32,9 +32,9 @@ returns-in-Ok-clause-executed g c =
           let stands = (c.in-Ok.ensures.opened tells).1 in
           let same = one_database start state (ghosts.seen c.args.rows 0) database
           (subst (λ (f : ℕ → List ℕ). IsDatabase state (f 0)) (c.in-Ok.ensures.looks tells).seen ((stands.device tells).reads refl)) in
-          let outcome = outcome_on direct_sight refl ghosts state.settings c.args.limits (λ s. engine_device s.engine) (λ running s stood. stood.device tells)
+          let outcome = outcome_on direct_sight refl state.settings c.args.limits (λ running s stood. stood.device tells)
           (opened state) (lines_of left) (sides left held (record { engine = c.in-Ok.engine })) (sides left' held' c.run-end.new.steps) c.args.rows
-          (sym stands.keeps.settings) c.in-Ok.ensures.limits c.run-end.result (c.run-end.ensures.runs tells_input tells_out (opened state) stands) in
+          (c.in-Ok.ensures.looks tells).crash (sym stands.keeps.settings) c.in-Ok.ensures.limits c.run-end.result (c.run-end.ensures.runs tells_input tells_out (opened state) stands) in
           let closed = subst (λ (d : _). Outcome (device_sight ghosts state.settings c.args.limits) c.run-end.result (opened state) (lines_of left)
           (sides left held c.args.rows) (sides left' held' d)) (sym c.close.ensures) outcome in
           subst (λ (s : State). Outcome (device_sight ghosts s.settings c.args.limits) c.run-end.result (opened s) (lines_of left)
@@ -50,7 +50,7 @@ returns-in-Ok-clause-executed g c =
 pub returns-in-Err-clause-unopened : goal.returns-in-Err-clause-unopened
 returns-in-Err-clause-unopened g c = record {
   untouched = (refl, refl);
-  unchanged = λ tells. (c.in-Err.ensures.looks tells).seen;
+  looks = λ tells. c.in-Err.ensures.looks tells;
   why = λ tells. is_why c.in-Err.error (g.D.Disk.seen c.args.rows 0) (λ e. c.in-Err.ensures.not_created e tells)
       (λ at_ e. c.in-Err.ensures.damaged at_ e tells);
   fault = c.in-Err.ensures.faults;

@@ -1,7 +1,7 @@
-use Rattle.std.proofs.Common.{◌≡◌, ℕ, List, [], ◌∷◌, ◌++◌, sym, ap, subst, ◌∙◌, refl, arith}
-use Rattle.std.specs.Prelude.{Err, Ok, Some, None, Option}
+use Rattle.std.proofs.Common.{ℕ, List, [], ◌∷◌, ◌++◌, sym, ap, subst, ◌∙◌, refl, arith}
+use Rattle.std.specs.Prelude.{Err, Ok}
 use Rattle.fts_disk.specs.Moments.{LeavesOnly}
-use Rattle.fts_disk.proofs.Runs.{started, leaves_weaker}
+use Rattle.fts_disk.proofs.Runs.{leaves_weaker}
 use Rattle.fts_commits.specs.Commit.{Rows, after_commit}
 use Rattle.fts_steps.specs.State.{payloads}
 use Rattle.fts_steps.specs.Step.{committed, full, stopped, no_memory}
@@ -10,21 +10,18 @@ use Rattle.fts_log.specs.Log as log
 use Rattle.fts_log.specs.Log.{device_of}
 use Rattle.fts_log.specs.Crash.{IsBeforeOrAfter}
 use Rattle.fts_rows.specs.Refusal.{IsNoPlan}
-use Rattle.fts_engine.specs.Stands.{MayHold, engine_limits}
+use Rattle.fts_steps.specs.Crash.{MayHold}
+use Rattle.fts_engine.specs.Stands.{engine_limits}
 use Rattle.fts_engine.specs.Kept.{kept_rows}
 use Rattle.fts_engine.proofs.Accepting.{accepted_fits}
-use Rattle.fts_engine.proofs.Committing.{is_full, is_committed, same_end, not_past, same_rows, keeps_after, keeps_still, logged_after, holds_either, held_now, refusal_adds, refusal_calm, refusal_answers}
-use Rattle.fts_engine.proofs.Steps.{refuses, commits, fails, is_stopped, can_still, left_in_doubt}
+use Rattle.fts_engine.proofs.Committing.{is_full, is_committed, same_end, not_past, same_rows, keeps_after, keeps_still, logged_after, holds_either, refusal_adds, refusal_calm, refusal_answers}
+use Rattle.fts_engine.proofs.Steps.{refuses, commits, fails, is_stopped, can_still}
 use Rattle.fts_engine.proofs.engine.Engine.commit.Goals as goal
 
 pub returns-in-Some-clause-steps : goal.returns-in-Some-clause-steps
 returns-in-Some-clause-steps g c =
     refuses c.args.self.now c.args.self.now refl refl refl refl refl _ (stopped c.in-Some.faults) refl refl
     (λ running stands. is_stopped c.args.self.now (engine_limits c.args.self.now) c.args.changes.now c.in-Some.faults running stands c.in-Some.is)
-
-pub returns-in-Some-clause-any_moment : goal.returns-in-Some-clause-any_moment
-returns-in-Some-clause-any_moment g c told running stands going =
-    absurd (let no : ◌≡◌ {A = Option ℕ} None (Some c.in-Some.faults) = sym going ∙ sym stands.stopped ∙ c.in-Some.is in cc)
 
 pub returns-in-Err-clause-steps : goal.returns-in-Err-clause-steps
 returns-in-Err-clause-steps g c =
@@ -34,12 +31,6 @@ returns-in-Err-clause-steps g c =
     (λ running stands. refusal_answers (engine_limits c.args.self.now) running c.args.changes.now c.in-Err.error (commit_answer_of (Err c.refusal_of.result))
     (sym stands.stopped ∙ c.in-None.is) c.refusal_of.ensures
     (subst (λ (rows : Rows). IsNoPlan (after_commit (engine_limits c.args.self.now) c.args.changes.now rows) c.in-Err.error) stands.keeps.rows c.in-Err.ensures.refused))
-
-pub returns-in-Err-clause-any_moment : goal.returns-in-Err-clause-any_moment
-returns-in-Err-clause-any_moment g c told running stands going =
-    let device = device_of c.args.self.now.log in
-    started g.D.Disk device (MayHold running.state (c.args.changes.now ∷ []))
-    (λ files left. held_now running.state c.args.self.now stands.keeps c.args.changes.now (stands.logs told going).entries files (g.met.D.Disk.only_now device files told left))
 
 pub framed_commit-requires : goal.framed_commit-requires
 framed_commit-requires g c = (
@@ -52,12 +43,6 @@ pub returns-in-Err-framed_commit-clause-steps : goal.returns-in-Err-framed_commi
 returns-in-Err-framed_commit-clause-steps g c =
     refuses c.args.self.now _ c.in-Ok.ensures.settings c.in-Ok.ensures.rows c.in-Ok.ensures.limits refl refl _ no_memory refl refl (λ running stands. tt)
 
-pub returns-in-Err-framed_commit-clause-any_moment : goal.returns-in-Err-framed_commit-clause-any_moment
-returns-in-Err-framed_commit-clause-any_moment g c told running stands going =
-    let device = device_of c.args.self.now.log in
-    started g.D.Disk device (MayHold running.state (c.args.changes.now ∷ []))
-    (λ files left. held_now running.state c.args.self.now stands.keeps c.args.changes.now (stands.logs told going).entries files (g.met.D.Disk.only_now device files told left))
-
 pub returns-in-Ok-append-clause-steps : goal.returns-in-Ok-append-clause-steps
 returns-in-Ok-append-clause-steps g c =
     let old = c.args.self.now in
@@ -65,6 +50,8 @@ returns-in-Ok-append-clause-steps g c =
     let after = c.in-Ok.ensures.planned.0 in
     let ok = c.in-Ok.ensures.planned.1 in
     let numbers = c.in-Ok-append.ensures.numbers in
+    let device = device_of old.log in
+    let device' = device_of c.append.new.self in
     let same_settings = c.install.ensures.settings ∙ c.in-Ok.ensures.settings in
     let same_limits = c.install.ensures.limits ∙ c.in-Ok.ensures.limits in
     commits old _ changes same_settings same_limits c.in-None.is c.in-Ok-append.number refl (c.in-Ok-append.ensures.faults.calm (λ is. cc))
@@ -79,14 +66,10 @@ returns-in-Ok-append-clause-steps g c =
     (λ running stands told going. logged_after running.state old stands.keeps changes (can_still running old stands changes c.requires) after ok c.append.new.self
     (subst (λ (payload : List ℕ). log.StandsFor (payloads running.state ++ payload ∷ []) c.append.new.self) c.in-Ok-framed_commit.ensures
     (c.in-Ok-append.ensures.acknowledged told (payloads running.state) (stands.logs told going).entries)))
-
-pub returns-in-Ok-append-clause-any_moment : goal.returns-in-Ok-append-clause-any_moment
-returns-in-Ok-append-clause-any_moment g c told running stands going =
-    let old = device_of c.args.self.now.log in
-    leaves_weaker g.D.Disk old (device_of c.append.new.self) _ (MayHold running.state (c.args.changes.now ∷ []))
-    (holds_either running.state c.args.self.now stands.keeps c.args.changes.now (can_still running c.args.self.now stands c.args.changes.now c.requires) c.in-Ok.ensures.planned.0 c.in-Ok.ensures.planned.1 (g.D.Disk.images old) (g.D.Disk.seen old))
-    (subst (λ (payload : List ℕ). LeavesOnly g.D.Disk old (device_of c.append.new.self) (IsBeforeOrAfter (log.magic_of c.args.self.now.log) (payloads running.state) payload (g.D.Disk.images old) (g.D.Disk.seen old)))
-    c.in-Ok-framed_commit.ensures (c.in-Ok-append.ensures.any_moment told (payloads running.state) (stands.logs told going).entries))
+    (λ running stands told going. leaves_weaker g.D.Disk device device' _ (MayHold running.state (changes ∷ []))
+    (holds_either running.state old stands.keeps changes (can_still running old stands changes c.requires) c.in-Ok.ensures.planned.0 c.in-Ok.ensures.planned.1 (g.D.Disk.images device) (g.D.Disk.seen device))
+    (subst (λ (payload : List ℕ). LeavesOnly g.D.Disk device device' (IsBeforeOrAfter (log.magic_of old.log) (payloads running.state) payload (g.D.Disk.images device) (g.D.Disk.seen device)))
+    c.in-Ok-framed_commit.ensures (c.in-Ok-append.ensures.any_moment told (payloads running.state) (stands.logs told going).entries)))
 
 pub returns-in-Err-LogFull-clause-steps : goal.returns-in-Err-LogFull-clause-steps
 returns-in-Err-LogFull-clause-steps g c =
@@ -106,14 +89,6 @@ pub returns-in-Err-LogFull-clause-untouched : goal.returns-in-Err-LogFull-clause
 returns-in-Err-LogFull-clause-untouched g c is_err other =
     c.in-Err-LogFull.ensures.unchanged ((c.in-Err-LogFull.ensures.full c.in-Err-LogFull.end).0 (ap Err c.in-Err-LogFull.field-0-is)).0
 
-pub returns-in-Err-LogFull-clause-any_moment : goal.returns-in-Err-LogFull-clause-any_moment
-returns-in-Err-LogFull-clause-any_moment g c told running stands going =
-    let old = device_of c.args.self.now.log in
-    leaves_weaker g.D.Disk old (device_of c.append.new.self) _ (MayHold running.state (c.args.changes.now ∷ []))
-    (holds_either running.state c.args.self.now stands.keeps c.args.changes.now (can_still running c.args.self.now stands c.args.changes.now c.requires) c.in-Ok.ensures.planned.0 c.in-Ok.ensures.planned.1 (g.D.Disk.images old) (g.D.Disk.seen old))
-    (subst (λ (payload : List ℕ). LeavesOnly g.D.Disk old (device_of c.append.new.self) (IsBeforeOrAfter (log.magic_of c.args.self.now.log) (payloads running.state) payload (g.D.Disk.images old) (g.D.Disk.seen old)))
-    c.in-Ok-framed_commit.ensures (c.in-Err-LogFull.ensures.any_moment told (payloads running.state) (stands.logs told going).entries))
-
 pub returns-clause-steps : goal.returns-clause-steps
 returns-clause-steps g c =
     let old = c.args.self.now in
@@ -131,17 +106,8 @@ returns-clause-steps g c =
     (λ past. let no = (c.in-Err-DiskFault.ensures.full (log.end_after old.log c.in-Ok-framed_commit.framed)).1 (past, refl) in cc)))
     (λ running stands. keeps_still running.state old stands.keeps changes _ c.in-Ok.ensures.settings c.in-Ok.ensures.rows c.in-Ok.ensures.limits
     numbers.making.magic numbers.making.limit numbers.uncounted numbers.ungrown)
-    (λ running stands told going. left_in_doubt g.D.Disk device device' running changes c.faults-faults.result
-    (λ t files le may. g.met.D.Disk.counts_now device' t files told le may) (g.met.D.Disk.seen_may_stay device' told)
-    (leaves_weaker g.D.Disk device device' _ (MayHold running.state (changes ∷ []))
+    (λ t files told le may. g.met.D.Disk.counts_now device' t files told le may) (λ told. g.met.D.Disk.seen_may_stay device' told)
+    (λ running stands told going. leaves_weaker g.D.Disk device device' _ (MayHold running.state (changes ∷ []))
     (holds_either running.state old stands.keeps changes (can_still running old stands changes c.requires) c.in-Ok.ensures.planned.0 c.in-Ok.ensures.planned.1 (g.D.Disk.images device) (g.D.Disk.seen device))
     (subst (λ (payload : List ℕ). LeavesOnly g.D.Disk device device' (IsBeforeOrAfter (log.magic_of old.log) (payloads running.state) payload (g.D.Disk.images device) (g.D.Disk.seen device)))
-    c.in-Ok-framed_commit.ensures (c.in-Err-DiskFault.ensures.any_moment told (payloads running.state) (stands.logs told going).entries))))
-
-pub returns-clause-any_moment : goal.returns-clause-any_moment
-returns-clause-any_moment g c told running stands going =
-    let old = device_of c.args.self.now.log in
-    leaves_weaker g.D.Disk old (device_of c.append.new.self) _ (MayHold running.state (c.args.changes.now ∷ []))
-    (holds_either running.state c.args.self.now stands.keeps c.args.changes.now (can_still running c.args.self.now stands c.args.changes.now c.requires) c.in-Ok.ensures.planned.0 c.in-Ok.ensures.planned.1 (g.D.Disk.images old) (g.D.Disk.seen old))
-    (subst (λ (payload : List ℕ). LeavesOnly g.D.Disk old (device_of c.append.new.self) (IsBeforeOrAfter (log.magic_of c.args.self.now.log) (payloads running.state) payload (g.D.Disk.images old) (g.D.Disk.seen old)))
-    c.in-Ok-framed_commit.ensures (c.in-Err-DiskFault.ensures.any_moment told (payloads running.state) (stands.logs told going).entries))
+    c.in-Ok-framed_commit.ensures (c.in-Err-DiskFault.ensures.any_moment told (payloads running.state) (stands.logs told going).entries)))
