@@ -1,9 +1,6 @@
 ghost use Rattle.std.specs.Prelude.{◌≡◌, ◌≤◌, ℕ, length, IfOk, IfSome};
 ghost use Rattle.fts_commits.specs.Fits.{IsText, FitsColumns, FitsNumbers, IsPlainInsert};
 ghost use Rattle.fts_commits.specs.Fits.{CanCommit};
-ghost use Rattle.fts_steps.specs.State.{State};
-ghost use Rattle.fts_steps.specs.Running.{opened};
-ghost use Rattle.fts_engine.specs.Stands.{Stands};
 
 use super::*;
 use fts_commits::{Change, Refusal};
@@ -55,9 +52,7 @@ fn open(
     rows: MemDisk,
     most_rows: u64,
     log_bytes: u64,
-) -> Result<Engine<MemDisk>, OpenError>
-    ensures { IfOk result (λ engine. (state : State) × Stands state engine) }
-{
+) -> Result<Engine<MemDisk>, OpenError> {
     let limits = Limits {
         rows: most_rows.min(1_000_000),
         ids: 1_000,

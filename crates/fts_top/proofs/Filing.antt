@@ -5,11 +5,14 @@ use Rattle.fts_types.specs.declared.limits.Limits.{Limits}
 use Rattle.fts_types.specs.declared.settings.Settings.{Settings}
 use Rattle.fts_disk.specs.Moments.{LeavesAsBefore}
 use Rattle.fts_engine.specs.Stands.{OnDevice}
+use Rattle.fts_faults.specs.Count.{CountsFault}
 use Rattle.fts_io.specs.Text.{Line}
 use Rattle.fts_steps.specs.Running.{Running}
 use Rattle.fts_steps.specs.Crash.{IsBetween}
 use Rattle.fts_steps.specs.Step.{Sight, Follows, after_all}
 use Rattle.fts_top.specs.declared.ends.Health.{Health}
+use Rattle.fts_top.specs.declared.ends.Health.TheVariants.{Failed}
+use Rattle.fts_top.specs.Health.{health_of_all}
 use Rattle.fts_top.specs.declared.ends.RunEnd.{RunEnd}
 use Rattle.fts_top.specs.declared.ends.RunEnd.TheVariants as end
 use Rattle.fts_top.specs.Run.{Sides, Front, Reads, Stops, Outcome}
@@ -20,7 +23,8 @@ use Rattle.fts_top.proofs.Crashing.{crash_behind}
 module _ {S : Type 0} (sight : Sight S) (single : sight.is_shared ≡ false) (settings : Settings) (limits : Limits)
     (held : (running : Running) (s : S) → sight.stands running s → OnDevice sight.disk running (sight.device s)) (start : Running) (script : List Line) (before now : Sides S)
     (first : sight.Device) (looked : LeavesAsBefore sight.disk first (sight.device before.steps))
-    (same_settings : sight.settings before.steps ≡ settings) (same_limits : sight.limits before.steps ≡ limits) where
+    (same_settings : sight.settings before.steps ≡ settings) (same_limits : sight.limits before.steps ≡ limits)
+    (calm : sight.faults before.steps ≡ sight.disk.faults first) (counts : sight.faults now.steps ≡ sight.disk.faults (sight.device now.steps)) where
   -- the same sides with a device in place of the steps: before, as it was before the opening
   abbrev begun : Sides sight.Device
   begun = record { left = before.left; held = before.held; steps = first }
@@ -44,6 +48,8 @@ module _ {S : Type 0} (sight : Sight S) (single : sight.is_shared ≡ false) (se
     limits = refl;
     stands = held (after_all start front.calls) now.steps front.stands;
     going = λ e calm. front.going single calm;
+    counted = subst (λ (n : ℕ). CountsFault (health_of_all front.replies ≡ Failed) n (sight.disk.faults (sight.device now.steps))) calm
+        (subst (λ (n : ℕ). CountsFault (health_of_all front.replies ≡ Failed) (sight.faults before.steps) n) counts front.counted);
     crash = λ e told sure.
         inr (crash_behind sight.disk first (sight.device before.steps) (sight.device now.steps) (IsBetween start (after_all start front.calls)) looked (front.crash single told sure));
   }

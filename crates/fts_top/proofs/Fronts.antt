@@ -1,8 +1,9 @@
-use Rattle.std.proofs.Common.{◌≡◌, ℕ, ◌+◌, List, [], ◌∷◌, ◌++◌, length, take, refl, ap, subst, sym, ◌∙◌, append_assoc, inl, inr}
+use Rattle.std.proofs.Common.{◌≡◌, ℕ, ◌+◌, List, [], ◌∷◌, ◌++◌, length, take, refl, ap, subst, sym, ◌∙◌, append_assoc, inl, inr, arith}
 use Rattle.std.proofs.lemmas.List.{append-nil, length_push}
 use Rattle.std.specs.Prelude.{Ok, Err}
 use Rattle.fts_types.specs.declared.limits.Limits.{Limits}
 use Rattle.fts_types.specs.declared.settings.Settings.{Settings}
+use Rattle.fts_faults.specs.Count.{CountsFault}
 use Rattle.fts_io.specs.Text.{Line}
 use Rattle.fts_schema.specs.declared.reply.Reply.{Reply}
 use Rattle.fts_schema.specs.Reply.{text_of}
@@ -16,7 +17,7 @@ use Rattle.fts_top.specs.declared.ends.Halt.TheVariants as halt
 use Rattle.fts_top.specs.Health.{health_of, worse, health_of_all, end_of, read_end}
 use Rattle.fts_top.specs.Run.{MayCrash, Sides, Stays, Front, IsWhole, IsCut, Reads, OneLine, Outcome}
 use Rattle.fts_top.proofs.Crashing.{grows, stays_sure, adds, crash_more}
-use Rattle.fts_top.proofs.Health.{health_more, failed_before, failed_now}
+use Rattle.fts_top.proofs.Health.{health_more, failed_before, failed_now, counted_more, counted_reply}
 use Rattle.fts_top.proofs.Talking.{after_more, follows_more, alone_more, talks_more, texts_more, line_still}
 
 module _ {S : Type 0} (sight : Sight S) (start : Running) (script : List Line) where
@@ -36,6 +37,7 @@ module _ {S : Type 0} (sight : Sight S) (start : Running) (script : List Line) w
     limits = refl;
     stands = stands;
     going = λ e calm. refl;
+    counted = record { rose = λ is. absurd cc; calm = λ no. refl; never_falls = omega arith };
     crash = λ e told sure. inl refl;
   }
 
@@ -56,6 +58,7 @@ module _ {S : Type 0} (sight : Sight S) (start : Running) (script : List Line) w
     limits = ap sight.limits stays.unmade ∙ front.limits;
     stands = subst (λ (s : S). sight.stands (after_all start front.calls) s) (sym stays.unmade) front.stands;
     going = front.going;
+    counted = subst (λ (s : S). CountsFault (health_of_all front.replies ≡ Failed) (sight.faults before.steps) (sight.faults s)) (sym stays.unmade) front.counted;
     crash = λ single told sure.
         subst (λ (s : S). Leaves sight (MayCrash sight start (after_all start front.calls) before.steps) before.steps s) (sym stays.unmade) (front.crash single told sure);
   }
@@ -86,6 +89,9 @@ module _ {S : Type 0} (sight : Sight S) (start : Running) (script : List Line) w
             ∙ line_still (sight.settings before.steps) line executes.calls reply (after_all start front.calls) says (executes.alone single)
             (λ is. calm (health_more front.replies reply ∙ failed_now (health_of_all front.replies) (health_of reply) (ap health_of is)))
             ∙ front.going single (λ is. calm (health_more front.replies reply ∙ failed_before (health_of_all front.replies) (health_of reply) is));
+        counted = subst (λ (h : Health). CountsFault (h ≡ Failed) (sight.faults before.steps) (sight.faults now.steps)) (sym (health_more front.replies reply))
+            (counted_more (health_of_all front.replies) (health_of reply) (sight.faults before.steps) (sight.faults middle.steps) (sight.faults now.steps) front.counted
+            (counted_reply reply (sight.faults middle.steps) (sight.faults now.steps) executes.faults));
         crash = λ single told sure.
             let mid = after_all start front.calls in
             let follows = executes.follows mid front.stands in

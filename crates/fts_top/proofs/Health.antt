@@ -3,6 +3,7 @@ use Rattle.std.proofs.Common.{◌≡◌, ◌⊎◌, ℕ, ◌≤◌, List, [], �
 use Rattle.std.specs.Prelude.{Result, Ok}
 use Rattle.fts_faults.specs.Count.{CountsFault, Rose}
 use Rattle.fts_schema.specs.declared.reply.Reply.{Reply}
+use Rattle.fts_schema.specs.declared.reply.Reply.TheVariants as reply
 use Rattle.fts_sessions.specs.Calm.{IsCalm}
 use Rattle.fts_top.specs.declared.ends.Health.{Health}
 use Rattle.fts_top.specs.declared.ends.Health.TheVariants.{Sound, Short, Failed}
@@ -93,5 +94,30 @@ pub counted_line : (now : Health) (old new : ℕ) → CountsFault (◌≡◌ {A 
 counted_line now old new counts = record {
   rose = λ is. counts.rose (ap Ok is);
   calm = λ no. counts.calm (λ is. no (let same = is in cc));
+  never_falls = counts.never_falls;
+}
+
+-- a reply is a fault's where its line met one
+fault_met : (told : Reply) → health_of told ≡ Failed → told ≡ reply.DiskFault
+fault_met reply.DiskFault is = refl
+fault_met reply.NoMemory is = absurd cc
+fault_met (reply.Committed number) is = absurd cc
+fault_met (reply.Found number docs) is = absurd cc
+fault_met (reply.Refused refusal) is = absurd cc
+fault_met (reply.LogFull end_) is = absurd cc
+fault_met reply.Nothing is = absurd cc
+fault_met (reply.Syntax at_) is = absurd cc
+fault_met (reply.NoSuchTable name) is = absurd cc
+fault_met (reply.NoSuchColumn name) is = absurd cc
+fault_met reply.WrongColumns is = absurd cc
+fault_met (reply.QuerySyntax at_) is = absurd cc
+fault_met reply.LineTooLong is = absurd cc
+fault_met (reply.Stopped faults) is = absurd cc
+
+-- the count of a line, by its reply
+pub counted_reply : (told : Reply) (old new : ℕ) → CountsFault (told ≡ reply.DiskFault) old new → CountsFault (health_of told ≡ Failed) old new
+counted_reply told old new counts = record {
+  rose = λ is. counts.rose (fault_met told is);
+  calm = λ no. counts.calm (λ is. no (ap health_of is));
   never_falls = counts.never_falls;
 }

@@ -34,7 +34,7 @@ returns-in-Ok-clause-executed g c =
           (subst (λ (f : ℕ → List ℕ). IsDatabase state (f 0)) (c.in-Ok.ensures.looks tells).seen ((stands.device tells).reads refl)) in
           let outcome = outcome_on direct_sight refl state.settings c.args.limits (λ running s stood. stood.device tells)
           (opened state) (lines_of left) (sides left held (record { engine = c.in-Ok.engine })) (sides left' held' c.run-end.new.steps) c.args.rows
-          (c.in-Ok.ensures.looks tells).crash (sym stands.keeps.settings) c.in-Ok.ensures.limits c.run-end.result (c.run-end.ensures.runs tells_input tells_out (opened state) stands) in
+          (c.in-Ok.ensures.looks tells).crash (sym stands.keeps.settings) c.in-Ok.ensures.limits (c.in-Ok.ensures.faults.calm (λ no. no)) refl c.run-end.result (c.run-end.ensures.runs tells_input tells_out (opened state) stands) in
           let closed = subst (λ (d : _). Outcome (device_sight ghosts state.settings c.args.limits) c.run-end.result (opened state) (lines_of left)
           (sides left held c.args.rows) (sides left' held' d)) (sym c.close.ensures) outcome in
           subst (λ (s : State). Outcome (device_sight ghosts s.settings c.args.limits) c.run-end.result (opened s) (lines_of left)
