@@ -45,8 +45,8 @@ abbrev pub IsSure : Running → Type 0
 IsSure running = running.stopped ≡ None → running.doubt ≡ []
 
 -- the lines from the front of the script that were executed, what is ahead, and the text that was written. While no
--- line met a fault, commits are taken; a fault was counted exactly where one met it. A crash at any moment leaves what it could leave before, or the database with a
--- front of the commits that were made
+-- line met a fault, commits are taken; a fault was counted exactly where one met it. A crash at any moment leaves what
+-- it could leave before, or the database with a front of the commits that were made
 pub record Front {S : Type 0} (sight : Sight S) (start : Running) (script ahead : List Line) (before after : Sides S)
     : Type 0 where
   pub lines : List Line
@@ -63,7 +63,8 @@ pub record Front {S : Type 0} (sight : Sight S) (start : Running) (script ahead 
   pub stands : sight.stands (after_all start calls) after.steps
   pub going : sight.is_shared ≡ false → (health_of_all replies ≡ health.Failed → ⊥)
       → (after_all start calls).stopped ≡ start.stopped
-  pub counted : CountsFault (health_of_all replies ≡ health.Failed) (sight.faults before.steps) (sight.faults after.steps)
+  pub counted : CountsFault (health_of_all replies ≡ health.Failed) (sight.faults before.steps)
+      (sight.faults after.steps)
   pub crash : sight.is_shared ≡ false → IsTrue sight.disk.tells → IsSure start
       → Leaves sight (MayCrash sight start (after_all start calls) before.steps) before.steps after.steps
 
