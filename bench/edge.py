@@ -22,6 +22,7 @@ TOP = os.path.dirname(os.path.dirname(os.path.realpath(__file__)))
 SCRIPT = os.path.join(TOP, "fts")
 NOBODY = 65534
 SEARCH = b"SELECT FTS_DOC_ID FROM docs WHERE MATCH (body) AGAINST ('apple' IN BOOLEAN MODE)\n"
+INDEX = b"FTSINDX1\x00"
 CASES = []
 
 
@@ -337,6 +338,7 @@ def a_log_cut_short(room):
     room.run("shop", "run", script=insert(1, "apple"))
     whole = room.files()["rows.log"]
     same(len(whole), 59, "the log's length")
+    room.put(INDEX, "cut/index.log")
     for size in range(60):
         room.put(whole[:size], "cut/rows.log")
         seen = room.run("cut", "run", script=SEARCH)
@@ -349,6 +351,36 @@ def a_log_cut_short(room):
     return "0 to 8 bytes: not created; 9 to 32: damaged at 8; 33 to 57: at 33; 58: at 58; 59: whole"
 
 
+@case
+def an_index_log_cut_short(room):
+    room.create()
+    same(room.files()["index.log"], INDEX, "the index log")
+    for text in [INDEX[:size] for size in range(10)] + [b"FTSROWS1\x00", INDEX[:8] + b"\x01\x00\x00\x00\x00\x00"]:
+        room.put(text, "shop/index.log")
+        seen = room.run("shop", "run", script=SEARCH)
+        if text == INDEX:
+            told(seen, 0)
+        else:
+            told(seen, 8, f"fts: damaged index file 0 at {8 if text[:8] == INDEX[:8] else 0}")
+    return "0 to 7 bytes, or another magic: damaged at 0; 8 bytes, or an entry: at 8; 9 bytes: whole"
+
+
+@case
+def a_length_that_no_payload_has(room):
+    room.create()
+    whole = room.files()["rows.log"]
+    length = (3 << 30).to_bytes(4, "big")
+    for front, at in [(whole[:8], 8), (whole[:33], 33)]:
+        with open(room.at("shop/rows.log"), "wb") as log:
+            log.write(front + b"\x01" + length)
+            log.truncate(4 << 30)
+        begun = time.monotonic()
+        seen = room.run("shop", "run", script=SEARCH, limits=[(resource.RLIMIT_AS, 1 << 30)])
+        told(seen, 8, f"fts: damaged rows file 0 at {at}")
+        same(time.monotonic() - begun < 5, True, "at once")
+    return "3 GiB of settings, or of a commit, in a file of 4 GiB: damaged at 8, and at 33, with 1 GiB of memory"
+
+
 # Files of somebody else
 
 
@@ -358,7 +390,10 @@ def foreign_file_is_kept(room):
         room.put(text, "shop/rows.log")
         seen = room.run("shop", "create", "--columns", "body")
         shown = told(seen, 5, "fts: disk fault", "fts: shop/rows.log: not a log of fts")
-        same(room.files(), {"rows.log": text}, "the folder")
+        same(room.files()["rows.log"], text, "the file")
+    room.put(b"notes on an index", "kept/index.log")
+    told(room.run("kept", "create", "--columns", "body"), 5, "fts: disk fault", "fts: kept/index.log: not a log of fts")
+    same(room.files("kept")["index.log"], b"notes on an index", "the other file")
     return shown
 
 
@@ -666,7 +701,7 @@ def script_from_anywhere(room):
     for words, status in [(("shop", "create", "--columns", "body"), 0), (("shop", "run"), 0), (("none", "run"), 6), ((), 2)]:
         ran = subprocess.run([room.at("a b/link to it"), *words], cwd=room.path, capture_output=True, stdin=subprocess.DEVNULL)
         same(ran.returncode, status, f"the status of {words}")
-    same(sorted(room.files()), ["rows.log"], "the folder, where it was started")
+    same(sorted(room.files()), ["index.log", "rows.log"], "the folder, where it was started")
     return "through two links, from another folder, statuses 0, 6 and 2"
 
 

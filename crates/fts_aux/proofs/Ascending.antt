@@ -4,7 +4,8 @@ use Rattle.std.specs.List.{AllByRecursion}
 use Rattle.std.specs.List.Sorted.{IsStrictlySortedBy}
 use Rattle.std.specs.Map.{keys_of}
 use Rattle.std.specs.declared.cmp.Ordering.TheVariants.{Less}
-use Rattle.fts_ilist.specs.Node.{Docs, byte_order}
+use Rattle.fts_words.specs.Order.{byte_order}
+use Rattle.fts_ilist.specs.Node.{Docs}
 
 -- a word stands before all of these
 abbrev pub StandsBefore : List ℕ → List (List ℕ × List Docs) → Type 0

@@ -6,7 +6,8 @@ use Rattle.std.specs.Cmp.Lexicographic.{same_text, other_text}
 use Rattle.std.specs.declared.cmp.Ordering.TheVariants.{Less}
 use Rattle.std.specs.Ordering.{is_eq}
 use Rattle.std.proofs.lemmas.Bool.{false≢true, cases_Bool}
-use Rattle.fts_ilist.specs.Node.{Docs, NodesAfter, last_of, byte_order, nodes_for}
+use Rattle.fts_words.specs.Order.{byte_order}
+use Rattle.fts_ilist.specs.Node.{Docs, NodesAfter, last_of, nodes_for}
 use Rattle.fts_aux.specs.Tables.{Held, nodes, holds, HasNoOther}
 use Rattle.fts_aux.proofs.Finds.{is_same}
 use Rattle.fts_aux.proofs.Ordered.{AllBehind, equal_itself}

@@ -5,9 +5,10 @@ use Rattle.std.specs.List.{list_any}
 use Rattle.std.specs.Map.{keys_of}
 use Rattle.std.specs.Str.{bytes_eq}
 use Rattle.std.specs.BTreeSet.{BTreeSet, contains}
-use Rattle.fts_ilist.specs.Node.{Docs, byte_order}
+use Rattle.fts_words.specs.Order.{byte_order}
+use Rattle.fts_ilist.specs.Node.{Docs}
 use Rattle.fts_ilist.specs.NodeList.{NodeState, Takes}
-use Rattle.fts_aux.specs.Table.{Entries, find, list_in, nodes_in, is_key, is_key_at, Room, room_of, no_room, IsListed, IsFilledBut, IsNotedBut, IsTable, Becomes, Enters, Lists, Drops}
+use Rattle.fts_aux.specs.Table.{Entries, find, list_in, nodes_in, is_key, is_key_at, Room, room_of, no_room, IsListed, IsFilledBut, IsTable, Becomes, Enters, Lists, Drops}
 use Rattle.std.specs.BTreeMap.{is_at}
 use Rattle.fts_aux.proofs.Finds.{which_word, list_other}
 use Rattle.fts_aux.proofs.Ordered.{equal_itself, apart_in_order}
@@ -40,9 +41,6 @@ room_before old new more takes none =
     let nodes : new.node_room ≡ 0 = omega (arith, takes.node_room, ap (λ (r : Room). r.nodes) none) in
     let bytes : new.byte_room ≡ 0 = omega (arith, takes.byte_room, ap (λ (r : Room). r.bytes) none) in
     ap (λ n. let r : Room = record { nodes = n; bytes = new.byte_room } in r) nodes ∙ ap (λ n. let r : Room = record { nodes = 0; bytes = n } in r) bytes
-
-pub none_noted : (es : Entries) (notes : List ℕ) → ((w : List ℕ) → room_of (list_in es w) ≡ no_room) → IsNotedBut es notes
-none_noted es notes none w some = absurd (some (none w))
 
 -- whether a word is there, after a change of one
 key_after : (es new : Entries) (word : List ℕ) (o : Option NodeState) → Becomes es word o new → (w : List ℕ) → w ≢ word → is_key new w ≡ is_key es w
@@ -133,14 +131,6 @@ kept_one es new word l becomes there w =
 
 pub are_written : (es new : Entries) (word : List ℕ) (l : NodeState) (n : ℕ) → Becomes es word (Some l) new → is_key_at (keys_of es) n word ≡ true → (w : List ℕ) → is_key new w ≡ is_key es w
 are_written es new word l n becomes at = kept_one es new word l becomes (key_there es n word at)
-
-pub listed_kept : (es new : Entries) (order : BTreeSet (List ℕ)) (word : List ℕ) (l : NodeState) → Becomes es word (Some l) new → is_key es word ≡ true → IsListed es order → IsListed new order
-listed_kept es new order word l becomes there listed w = listed w ∙ sym (kept_one es new word l becomes there w)
-
--- the same set has the same words
-pub listed_same : (es new : Entries) (order order' : BTreeSet (List ℕ)) → new ≡ es → order'.keys ≡ order.keys → IsListed es order → IsListed new order'
-listed_same es new order order' same keys listed w =
-    ap (λ (ks : List (List ℕ)). list_any (is_at (byte_order w)) ks) keys ∙ listed w ∙ ap (λ (t : Entries). is_key t w) (sym same)
 
 -- a word was entered
 pub table_entered : (es new : Entries) (order order' : BTreeSet (List ℕ)) (fresh : List (List ℕ)) (notes : List ℕ) (word : List ℕ) (l : NodeState)

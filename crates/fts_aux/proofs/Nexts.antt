@@ -8,9 +8,10 @@ use Rattle.std.specs.Ordering.{is_gt, ordering_reverse, ordering_then}
 use Rattle.std.specs.Cmp.{nat_cmp_is}
 use Rattle.std.specs.Cmp.Lexicographic.{nat_list_cmp_total}
 use Rattle.std.proofs.lemmas.Bool.{false≢true, cases_Bool, cases_lt, cases_eq, eqb-true, ne_eqb, eq-eqb}
+use Rattle.fts_words.specs.Order.{byte_order, begins_with}
 use Rattle.fts_types.specs.Table.{table_of}
-use Rattle.fts_ilist.specs.Node.{Docs, byte_order}
-use Rattle.fts_aux.specs.Table.{Entries, nodes_in, begins, IsNext, IsLast, IsListing}
+use Rattle.fts_ilist.specs.Node.{Docs}
+use Rattle.fts_aux.specs.Table.{Entries, nodes_in, IsNext, IsLast, IsListing}
 use Rattle.fts_aux.specs.Tables.{Held, nodes, nodes_from, PlacedFrom, AreTables, IsNextIn, IsLastIn}
 use Rattle.fts_types.proofs.Partition.{first_rises, tables_rise_to_z, high_table}
 use Rattle.fts_aux.proofs.Places.{own_nodes, placed_at}
@@ -224,16 +225,16 @@ module _ (ts : List Entries) (held : Held) (seen : ts ≡ held) (are : AreTables
 
 -- ---- words with a prefix
 
-pub begins_table : (p q : List ℕ) → 0 < length p → begins p q ≡ true → table_of q ≡ table_of p
+pub begins_table : (p q : List ℕ) → 0 < length p → begins_with p q ≡ true → table_of q ≡ table_of p
 begins_table [] q some e = absurd (omega (arith, some))
 begins_table (a ∷ p) [] some e = absurd (false≢true e)
 begins_table (a ∷ p) (b ∷ q) some e =
     ⊎_elim
     (λ same. ap (λ z. table_of (z ∷ [])) (sym (eqb-true a b same)))
-    (λ other. absurd (false≢true (sym (ap (λ t. t && begins p q) other) ∙ e)))
+    (λ other. absurd (false≢true (sym (ap (λ t. t && begins_with p q) other) ∙ e)))
     (cases_Bool (nat_eq a b))
 
-pub listing_over : (p : List ℕ) (l : List (List ℕ × List Docs)) (f g : List ℕ → List Docs) → ((q : List ℕ) → begins p q ≡ true → g q ≡ f q) → IsListing f p l → IsListing g p l
+pub listing_over : (p : List ℕ) (l : List (List ℕ × List Docs)) (f g : List ℕ → List Docs) → ((q : List ℕ) → begins_with p q ≡ true → g q ≡ f q) → IsListing f p l → IsListing g p l
 listing_over p l f g same is =
     record {
       ascending = is.ascending;
@@ -241,7 +242,7 @@ listing_over p l f g same is =
       exact = λ q. is.exact q ∙ ⊎_elim
           (λ passes. ap (λ b. cond b (f q) []) passes ∙ sym (same q passes) ∙ sym (ap (λ b. cond b (g q) []) passes))
           (λ none. ap (λ b. cond b (f q) []) none ∙ sym (ap (λ b. cond b (g q) []) none))
-          (cases_Bool (begins p q));
+          (cases_Bool (begins_with p q));
     }
 
 -- ---- no words

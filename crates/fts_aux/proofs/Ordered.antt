@@ -14,7 +14,9 @@ use Rattle.std.proofs.lemmas.Option.{none-some}
 use Rattle.std.proofs.lemmas.Map.Keys.{sorted_head, sorted_tail}
 use Rattle.std.proofs.lemmas.Map.Entries.{lookup-filter-keys}
 use Rattle.std.proofs.lemmas.Map.Lookups.{exact_bytes}
-use Rattle.fts_ilist.specs.Node.{Docs, byte_order}
+use Rattle.fts_words.specs.Order.{byte_order}
+use Rattle.fts_ilist.specs.Node.{Docs}
+use Rattle.fts_ilist.proofs.Fronts as words
 use Rattle.fts_aux.specs.Table.{filled, filled_as, nodes_at, IsNext, IsLast}
 
 abbrev nodes_or : Option (List Docs) → List Docs
@@ -23,13 +25,11 @@ nodes_or o = unwrap_or o []
 module _ {X : Type 0} where
   -- all words are behind w
   abbrev pub AllBehind : List ℕ → List (List ℕ × X) → Type 0
-  AllBehind w [] = Unit {0}
-  AllBehind w (e ∷ es) = (byte_order w e.0 ≡ Less) × AllBehind w es
+  AllBehind w es = words.AllBehind (λ (e : List ℕ × X). e.0) w es
 
   -- the words ascend
   abbrev pub Ascends : List (List ℕ × X) → Type 0
-  Ascends [] = Unit {0}
-  Ascends (e ∷ es) = AllBehind e.0 es × Ascends es
+  Ascends es = words.Ascends (λ (e : List ℕ × X). e.0) es
 
   behind_from : (w : List ℕ) (es : List (List ℕ × X)) → AllByRecursion (λ y. byte_order w y ≡ Less) (keys_of es) → AllBehind w es
   behind_from w [] h = tt

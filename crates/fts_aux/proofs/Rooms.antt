@@ -52,12 +52,6 @@ used_more old new first rest before all e so =
     (omega (arith, ap (λ (r : Room). r.nodes) e, ap (λ (r : Room). r.nodes) so))
     (omega (arith, ap (λ (r : Room). r.bytes) e, ap (λ (r : Room). r.bytes) so))
 
-pub end_used : (new before all : Room) → with_room new all ≡ with_room before no_room → with_room new all ≡ before
-end_used new before all e = e ∙ with_none before
-
-pub eq_within : (r s : Room) → s ≡ r → IsWithin r s
-eq_within r s e = (omega (arith, ap (λ (x : Room). x.nodes) e), omega (arith, ap (λ (x : Room). x.bytes) e))
-
 -- the first group's nodes have room
 pub here_needs : (old : Room) (word : List ℕ) (added : List Docs) (rest : List (List ℕ × List Docs)) → IsWithin (needs (nodes_for word ((word, added) ∷ rest))) old → IsWithin (needs added) old
 here_needs old word added rest within =

@@ -9,12 +9,15 @@ use Rattle.std.specs.BTreeMap.{is_at}
 use Rattle.std.specs.BTreeSet.{BTreeSet}
 use Rattle.std.specs.declared.cmp.Ordering.TheVariants.{Less}
 use Rattle.std.proofs.lemmas.Bool.{cases_Bool, true≢false}
-use Rattle.fts_ilist.specs.Node.{Docs, byte_order}
+use Rattle.fts_words.specs.Order.{byte_order}
+use Rattle.fts_ilist.specs.Node.{Docs}
 use Rattle.fts_ilist.specs.NodeList.{NodeState}
-use Rattle.fts_aux.specs.Table.{Entries, nodes_in, find, is_key, no_list, nodes_at, seen, filled, front, IsNext, IsLast, IsListing, IsListed}
+use Rattle.fts_aux.specs.Table.{Entries, nodes_in, find, is_key, no_list, nodes_at, seen, filled, IsNext, IsLast, IsListing, IsListed}
+use Rattle.fts_ilist.specs.Front.{front}
 use Rattle.fts_aux.proofs.Finds.{not_true}
 use Rattle.fts_aux.proofs.Ordered.{Ascends, AllBehind, same_word, is_behind, next_of, last_of_all}
-use Rattle.fts_aux.proofs.Prefixed.{is_from, listing_of}
+use Rattle.fts_aux.proofs.Prefixed.{listing_of}
+use Rattle.fts_ilist.proofs.Fronts.{is_from}
 
 behind_seen : (t : Entries) (w : List ℕ) (ws : List (List ℕ)) → AllByRecursion (λ y. byte_order w y ≡ Less) ws → AllBehind w (seen t ws)
 behind_seen t w [] h = tt
@@ -90,7 +93,7 @@ module _ (t : Entries) (order : BTreeSet (List ℕ)) (listed : IsListed t order)
   last_seen is q less = sym (seen_all t order listed q) ∙ last_of_all w (seen t order.keys) (ascends_seen t order.keys ordered) (filled (seen t r)) part_seen is q less
 
 pub listing_seen : (t : Entries) (order : BTreeSet (List ℕ)) (p : List ℕ) (r : List (List ℕ)) (l : List (List ℕ × List Docs)) → IsListed t order → IsStrictlySortedBy byte_order order.keys
-    → r ≡ filter (is_from p) order.keys → l ≡ filled (front p (seen t r)) → IsListing (nodes_in t) p l
+    → r ≡ filter (is_from p) order.keys → l ≡ filled (front (λ e. e.0) p (seen t r)) → IsListing (nodes_in t) p l
 listing_seen t order p r l listed ordered part is =
     listing_of p (seen t r) (seen t order.keys) (nodes_in t) l (ascends_seen t order.keys ordered) (seen_all t order listed)
     (ap (seen t) part ∙ seen-filter t (is_from p) order.keys) is

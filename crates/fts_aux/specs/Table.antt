@@ -1,9 +1,9 @@
 -- One table of words.
-use Rattle.std.specs.Prelude.{◌≡◌, ◌≢◌, ℕ, ◌+◌, ◌≤◌, Bool, true, false, cond, if◌then◌else◌, nat_eq, List, [], ◌∷◌}
+use Rattle.std.specs.Prelude.{◌≡◌, ◌≢◌, ℕ, ◌+◌, ◌≤◌, Bool, true, false, cond, if◌then◌else◌, List, [], ◌∷◌}
 use Rattle.std.specs.Prelude.{length, ◌⊎◌, ◌++◌}
 use Rattle.std.specs.Prelude.{Option, Some, None, is_some}
 use Rattle.std.specs.Global.{Vec}
-use Rattle.std.specs.List.{All, AllByRecursion, starts_with, list_any, slice_get}
+use Rattle.std.specs.List.{All, AllByRecursion, list_any, slice_get}
 use Rattle.std.specs.List.Sorted.{IsStrictlySortedBy}
 use Rattle.std.specs.Option.{unwrap_or}
 use Rattle.std.specs.Ordering.{is_gt}
@@ -12,7 +12,8 @@ use Rattle.std.specs.Map.{keys_of, lookup}
 use Rattle.std.specs.BTreeMap.{is_at}
 use Rattle.std.specs.BTreeSet.{BTreeSet, contains}
 use Rattle.std.specs.declared.cmp.Ordering.TheVariants.{Less}
-use Rattle.fts_ilist.specs.Node.{Docs, byte_order}
+use Rattle.fts_ilist.specs.Node.{Docs}
+use Rattle.fts_words.specs.Order.{byte_order, begins_with}
 use Rattle.fts_ilist.specs.NodeList.{NodeState, nodes_size, with_nodes}
 
 -- what contracts see of a table: its words, each with its nodes and the room that is promised for more
@@ -80,15 +81,6 @@ abbrev pub seen : Entries → List (List ℕ) → List (List ℕ × List Docs)
 seen table [] = []
 seen table (w ∷ ws) = (w, nodes_in table w) ∷ seen table ws
 
--- whether a word begins with a prefix
-abbrev pub begins : List ℕ → List ℕ → Bool
-begins prefix word = starts_with nat_eq word prefix
-
--- the entries at the front whose words begin with a prefix
-abbrev pub front : {X : Type 0} → List ℕ → List (List ℕ × X) → List (List ℕ × X)
-front prefix [] = []
-front prefix (e ∷ es) = cond (begins prefix e.0) (e ∷ front prefix es) []
-
 -- the nodes that a list of words with nodes has for a word
 abbrev pub nodes_at : List ℕ → List (List ℕ × List Docs) → List Docs
 nodes_at word es = unwrap_or (lookup (is_at (byte_order word)) es) []
@@ -97,7 +89,7 @@ nodes_at word es = unwrap_or (lookup (is_at (byte_order word)) es) []
 pub record IsListing (nodes : List ℕ → List Docs) (prefix : List ℕ) (listing : List (List ℕ × List Docs)) : Type 0 where
   pub ascending : IsStrictlySortedBy byte_order (keys_of listing)
   pub filled : All (λ e. e.1 ≢ []) listing
-  pub exact : (word : List ℕ) → nodes_at word listing ≡ cond (begins prefix word) (nodes word) []
+  pub exact : (word : List ℕ) → nodes_at word listing ≡ cond (begins_with prefix word) (nodes word) []
 
 -- the least word with nodes that stands behind another
 pub record IsNext (nodes : List ℕ → List Docs) (word next : List ℕ) : Type 0 where

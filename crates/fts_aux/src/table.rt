@@ -7,7 +7,8 @@ ghost use Rattle.std.specs.Option.{option_map};
 ghost use Rattle.std.specs.Map.{keys_of};
 ghost use Rattle.fts_ilist.specs.NodeList.{with_nodes, nodes_size, Takes};
 ghost use Rattle.fts_aux.specs.Table.{find, list_in, nodes_in, is_key, is_key_at, room_of, no_room};
-ghost use Rattle.fts_aux.specs.Table.{with_room, filled, filled_as, front, seen, IsListing, IsNext};
+ghost use Rattle.fts_ilist.specs.Front.{front};
+ghost use Rattle.fts_aux.specs.Table.{with_room, filled, filled_as, seen, IsListing, IsNext};
 ghost use Rattle.fts_aux.specs.Table.{IsLast, IsListed, Becomes, Enters, Writes, no_list, Lists};
 ghost use Rattle.fts_aux.specs.Table.{IsNotedBut, IsFilledBut, Drops, AddsRoom, IsWithin, needs};
 ghost use Rattle.fts_aux.specs.Table.{KeepsNodes};
@@ -306,7 +307,7 @@ fn filled_with_prefix<'a>(
     prefix: &[u8],
 ) -> Result<Vec<(&'a Word, NodeSlice<'a>)>, AllocError>
     ensures { IfOk result (λ found. map (λ p. (p.0.now, p.1)) found.items
-        ≡ filled (front prefix.now (seen words.now.entries rest.entry))) }
+        ≡ filled (front (λ e. e.0) prefix.now (seen words.now.entries rest.entry))) }
 {
     let mut rest = rest;
     let mut found = Vec::new(alloc);

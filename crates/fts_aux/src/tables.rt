@@ -4,7 +4,8 @@ ghost use Rattle.std.specs.Prelude.{slice_index, IsTrue, OnOk, IfOk, IfSome, IfN
 ghost use Rattle.std.specs.List.Sorted.{IsStrictlySortedBy};
 ghost use Rattle.std.specs.Map.{keys_of};
 ghost use Rattle.fts_types.specs.Table.{table_of};
-ghost use Rattle.fts_ilist.specs.Node.{NodesAfter, last_of, byte_order, nodes_for};
+ghost use Rattle.fts_ilist.specs.Node.{NodesAfter, last_of, nodes_for};
+ghost use Rattle.fts_words.specs.Order.{byte_order};
 ghost use Rattle.fts_aux.specs.Table.{needs, no_room, with_room, IsWithin, IsListing, IsNext};
 ghost use Rattle.fts_aux.specs.Table.{IsLast, IsWalked, IsStep};
 ghost use Rattle.fts_ilist.specs.Node.{Docs};

@@ -1,8 +1,8 @@
 -- The words of documents, one after another.
-use Rattle.std.proofs.Common.{◌≡◌, ◌≢◌, inl, inr, ⊎_elim, ◌↔◌, ℕ, ◌+◌, ◌*◌, ◌^◌, ◌<◌, ◌≤◌, Bool, true, false, cond, IsTrue, nat_lt, List, [], ◌∷◌, ◌++◌, length, map, sum_by, drop, take, refl, sym, ap, subst, ◌∙◌, append_assoc, zero-add, add-zero, slice_get, Option, Some, zero, suc, arith}
+use Rattle.std.proofs.Common.{◌≡◌, ◌≢◌, inl, inr, ⊎_elim, ◌↔◌, ℕ, ◌+◌, ◌*◌, ◌^◌, ◌<◌, ◌≤◌, Bool, true, false, cond, IsTrue, nat_lt, List, [], ◌∷◌, ◌++◌, length, map, sum_by, drop, take, refl, sym, ap, subst, ◌∙◌, append_assoc, zero-add, slice_get, Option, Some, zero, suc, arith}
 use Rattle.std.proofs.lemmas.Bool.{lt-ltb, le-ltb, cases_lt}
 use Rattle.std.proofs.lemmas.Cmp.{nat_list_cmp_total}
-use Rattle.std.proofs.lemmas.List.{append-nil, drop_more, take_more}
+use Rattle.std.proofs.lemmas.List.{drop_more, take_more}
 use Rattle.std.proofs.lemmas.Option.{slice_get_within, unwrap_or-slice_get}
 use Rattle.std.specs.Option.{unwrap_or}
 use Rattle.fts_ilist.proofs.Queues.{few_positions}
@@ -16,7 +16,7 @@ use Rattle.std.specs.declared.cmp.Ordering.TheVariants.{Less, Equal, Greater}
 use Rattle.fts_ilist.specs.Spelling.{Posting, ArePositions}
 use Rattle.fts_ilist.specs.Queue.{Queue, bytes_for, postings_behind}
 use Rattle.fts_cache.specs.Document.{WordPositions, Document, IsDocument, document_size, words_size, found_words, postings_from, bytes_in, IsBefore, BeginsBefore, EndsBefore, AreWords}
-use Rattle.fts_cache.specs.Words.{Entries, queue_in, Changes, Grows, KeepsNumbers, with_posting, IsAdded, IsPartlyAdded}
+use Rattle.fts_cache.specs.Words.{Entries, queue_in, Changes, Grows, KeepsNumbers, with_posting, IsPartlyAdded}
 use Rattle.fts_cache.proofs.Queues.{which_word, is_same}
 
 -- ---- one more word
@@ -137,16 +137,6 @@ positions_of_word ws i v h e =
     let are = (words_from ws i v h e).0 in
     (are, omega (arith, few_positions 0 v.positions (omega arith) are.1))
 
-pub begin_adding : (d : Document) (old : Entries) → ((w : List ℕ) → (queue_in old w).last < d.id) → (w : List ℕ) → IsPartlyAdded d d.words old old w
-begin_adding d old above w = record { postings = refl; last = omega (arith, above w); below = λ some. above w; room = refl }
-
-pub end_adding : (d : Document) (old new : Entries) (w : List ℕ) → IsPartlyAdded d [] old new w → IsAdded d old new w
-end_adding d old new w p = record {
-  postings = sym (append-nil (queue_in new w).postings) ∙ p.postings;
-  last = p.last;
-  room = p.room ∙ add-zero (queue_in old w).room;
-}
-
 pub add_one : (d : Document) (v : WordPositions) (vs : List WordPositions) (old now new : Entries) (w : List ℕ) → BeginsBefore v.word vs
     → IsPartlyAdded d (v ∷ vs) old now w → Changes now v.word (with_posting d.id v.positions (queue_in now v.word)) new → bytes_for (length v.positions) ≤ (queue_in now v.word).room → IsPartlyAdded d vs old new w
 add_one d v vs old now new w first p h fits =
@@ -234,10 +224,6 @@ ends_at word (w ∷ []) zero x e at =
 ends_at word (w ∷ []) (suc i) x e at = absurd (omega (arith, e))
 ends_at word (w ∷ (v ∷ vs)) zero x e at = absurd (omega (arith, e))
 ends_at word (w ∷ (v ∷ vs)) (suc i) x e at = ends_at word (v ∷ vs) i x (omega (arith, e)) at
-
-pub ends_nowhere : (word : List ℕ) (ws : List WordPositions) → length ws ≡ 0 → EndsBefore ws word
-ends_nowhere word [] e = tt
-ends_nowhere word (w ∷ ws) e = absurd (omega (arith, e))
 
 below : (o : Ordering) → (is_lt o ≡ true) ↔ (o ≡ Less)
 below Less = (λ e. refl, λ e. refl)

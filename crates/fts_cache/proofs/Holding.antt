@@ -1,26 +1,13 @@
 -- A cache of documents, as the calls change it.
-use Rattle.std.proofs.Common.{◌≡◌, ℕ, ◌<◌, ◌≤◌, Bool, cond, nat_lt, List, [], ◌∷◌, ◌++◌, map, refl, sym, ap, ◌∙◌, inl, inr, arith}
+use Rattle.std.proofs.Common.{◌≡◌, ℕ, ◌<◌, ◌≤◌, Bool, cond, nat_lt, List, [], ◌∷◌, ◌++◌, map, refl, sym, ap, ◌∙◌, inl, inr}
 use Rattle.std.specs.List.{flat_map}
 use Rattle.std.proofs.lemmas.Bool.{cases_lt, lt-ltb, le-ltb}
-use Rattle.std.proofs.lemmas.List.{append-nil, map-append}
 use Rattle.std.proofs.lemmas.List.Elements.{filter-append}
-use Rattle.std.proofs.lemmas.Grind.{flat_map-append}
-use Rattle.std.proofs.lemmas.List.Sums.{sum_by-cons}
-use Rattle.fts_cache.specs.Words.{Entries}
 use Rattle.fts_ilist.specs.Spelling.{Posting}
 use Rattle.fts_ilist.specs.Queue.{postings_behind}
-use Rattle.fts_cache.specs.Document.{WordPositions, Document, document_postings, document_size, bytes_in}
-use Rattle.fts_cache.specs.Cache.{CacheState, CachedDocument, cached, cached_behind, postings_of, HasRoom, AreNumbers}
-use Rattle.fts_cache.specs.Holds.{HoldsDocuments, documents_behind}
-
-pub holds_more : (c n : CacheState) (d : Document) → n.documents ≡ c.documents ++ cached d ∷ [] → ((w : List ℕ) → postings_of n w ≡ postings_of c w ++ document_postings w d)
-    → (ds : List Document) → HoldsDocuments c ds → HoldsDocuments n (ds ++ d ∷ [])
-holds_more c n d documents postings ds h = record {
-  documents = documents ∙ ap (λ (x : List CachedDocument). x ++ cached d ∷ []) h.documents ∙ sym (map-append cached ds (d ∷ []));
-  postings = λ w. postings w ∙ ap (λ (x : List Posting). x ++ document_postings w d) (h.postings w)
-      ∙ ap (λ (x : List Posting). flat_map (document_postings w) ds ++ x) (sym (append-nil (document_postings w d)))
-      ∙ sym (flat_map-append (document_postings w) ds (d ∷ []));
-}
+use Rattle.fts_cache.specs.Document.{WordPositions, Document, document_postings}
+use Rattle.fts_cache.specs.Cache.{CachedDocument, cached, cached_behind}
+use Rattle.fts_cache.specs.Holds.{documents_behind}
 
 none_stay : (doc id : ℕ) (vs : List WordPositions) → id ≤ doc → postings_behind doc (map (λ (v : WordPositions). let p : Posting = record { id = id; positions = v.positions } in p) vs) ≡ []
 none_stay doc id [] le = refl
@@ -62,23 +49,3 @@ documents_left doc (d ∷ ds) =
           ∙ rest
           ∙ sym (ap (λ (b : Bool). map cached (cond b (d ∷ documents_behind doc ds) (documents_behind doc ds))) (le-ltb doc d.id le))
     ]
-
-pub holds_less : (c n : CacheState) (doc : ℕ) → n.documents ≡ cached_behind doc c.documents → ((w : List ℕ) → postings_of n w ≡ postings_behind doc (postings_of c w))
-    → (ds : List Document) → HoldsDocuments c ds → HoldsDocuments n (documents_behind doc ds)
-holds_less c n doc documents postings ds h = record {
-  documents = documents ∙ ap (cached_behind doc) h.documents ∙ documents_left doc ds;
-  postings = λ w. postings w ∙ ap (postings_behind doc) (h.postings w) ∙ postings_left doc w ds;
-}
-
-first_numbers : (words : Entries) (d : Document) (ds : List Document) (ps : List (List ℕ)) → AreNumbers words (d ∷ ds) ps → AreNumbers words (d ∷ []) ps
-first_numbers words d ds [] h = h
-first_numbers words d ds (n ∷ ns) h = (h.0, tt)
-
--- where there is room for some documents, there is room for the first
-pub first_room : (c : CacheState) (d : Document) (ds : List Document) → HasRoom c (d ∷ ds) → HasRoom c (d ∷ [])
-first_room c d ds h = record {
-  room = λ w. omega (arith, h.room w, sum_by-cons (λ (x : Document). bytes_in w x.words) d ds, sum_by-cons (λ (x : Document). bytes_in w x.words) d []);
-  numbers = first_numbers c.words d ds c.promised h.numbers;
-  documents = omega (arith, h.documents);
-  size = omega (arith, h.size, sum_by-cons document_size d ds, sum_by-cons document_size d []);
-}

@@ -12,10 +12,6 @@ pub record IsDropping (doc : ℕ) (rest : List ℕ) (old now : Entries) : Type 0
   pub numbers : KeepsNumbers now old
   pub last : (w : List ℕ) → (queue_in now w).last ≤ (queue_in old w).last
 
-pub dropping_begins : (doc : ℕ) (numbers : List ℕ) (old : Entries) → ((w : List ℕ) (n : ℕ) → number_in old w ≡ Some n → has_number n numbers ≡ false → postings_behind doc (queue_in old w).postings ≡ (queue_in old w).postings)
-    → IsDropping doc numbers old old
-dropping_begins doc numbers old h = record { behind = λ w. refl; clean = h; numbers = λ w n e. e; last = λ w. omega arith }
-
 neither : (a b : Bool) → a ≡ false → b ≡ false → (a || b) ≡ false
 neither true b e f = absurd cc
 neither false b e f = f

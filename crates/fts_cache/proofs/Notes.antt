@@ -7,7 +7,7 @@ use Rattle.fts_ilist.specs.Queue.{Queue, postings_behind}
 use Rattle.fts_cache.specs.declared.cache.Cached.{Cached}
 use Rattle.fts_cache.specs.Document.{WordPositions, Document, document_postings, found_words}
 use Rattle.fts_cache.specs.Cache.{Ids, IdsAscend, BeginsAbove}
-use Rattle.fts_cache.specs.Words.{Entries, number_in, queue_in, has_number, AreNumbersOf, IsLess, Grows, KeepsNumbers, postings_until}
+use Rattle.fts_cache.specs.Words.{Entries, number_in, queue_in, has_number, AreNumbersOf, KeepsNumbers, postings_until}
 use Rattle.fts_cache.specs.Kept.{kept, notes, AreNoted, NoteWords, NotesUntil}
 use Rattle.fts_cache.proofs.Queues.{which_word}
 use Rattle.fts_cache.proofs.Table.{which_number, some_is, queue_of_none}
@@ -165,18 +165,6 @@ rest_above words doc ds above ids h w = by (number_in words w) refl
         all_above n doc i.0 (queue_in words w).postings ds i.1 (h w n e)
 
 -- ---- words are entered or let go of
-
-pub note_less : (old new : Entries) (ds : List Cached) → IsLess old new → NoteWords old ds → NoteWords new ds
-note_less old new ds l h w n e = subst (λ (ps : List Posting). AreNoted n ps ds) (sym (l.postings w)) (h w n (l.numbers w n e))
-
-pub note_more : (old new : Entries) (ds : List Cached) → Grows old new → NoteWords old ds → NoteWords new ds
-note_more old new ds g h w n e = by (number_in old w) refl
-  where
-    by : (o : Option ℕ) → number_in old w ≡ o → AreNoted n (queue_in new w).postings ds
-    by None f = subst (λ (ps : List Posting). AreNoted n ps ds) (sym (g.postings w ∙ none_in old w f)) tt
-    by (Some m) f =
-        let same : Some m ≡ Some n = sym (g.numbers w m f) ∙ e in
-        subst (λ (ps : List Posting). AreNoted n ps ds) (sym (g.postings w)) (h w n (f ∙ same))
 
 -- ---- the documents up to an id
 

@@ -45,9 +45,6 @@ promised_numbers es (d ∷ ds) (n ∷ ns) h = (h.0, promised_numbers es ds ns h.
 pub same_numbers : (old new : Entries) → new.numbers ≡ old.numbers → KeepsNumbers old new
 same_numbers old new e w n f = ap (λ ns. number_in (record { numbers = ns; slots = old.slots }) w) e ∙ f
 
-pub grows_not : (old : Entries) → Grows old old
-grows_not old = record { numbers = λ w n e. e; postings = λ w. refl; last = λ w. refl }
-
 pub grows_again : (old now new : Entries) → Grows old now → Grows now new → Grows old new
 grows_again old now new a b = record {
   numbers = λ w n e. b.numbers w n (a.numbers w n e);

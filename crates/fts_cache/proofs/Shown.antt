@@ -2,11 +2,11 @@
 use Rattle.std.proofs.Common.{◌≡◌, ◌≢◌, ◌⊎◌, inl, inr, ⊎_elim, ◌↔◌, ℕ, suc, ◌<◌, ◌≤◌, Bool, true, false, cond, ◌&&◌, ◌||◌, nat_eq, nat_le, nat_lt, List, [], ◌∷◌, ◌++◌, length, map, get_or, Option, Some, None, refl, sym, ap, subst, ◌∙◌, arith}
 use Rattle.std.specs.Borrow.{Bor}
 use Rattle.std.specs.Global.{Vec}
-use Rattle.std.specs.Cmp.Lexicographic.{slice_cmp}
+use Rattle.fts_words.specs.Order.{byte_order}
 use Rattle.std.specs.List.{IsDistinct, cons_option, list_any, AllByRecursion}
 use Rattle.std.specs.List.Sorted.{IsSortedBy, IsStrictlySortedBy, IsPermutation}
 use Rattle.std.specs.Option.{option_to_list}
-use Rattle.std.specs.Ordering.{nat_cmp, is_lt, is_eq, ordering_reverse}
+use Rattle.std.specs.Ordering.{is_lt, is_eq, ordering_reverse}
 use Rattle.std.specs.declared.cmp.Ordering.{Ordering}
 use Rattle.std.specs.declared.cmp.Ordering.TheVariants.{Less, Equal, Greater}
 use Rattle.std.specs.Str.{bytes_eq}
@@ -64,25 +64,25 @@ leaves_by_first doc id q after has = by q.postings after has
 
 -- ---- in their order
 
-less_from : (x y : List ℕ) → is_lt (slice_cmp nat_cmp y x) ≡ false → bytes_eq x y ≡ false → slice_cmp nat_cmp x y ≡ Less
-less_from x y low differs = by (slice_cmp nat_cmp x y) refl
+less_from : (x y : List ℕ) → is_lt (byte_order y x) ≡ false → bytes_eq x y ≡ false → byte_order x y ≡ Less
+less_from x y low differs = by (byte_order x y) refl
   where
-    by : (o : Ordering) → slice_cmp nat_cmp x y ≡ o → o ≡ Less
+    by : (o : Ordering) → byte_order x y ≡ o → o ≡ Less
     by Less e = refl
     by Equal e = absurd (let t : true ≡ false = ap is_eq (sym e) ∙ is_eq-slice_cmp x y ∙ differs in cc)
     by Greater e = absurd (
-        let turned : slice_cmp nat_cmp y x ≡ Less = nat_list_cmp_total.antisymm y x ∙ ap ordering_reverse e in
+        let turned : byte_order y x ≡ Less = nat_list_cmp_total.antisymm y x ∙ ap ordering_reverse e in
         let t : true ≡ false = ap is_lt (sym turned) ∙ low in
         cc)
 
-head_strict : (x : List ℕ) (ws : List (Bor (List ℕ))) → ((j : ℕ) (d : Bor (List ℕ)) → j < length ws → is_lt (slice_cmp nat_cmp (get_or ws j d).now x) ≡ false)
-    → AllByRecursion (λ (y : List ℕ). bytes_eq x y ≡ false) (map (λ (w : Bor (List ℕ)). w.now) ws) → AllByRecursion (λ (y : List ℕ). slice_cmp nat_cmp x y ≡ Less) (map (λ (w : Bor (List ℕ)). w.now) ws)
+head_strict : (x : List ℕ) (ws : List (Bor (List ℕ))) → ((j : ℕ) (d : Bor (List ℕ)) → j < length ws → is_lt (byte_order (get_or ws j d).now x) ≡ false)
+    → AllByRecursion (λ (y : List ℕ). bytes_eq x y ≡ false) (map (λ (w : Bor (List ℕ)). w.now) ws) → AllByRecursion (λ (y : List ℕ). byte_order x y ≡ Less) (map (λ (w : Bor (List ℕ)). w.now) ws)
 head_strict x [] far differ = tt
 head_strict x (w ∷ ws) far differ =
     (less_from x w.now (far 0 w (omega arith)) differ.0, head_strict x ws (λ j d lt. far (suc j) d (omega (arith, lt))) differ.1)
 
-all_strict : (ws : List (Bor (List ℕ))) → ((i j : ℕ) (d : Bor (List ℕ)) → i ≤ j → j < length ws → is_lt (slice_cmp nat_cmp (get_or ws j d).now (get_or ws i d).now) ≡ false)
-    → IsDistinct bytes_eq (map (λ (w : Bor (List ℕ)). w.now) ws) → IsStrictlySortedBy (slice_cmp nat_cmp) (map (λ (w : Bor (List ℕ)). w.now) ws)
+all_strict : (ws : List (Bor (List ℕ))) → ((i j : ℕ) (d : Bor (List ℕ)) → i ≤ j → j < length ws → is_lt (byte_order (get_or ws j d).now (get_or ws i d).now) ≡ false)
+    → IsDistinct bytes_eq (map (λ (w : Bor (List ℕ)). w.now) ws) → IsStrictlySortedBy byte_order (map (λ (w : Bor (List ℕ)). w.now) ws)
 unfolding IsDistinct IsStrictlySortedBy
 all_strict [] far u = tt
 all_strict (w ∷ ws) far u =
@@ -100,11 +100,11 @@ flips x y =
     (which_word x y)
 
 pub sorted_words : (found sorted : List (Bor (List ℕ))) → IsDistinct bytes_eq (map (λ (w : Bor (List ℕ)). w.now) found)
-    → IsPermutation found sorted → IsSortedBy (λ (x y : Bor (List ℕ)). is_lt (slice_cmp nat_cmp x.now y.now)) sorted → AscendByBytes sorted
+    → IsPermutation found sorted → IsSortedBy (λ (x y : Bor (List ℕ)). is_lt (byte_order x.now y.now)) sorted → AscendByBytes sorted
 sorted_words found sorted differ moved up =
     let word : Bor (List ℕ) → List ℕ = λ w. w.now in
     all_strict sorted
-    (λ i j d le lt. sorted_far (λ (x y : Bor (List ℕ)). is_lt (slice_cmp nat_cmp x.now y.now)) (ranks_by nat_list_cmp_total word) sorted up i j d le lt)
+    (λ i j d le lt. sorted_far (λ (x y : Bor (List ℕ)). is_lt (byte_order x.now y.now)) (ranks_by nat_list_cmp_total word) sorted up i j d le lt)
     (IsDistinct-IsPermutation bytes_eq flips (map word found) (map word sorted) (IsPermutation-map word found sorted moved) differ)
 
 among_sorted : (found sorted : List (Bor (List ℕ))) → IsPermutation found sorted → (w : List ℕ) → list_any (bytes_eq w) (map (λ (x : Bor (List ℕ)). x.now) sorted) ≡ list_any (bytes_eq w) (map (λ (x : Bor (List ℕ)). x.now) found)

@@ -1,13 +1,13 @@
 -- The table of words: each by its number, as calls change it.
-use Rattle.std.proofs.Common.{◌≡◌, ◌≢◌, ◌⊎◌, inl, inr, ⊎_elim, ℕ, ◌≤◌, length, Bool, true, false, cond, ◌&&◌, nat_eq, List, [], ◌∷◌, Option, Some, None, slice_set, Result, Ok, Err, OnOk, OnErr, ◌<◌, zero, suc, refl, sym, ap, ◌∙◌, arith}
-use Rattle.std.proofs.lemmas.List.{get_or-set_same, get_or-set_other}
+use Rattle.std.proofs.Common.{◌≡◌, ◌≢◌, ◌⊎◌, inl, inr, ⊎_elim, ℕ, ◌≤◌, length, Bool, true, false, cond, ◌&&◌, nat_eq, List, [], ◌∷◌, Option, Some, None, slice_set, ◌<◌, refl, sym, ap, ◌∙◌, arith}
+use Rattle.std.proofs.lemmas.List.{get_or-set_same}
 use Rattle.std.specs.Global.{Vec}
 use Rattle.std.specs.Map.{lookup, KeepsOthers}
-use Rattle.std.specs.Option.{unwrap_or, option_map, option_map_or}
+use Rattle.std.specs.Option.{unwrap_or, option_map}
 use Rattle.std.specs.Str.{bytes_eq}
 use Rattle.fts_ilist.specs.Queue.{Queue}
 use Rattle.fts_cache.specs.declared.words.CachedWord.{CachedWord}
-use Rattle.fts_cache.specs.Words.{Entries, Slots, slot_in, number_in, no_queue, queue_at, queue_in, is_spent, is_spent_at, IsTable, Alters, with_queue, Changes, Stays, Enters, IsLess, LetsGo, IsDropped, without}
+use Rattle.fts_cache.specs.Words.{Entries, Slots, slot_in, number_in, no_queue, queue_at, queue_in, is_spent, IsTable, Alters, with_queue, Stays, Enters, IsLess, LetsGo, IsDropped, without}
 use Rattle.fts_cache.proofs.Queues.{which_word, is_same, same_word}
 
 pub which_number : (m n : ℕ) → ((nat_eq m n ≡ true) × (m ≡ n)) ⊎ ((nat_eq m n ≡ false) × (m ≢ n))
@@ -135,11 +135,6 @@ altered n change numbers old new t h =
         queue_of_number (record { numbers = numbers; slots = new }) w m f.0 e (at_others n change old new m (λ (same : m ≡ n). differs (e ∙ ap Some same)) h ∙ f.1)
         ∙ sym (queue_of_number (record { numbers = numbers; slots = old }) w m f.0 e f.1)
 
-pub altered_either : {X E : Type 0} (n : ℕ) (change other : Queue → Queue) (numbers : List (Vec ℕ × ℕ)) (old new : Slots) (r : Result X E) → IsTable (record { numbers = numbers; slots = old })
-    → OnOk r (Alters n change old new) → OnErr r (Alters n other old new) → IsTable (record { numbers = numbers; slots = new })
-altered_either n change other numbers old new (Ok x) t a b = (altered n change numbers old new t a).table
-altered_either n change other numbers old new (Err e) t a b = (altered n other numbers old new t b).table
-
 -- two words have no number in common
 pub one_word : (es : Entries) (v w : List ℕ) (n : ℕ) → IsTable es → number_in es v ≡ Some n → number_in es w ≡ Some n → v ≡ w
 one_word es v w n t e f =
@@ -147,17 +142,6 @@ one_word es v w n t e f =
     let h = t.found w n f in
     let same : g.0 ≡ h.0 = some_is g.0 h.0 (sym g.1 ∙ h.1) in
     sym g.2 ∙ ap (λ (s : CachedWord). s.word) same ∙ h.2
-
-pub altered_changes : (n : ℕ) (change : Queue → Queue) (old new : Entries) (word : List ℕ) → IsTable old → IsAltered n change old new → number_in old word ≡ Some n → Changes old word (change (queue_in old word)) new
-altered_changes n change old new word t a e w =
-    ⊎_elim
-    (λ (h : (bytes_eq w word ≡ true) × (w ≡ word)).
-    a.here w (ap (number_in old) h.1 ∙ e) ∙ ap (λ (x : List ℕ). change (queue_in old x)) h.1
-    ∙ ap (λ (b : Bool). cond b (change (queue_in old word)) (queue_in old w)) (sym h.0))
-    (λ (h : (bytes_eq w word ≡ false) × (w ≢ word)).
-    a.others w (λ (f : number_in old w ≡ Some n). h.1 (one_word old w word n t f e))
-    ∙ ap (λ (b : Bool). cond b (change (queue_in old word)) (queue_in old w)) (sym h.0))
-    (which_word w word)
 
 pub altered_not : (n : ℕ) (old new : Entries) → IsAltered n (λ q. q) old new → Stays old new
 altered_not n old new a w =
@@ -179,26 +163,11 @@ spent_parts q e = by (nat_eq (length q.postings) 0) refl e
     by true f g = (nothing q.postings f, grind arith)
     by false f g = absurd (let never : false ≡ true = g in cc)
 
-pub unspent : (es : Entries) (n : ℕ) (w : List ℕ) → IsTable es → is_spent_at es.slots n ≡ false → number_in es w ≡ Some n → is_spent (queue_in es w) ≡ false
-unspent es n w t none e =
-    let f = t.found w n e in
-    ap is_spent (queue_of_number es w n f.0 e f.1)
-    ∙ sym (ap (λ (o : Option CachedWord). option_map_or (λ (s : CachedWord). is_spent s.queue) o false) f.1)
-    ∙ none
-
 -- ---- a word is let go of
 
 pub record LeavesLess (n : ℕ) (old new : Entries) : Type 0 where
   pub table : IsTable new
   pub less : LetsGo n old new
-
-pub lets_none : (n : ℕ) (old : Entries) → IsTable old → is_spent_at old.slots n ≡ false → LetsGo n old old
-lets_none n old t none = record {
-  less = record { numbers = λ w m e. e; postings = λ w. refl; last = λ w. omega arith };
-  room = λ w. refl;
-  others = λ w e. refl;
-  used = λ w e. unspent old n w t none e;
-}
 
 pub less_not : (old : Entries) → IsLess old old
 less_not old = record { numbers = λ w n e. e; postings = λ w. refl; last = λ w. omega arith }
@@ -385,40 +354,5 @@ entered old new word n s t absent is_word empty free at others numbers = record 
         (λ (h : (bytes_eq w word ≡ false) × (w ≢ word)). later w (there w h.0) (number_in old w) refl)
         (which_word w word)
 
--- what is written through a reference to a slot
-pub alters : (n : ℕ) (change : Queue → Queue) (old new : Slots) (s : CachedWord) → slot_in old n ≡ Some s → new ≡ slice_set old n (Some (with_queue change s)) → Alters n change old new
-alters n change old new s at e m =
-    ap (λ (x : Slots). slot_in x m) e
-    ∙ ⊎_elim
-    (λ (h : (nat_eq m n ≡ true) × (m ≡ n)).
-    ap (slot_in (slice_set old n (Some (with_queue change s)))) h.1
-    ∙ set_here old n (Some (with_queue change s)) (within old n s at)
-    ∙ sym (ap (option_map (with_queue change)) (ap (slot_in old) h.1 ∙ at))
-    ∙ sym (ap (λ (b : Bool). cond b (option_map (with_queue change) (slot_in old m)) (slot_in old m)) h.0))
-    (λ (h : (nat_eq m n ≡ false) × (m ≢ n)).
-    set_others old n m (Some (with_queue change s)) h.1
-    ∙ sym (ap (λ (b : Bool). cond b (option_map (with_queue change) (slot_in old m)) (slot_in old m)) h.0))
-    (which_number m n)
-  where
-    within : (xs : Slots) (i : ℕ) (x : CachedWord) → slot_in xs i ≡ Some x → i < length xs
-    within [] i x f = none_is_not x _ f
-    within (y ∷ ys) zero x f = omega arith
-    within (y ∷ ys) (suc i) x f = omega (arith, within ys i x f)
-
     set_here : (xs : Slots) (i : ℕ) (o : Option CachedWord) → i < length xs → slot_in (slice_set xs i o) i ≡ o
     set_here xs i o lt = get_or-set_same xs i o None lt
-
-    set_others : (xs : Slots) (i j : ℕ) (o : Option CachedWord) → j ≢ i → slot_in (slice_set xs i o) j ≡ slot_in xs j
-    set_others xs i j o differs = get_or-set_other xs i j o None differs
-
--- a number without a word has no queue to change
-pub alters_none : (n : ℕ) (change : Queue → Queue) (old new : Slots) → slot_in old n ≡ None → new ≡ old → Alters n change old new
-alters_none n change old new at e m =
-    ap (λ (x : Slots). slot_in x m) e
-    ∙ ⊎_elim
-    (λ (h : (nat_eq m n ≡ true) × (m ≡ n)).
-    ap (slot_in old) h.1 ∙ at ∙ sym (ap (option_map (with_queue change)) (ap (slot_in old) h.1 ∙ at))
-    ∙ sym (ap (λ (b : Bool). cond b (option_map (with_queue change) (slot_in old m)) (slot_in old m)) h.0))
-    (λ (h : (nat_eq m n ≡ false) × (m ≢ n)).
-    sym (ap (λ (b : Bool). cond b (option_map (with_queue change) (slot_in old m)) (slot_in old m)) h.0))
-    (which_number m n)

@@ -7,7 +7,7 @@ use Rattle.std.specs.BTreeSet.{BTreeSet, contains}
 use Rattle.std.specs.Global.{Vec}
 use Rattle.std.specs.Map.{lookup}
 use Rattle.std.specs.Str.{bytes_eq}
-use Rattle.fts_ilist.specs.Node.{byte_order}
+use Rattle.fts_words.specs.Order.{byte_order}
 use Rattle.fts_ilist.specs.Queue.{Queue, bytes_for}
 use Rattle.fts_ilist.specs.Spelling.{Posting}
 use Rattle.fts_cache.specs.declared.words.CachedWord.{CachedWord}

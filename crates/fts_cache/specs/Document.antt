@@ -1,7 +1,6 @@
 -- The words of a document: where each stands, and what they count.
 use Rattle.std.specs.Prelude.{◌≡◌, ℕ, ◌+◌, ◌*◌, ◌^◌, ◌<◌, List, [], ◌∷◌, length, map, filter, sum_by}
-use Rattle.std.specs.Cmp.Lexicographic.{slice_cmp}
-use Rattle.std.specs.Ordering.{nat_cmp}
+use Rattle.fts_words.specs.Order.{byte_order}
 use Rattle.std.specs.declared.cmp.Ordering.TheVariants.{Less}
 use Rattle.std.specs.Str.{bytes_eq}
 use Rattle.fts_ilist.specs.Spelling.{Posting, ArePositions}
@@ -46,7 +45,7 @@ bytes_of word documents = sum_by (λ d. bytes_in word d.words) documents
 
 -- v comes before w in the order of bytes
 abbrev pub IsBefore : List ℕ → List ℕ → Type 0
-IsBefore v w = slice_cmp nat_cmp v w ≡ Less
+IsBefore v w = byte_order v w ≡ Less
 
 -- the word comes before each of these
 abbrev pub BeginsBefore : List ℕ → List WordPositions → Type 0

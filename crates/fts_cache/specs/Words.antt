@@ -3,13 +3,13 @@ use Rattle.std.specs.Prelude.{◌≡◌, ◌≢◌, ℕ, ◌+◌, ◌-◌, ◌^�
 use Rattle.std.specs.Prelude.{List, [], ◌∷◌, ◌++◌, length, if◌then◌else◌}
 use Rattle.std.specs.Prelude.{Option, Some, None, is_some, slice_index_or, filter_map, true, false}
 use Rattle.std.specs.Global.{Vec}
-use Rattle.std.specs.List.{starts_with, list_any}
+use Rattle.std.specs.List.{list_any}
 use Rattle.std.specs.BTreeSet.{BTreeSet, contains}
 use Rattle.std.specs.Map.{lookup}
 use Rattle.std.specs.Option.{unwrap_or, option_map, option_map_or}
 use Rattle.std.specs.Str.{bytes_eq}
 use Rattle.fts_ilist.specs.Spelling.{Posting, ArePositions}
-use Rattle.fts_ilist.specs.Node.{byte_order}
+use Rattle.fts_words.specs.Order.{byte_order}
 use Rattle.fts_ilist.specs.Queue.{Queue, bytes_for, postings_behind}
 use Rattle.fts_cache.specs.Document.{WordPositions, Document, postings_from, document_postings, bytes_in}
 use Rattle.fts_cache.specs.declared.words.CachedWord.{CachedWord}
@@ -198,11 +198,6 @@ leaving_word doc (Some s) = if leaves doc s.queue then Some s.word else None
 -- those of these words that have a document up to this id
 abbrev pub leaving_words : Slots → ℕ → List ℕ → List (List ℕ)
 leaving_words slots doc numbers = filter_map (λ n. leaving_word doc (slot_in slots n)) numbers
-
--- of words in byte order, the first that begin so
-abbrev pub front : List ℕ → List (List ℕ) → List (List ℕ)
-front prefix [] = []
-front prefix (w ∷ ws) = if starts_with nat_eq w prefix then w ∷ front prefix ws else []
 
 -- whether a document has the word
 abbrev pub has_documents : Entries → List ℕ → Bool

@@ -12,7 +12,8 @@ ghost use Rattle.fts_cache.specs.Cache.{IdsAscend, room_of, room_left, HoldsNoOt
 ghost use Rattle.fts_cache.specs.Words.{queue_in, postings_until};
 ghost use Rattle.fts_cache.specs.Kept.{kept, NoteWords, NotesUntil};
 ghost use Rattle.fts_cache.specs.Sorted.{IsAmong, AscendByBytes};
-ghost use Rattle.std.specs.List.{starts_with, IsDistinct};
+ghost use Rattle.std.specs.List.{IsDistinct};
+ghost use Rattle.fts_words.specs.Order.{begins_with};
 
 use crate::adding::{add_document, drop_words, release_promised, reserve_documents};
 use crate::document::DocWords;
@@ -242,7 +243,7 @@ impl Cache {
     pub fn prefix(&self, prefix: &[u8]) -> Result<Vec<&[u8]>, AllocError>
         ensures words { IfOk result
             (λ words. (w : List ℕ) → IsAmong w words.items
-            ↔ (IsTrue (starts_with nat_eq w prefix.now) × (postings_of self.now w ≢ []))) }
+            ↔ (IsTrue (begins_with prefix.now w) × (postings_of self.now w ≢ []))) }
         ensures ascending { IfOk result (λ words. AscendByBytes words.items) }
     {
         self.words.prefix(prefix)

@@ -3,7 +3,7 @@ ghost use Rattle.std.specs.Prelude.{◌≡◌, ◌≢◌, ◌+◌, ◌-◌, ◌^
 ghost use Rattle.std.specs.Prelude.{List, ℕ, [], ◌∷◌, Some, length, map, IfOk, IfSome, OnOk};
 ghost use Rattle.std.specs.Prelude.{OnErr, IsTrue, true, nat_eq, if◌then◌else◌};
 ghost use Rattle.std.specs.Option.{option_map, option_to_list};
-ghost use Rattle.std.specs.List.{IsDistinct, starts_with};
+ghost use Rattle.std.specs.List.{IsDistinct};
 ghost use Rattle.std.specs.Str.{bytes_eq};
 ghost use Rattle.indexmap.specs.IndexMap.{IsUnique};
 ghost use Rattle.fts_cache.specs.Sorted.{IsAmong, AscendByBytes};
@@ -14,7 +14,9 @@ ghost use Rattle.fts_cache.specs.Words.{Alters, CanTake, Enters, Changes, Stays,
 ghost use Rattle.fts_cache.specs.Words.{LetsGo, GivesUp};
 ghost use Rattle.fts_cache.specs.Words.{IsDropped, with_more_room, without_room, with_posting};
 ghost use Rattle.fts_cache.specs.Words.{without, postings_until, has_number, leaves};
-ghost use Rattle.fts_cache.specs.Words.{leaving_word, leaving_words, front, has_documents};
+ghost use Rattle.fts_cache.specs.Words.{leaving_word, leaving_words, has_documents};
+ghost use Rattle.fts_ilist.specs.Front.{front};
+ghost use Rattle.fts_words.specs.Order.{begins_with};
 ghost use Rattle.fts_cache.specs.Words.{with_documents, is_spent, is_spent_at, IsUsedBut, IsListed};
 ghost use Rattle.fts_cache.specs.Words.{IsLess, AreKept};
 
@@ -228,7 +230,7 @@ fn shown_with_prefix<'a>(
     prefix: &[u8],
 ) -> Result<Vec<&'a [u8]>, AllocError>
     ensures { IfOk result (λ found. map (λ w. w.now) found.items
-        ≡ with_documents words.now (front prefix.now rest.entry)) }
+        ≡ with_documents words.now (front (λ w. w) prefix.now rest.entry)) }
 {
     let mut rest = rest;
     let mut found = Vec::new(words.allocator());
@@ -411,7 +413,7 @@ impl Words {
     pub fn prefix(&self, prefix: &[u8]) -> Result<Vec<&[u8]>, AllocError>
         ensures words { IfOk result
             (λ words. (w : List ℕ) → IsAmong w words.items
-            ↔ (IsTrue (starts_with nat_eq w prefix.now)
+            ↔ (IsTrue (begins_with prefix.now w)
             × ((queue_in self.now w).postings ≢ []))) }
         ensures ascending { IfOk result (λ words. AscendByBytes words.items) }
     {

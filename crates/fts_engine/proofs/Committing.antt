@@ -23,7 +23,7 @@ use Rattle.fts_log.specs.declared.frame.Framed.{Framed}
 use Rattle.fts_log.specs.declared.log.Log.{Log}
 use Rattle.fts_log.proofs.Bytes.{length-front-push}
 use Rattle.fts_rowcodec.specs.Payload.{commit_payload, settings_payload, IsWritten}
-use Rattle.fts_steps.specs.State.{State, payloads, rows_magic, end_after, with_commits, IsSound, IsDatabase}
+use Rattle.fts_steps.specs.State.{State, payloads, rows_magic, index_magic, end_after, with_commits, IsSound, IsRows}
 use Rattle.fts_steps.specs.Running.{Running}
 use Rattle.fts_steps.specs.Crash.{MayHold}
 use Rattle.fts_steps.specs.Step.{Answer, to_commit, to_find, committed, full, found, plain_answer, changes_of, is_disk_fault, MayAnswer}
@@ -35,7 +35,7 @@ use Rattle.fts_engine.specs.Refusing.{refusal_answer}
 use Rattle.fts_engine.specs.declared.engine.Engine.{Engine}
 use Rattle.fts_engine.specs.Bounds.{AreWithin}
 use Rattle.fts_engine.specs.Kept.{kept_settings, kept_rows, kept_limits}
-use Rattle.fts_engine.specs.Stands.{Keeps, OnDevice, engine_limits}
+use Rattle.fts_engine.specs.Stands.{Keeps, OnRows, OnIndex, engine_limits}
 use Rattle.fts_engine.proofs.Accepting.{accepted_more, accepted_fits, replay_accepted, AreAccepted-push}
 
 -- the entries of a state with one commit more
@@ -49,6 +49,7 @@ sound-push state commit after sound written ok = record {
   settings = sound.settings;
   written = All-push (IsWritten (length state.settings.columns)) state.commits commit sound.written written;
   accepted = AreAccepted-push no_rows state.commits commit sound.accepted (rw ok refl);
+  entries = sound.entries;
 }
 
 module _ (running : Running) (commit : Commit) (limits : Limits) (after : Rows) (going : running.stopped ≡ None)
@@ -64,36 +65,47 @@ module _ (running : Running) (commit : Commit) (limits : Limits) (after : Rows) 
   pub is_committed : (limits.log_bytes < end_after running.state commit → ⊥) → plain_answer limits running (to_commit commit) ≡ committed (length running.state.commits + 1)
   is_committed within = answered false (false_from_ne_true _ (λ past. within (ltb-true limits.log_bytes _ past)))
 
-module _ {D : Type 0} {disk : Ghosts D} (state : State) (engine : Engine D disk) (keeps : Keeps state engine) (logged : StandsFor (payloads state) engine.log) where
-  -- the device reads as the database of the state
-  reads : IsDatabase state (disk.seen (device_of engine.log) 0)
-  reads = record { sound = keeps.sound; log = subst (λ (m : List ℕ). IsLog m (payloads state) (disk.seen (device_of engine.log) 0)) keeps.magic logged.is_log }
+module _ {D : Type 0} {disk : Ghosts D} (state : State) (log : Log D disk) (sound : IsSound state) (magic : magic_of log ≡ rows_magic) (logged : StandsFor (payloads state) log) where
+  -- the device reads as the rows log of the state
+  reads : IsRows state (disk.seen (device_of log) 0)
+  reads = record { sound = sound; log = subst (λ (m : List ℕ). IsLog m (payloads state) (disk.seen (device_of log) 0)) magic logged.is_log }
 
-  -- a crash leaves the database of the state
-  crashed : (c : Files) → disk.images (device_of engine.log) c → IsDatabase state (c 0)
-  crashed c may = subst (λ (file : List ℕ). IsDatabase state file) (sym (logged.durable c may)) reads
+  -- a crash leaves the rows log of the state
+  crashed : (c : Files) → disk.images (device_of log) c → IsRows state (c 0)
+  crashed c may = subst (λ (file : List ℕ). IsRows state file) (sym (logged.durable c may)) reads
 
--- a log with the entries of the state is the state's database on its device, whatever is in doubt
-pub on_device : {D : Type 0} {disk : Ghosts D} (running : Running) (engine : Engine D disk) → Keeps running.state engine → StandsFor (payloads running.state) engine.log
-    → OnDevice disk running (device_of engine.log)
-on_device running engine keeps logged = record {
-  reads = λ going. reads running.state engine keeps logged;
-  may_read = inl (reads running.state engine keeps logged);
-  crash = λ c may. inl (crashed running.state engine keeps logged c may);
+-- a log with the entries of the state is the state's rows log on its device, whatever is in doubt
+pub on_rows : {D : Type 0} {disk : Ghosts D} (running : Running) (log : Log D disk) → IsSound running.state → magic_of log ≡ rows_magic → StandsFor (payloads running.state) log
+    → OnRows disk running (device_of log)
+on_rows running log sound magic logged = record {
+  reads = λ going. reads running.state log sound magic logged;
+  may_read = inl (reads running.state log sound magic logged);
+  crash = λ c may. inl (crashed running.state log sound magic logged c may);
 }
 
-module _ {D : Type 0} {disk : Ghosts D} (state : State) (engine : Engine D disk) (keeps : Keeps state engine) (commit : Commit) where
+-- and so is the index log on its device
+pub on_index : {E : Type 0} {disk : Ghosts E} (running : Running) (log : Log E disk) → magic_of log ≡ index_magic → StandsFor running.state.entries log
+    → OnIndex disk running (device_of log)
+on_index {disk} running log magic logged = record {
+  reads = is_index;
+  crash = λ c may. subst (λ (file : List ℕ). IsLog index_magic running.state.entries file) (sym (logged.durable c may)) is_index;
+}
+  where
+    is_index : IsLog index_magic running.state.entries (disk.seen (device_of log) 0)
+    is_index = subst (λ (m : List ℕ). IsLog m running.state.entries (disk.seen (device_of log) 0)) magic logged.is_log
+
+module _ {D E : Type 0} {disk : Ghosts D} {disk' : Ghosts E} (state : State) (engine : Engine D E disk disk') (keeps : Keeps state engine) (commit : Commit) where
   -- the end that the log computes is the one that the state has
-  pub same_end : (framed : Framed) → payload_of framed ≡ commit_payload commit → log.end_after engine.log framed ≡ end_after state commit
+  pub same_end : (framed : Framed) → payload_of framed ≡ commit_payload commit → log.end_after engine.rows framed ≡ end_after state commit
   same_end framed payload =
-      let is = keeps.«end» in
+      let is = keeps.log.«end» in
       let long : length (payload_of framed) ≡ length (commit_payload commit) = ap length payload in
       let pushed = length-front-push rows_magic (payloads state) (commit_payload commit) in
       omega (arith, is, long, pushed)
 
   -- an end that is not past the log's limit is not past the engine's
   pub not_past : (framed : Framed) → payload_of framed ≡ commit_payload commit
-      → (limit_of engine.log < log.end_after engine.log framed → ⊥) → (engine_limits engine).log_bytes < end_after state commit → ⊥
+      → (limit_of engine.rows < log.end_after engine.rows framed → ⊥) → (engine_limits engine).log_bytes < end_after state commit → ⊥
   not_past framed payload within past =
       let same = same_end framed payload in
       let limit = keeps.limit in
@@ -116,18 +128,22 @@ module _ {D : Type 0} {disk : Ghosts D} (state : State) (engine : Engine D disk)
     sound_after = sound-push state commit after keeps.sound written accepted
 
     -- the engine after the commit keeps the state after it
-    pub keeps_after : (new : Engine D disk) → kept_settings new.kept ≡ kept_settings engine.kept → kept_rows new.kept ≡ after → kept_limits new.kept ≡ kept_limits engine.kept
-        → magic_of new.log ≡ magic_of engine.log → limit_of new.log ≡ limit_of engine.log → count_of new.log ≡ count_of engine.log + 1
-        → (framed : Framed) → payload_of framed ≡ commit_payload commit → end_of new.log ≡ log.end_after engine.log framed → Keeps (with_commits state (commit ∷ [])) new
-    keeps_after new settings kept limits magic limit count framed payload ended = record {
+    pub keeps_after : (new : Engine D E disk disk') → kept_settings new.kept ≡ kept_settings engine.kept → kept_rows new.kept ≡ after → kept_limits new.kept ≡ kept_limits engine.kept
+        → magic_of new.rows ≡ magic_of engine.rows → limit_of new.rows ≡ limit_of engine.rows → count_of new.rows ≡ count_of engine.rows + 1
+        → (framed : Framed) → payload_of framed ≡ commit_payload commit → end_of new.rows ≡ log.end_after engine.rows framed → new.index ≡ engine.index
+        → Keeps (with_commits state (commit ∷ [])) new
+    keeps_after new settings kept limits magic limit count framed payload ended index = record {
       sound = sound_after;
       settings = keeps.settings ∙ sym settings;
       rows = kept ∙ sym (replay_accepted state.commits commit after accepted);
       within = subst (λ (l : Limits). AreWithin standard_limits l) (sym limits) keeps.within;
-      count = omega (arith, count, keeps.count, length-append state.commits (commit ∷ []));
-      «end» = ended ∙ same_end framed payload ∙ ap (log_end rows_magic) (sym (payloads-push state commit));
+      log = record {
+        count = (let counted = keeps.log.count in omega (arith, count, counted, length-append state.commits (commit ∷ [])));
+        «end» = ended ∙ same_end framed payload ∙ ap (log_end rows_magic) (sym (payloads-push state commit));
+        magic = magic ∙ keeps.log.magic;
+      };
       limit = limit ∙ keeps.limit ∙ ap (λ (l : Limits). l.log_bytes) (sym limits);
-      magic = magic ∙ keeps.magic;
+      entries = ap (λ (l : Log E disk'). log.count_of l) index ∙ keeps.entries;
     }
 
     -- the entries of a log of the commit behind the state's are those of the state after it
@@ -135,38 +151,38 @@ module _ {D : Type 0} {disk : Ghosts D} (state : State) (engine : Engine D disk)
     logged_after new logged = subst (λ (entries : List (List ℕ)). StandsFor entries new) (sym (payloads-push state commit)) logged
 
     -- a crash that leaves the old entries or these and the commit's leaves the one database or the other
-    pub holds_either : (images : Images) (files c : Files) → IsBeforeOrAfter (magic_of engine.log) (payloads state) (commit_payload commit) images files c → MayHold state (commit ∷ []) c
+    pub holds_either : (images : Images) (files c : Files) → IsBeforeOrAfter (magic_of engine.rows) (payloads state) (commit_payload commit) images files c → MayHold state (commit ∷ []) c
     holds_either images files c (inl before) =
-        inl (record { sound = keeps.sound; log = subst (λ (m : List ℕ). IsLog m (payloads state) (c 0)) keeps.magic before.is_log })
+        inl (record { sound = keeps.sound; log = subst (λ (m : List ℕ). IsLog m (payloads state) (c 0)) keeps.log.magic before.is_log })
     holds_either images files c (inr behind) =
         inr (record {
           sound = sound_after;
           log = subst (λ (entries : List (List ℕ)). IsLog rows_magic entries (c 0)) (sym (payloads-push state commit))
-              (subst (λ (m : List ℕ). IsLog m (payloads state ++ commit_payload commit ∷ []) (c 0)) keeps.magic behind.is_log);
+              (subst (λ (m : List ℕ). IsLog m (payloads state ++ commit_payload commit ∷ []) (c 0)) keeps.log.magic behind.is_log);
         })
 
   -- an engine with the same rows and the same numbers of its log keeps the same state
-  pub keeps_still : (new : Engine D disk) → kept_settings new.kept ≡ kept_settings engine.kept → kept_rows new.kept ≡ kept_rows engine.kept → kept_limits new.kept ≡ kept_limits engine.kept
-      → magic_of new.log ≡ magic_of engine.log → limit_of new.log ≡ limit_of engine.log → count_of new.log ≡ count_of engine.log → end_of new.log ≡ end_of engine.log → Keeps state new
-  keeps_still new settings kept limits magic limit count ended = record {
+  pub keeps_still : (new : Engine D E disk disk') → kept_settings new.kept ≡ kept_settings engine.kept → kept_rows new.kept ≡ kept_rows engine.kept → kept_limits new.kept ≡ kept_limits engine.kept
+      → magic_of new.rows ≡ magic_of engine.rows → limit_of new.rows ≡ limit_of engine.rows → count_of new.rows ≡ count_of engine.rows → end_of new.rows ≡ end_of engine.rows → new.index ≡ engine.index
+      → Keeps state new
+  keeps_still new settings kept limits magic limit count ended index = record {
     sound = keeps.sound;
     settings = keeps.settings ∙ sym settings;
     rows = kept ∙ keeps.rows;
     within = subst (λ (l : Limits). AreWithin standard_limits l) (sym limits) keeps.within;
-    count = count ∙ keeps.count;
-    «end» = ended ∙ keeps.«end»;
+    log = record { count = count ∙ keeps.log.count; «end» = ended ∙ keeps.log.«end»; magic = magic ∙ keeps.log.magic };
     limit = limit ∙ keeps.limit ∙ ap (λ (l : Limits). l.log_bytes) (sym limits);
-    magic = magic ∙ keeps.magic;
+    entries = ap (λ (l : Log E disk'). log.count_of l) index ∙ keeps.entries;
   }
 
-  pub keeps_in : (state' : State) → state' ≡ state → (new : Engine D disk) → kept_settings new.kept ≡ kept_settings engine.kept → kept_rows new.kept ≡ kept_rows engine.kept
-      → kept_limits new.kept ≡ kept_limits engine.kept → new.log ≡ engine.log → Keeps state' new
-  keeps_in state' is new settings kept limits same =
-      subst (λ (s : State). Keeps s new) (sym is) (keeps_still new settings kept limits (ap magic_of same) (ap limit_of same) (ap log.count_of same) (ap end_of same))
+  pub keeps_in : (state' : State) → state' ≡ state → (new : Engine D E disk disk') → kept_settings new.kept ≡ kept_settings engine.kept → kept_rows new.kept ≡ kept_rows engine.kept
+      → kept_limits new.kept ≡ kept_limits engine.kept → new.rows ≡ engine.rows → new.index ≡ engine.index → Keeps state' new
+  keeps_in state' is new settings kept limits same index =
+      subst (λ (s : State). Keeps s new) (sym is) (keeps_still new settings kept limits (ap magic_of same) (ap limit_of same) (ap log.count_of same) (ap end_of same) index)
 
-module _ {D : Type 0} {disk : Ghosts D} (running : Running) (engine : Engine D disk) (keeps : Keeps running.state engine) (word : List ℕ) where
-  pub same_number : log.count_of engine.log - 1 ≡ length running.state.commits
-  same_number = let count = keeps.count in omega (arith)
+module _ {D E : Type 0} {disk : Ghosts D} {disk' : Ghosts E} (running : Running) (engine : Engine D E disk disk') (keeps : Keeps running.state engine) (word : List ℕ) where
+  pub same_number : log.count_of engine.rows - 1 ≡ length running.state.commits
+  same_number = let count = keeps.log.count in omega (arith)
 
   pub is_found : (number : ℕ) (docs : List ℕ) → number ≡ length running.state.commits → docs ≡ scan (rules_of (kept_settings engine.kept)) (kept_rows engine.kept).list (one_word word)
       → plain_answer (engine_limits engine) running (to_find word) ≡ found number docs

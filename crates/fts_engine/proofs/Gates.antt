@@ -1,13 +1,13 @@
--- What the bytes of a rows log are that was opened.
-use Rattle.std.proofs.Common.{◌≡◌, ℕ, ◌<◌, Bool, true, false, List, [], ◌∷◌, ◌++◌, refl, subst, sym, ap, ◌∙◌, length, inl, inr, arith}
+-- What the bytes of a log are that was opened.
+use Rattle.std.proofs.Common.{◌≡◌, ℕ, ◌<◌, Bool, true, false, List, [], ◌∷◌, ◌++◌, refl, subst, sym, ap, ◌∙◌, append_assoc, length, inl, inr, arith}
 use Rattle.std.specs.Prelude.{Result, Ok, Err, IfOk, IfErr}
 use Rattle.fts_log.specs.declared.found.Found.{Found}
-use Rattle.fts_log.specs.Record.{IsLog, IsBrokenBehind, IsDamagedAt, front}
+use Rattle.fts_log.specs.Record.{IsLog, IsBrokenBehind, IsDamagedAt, front, records, gate_at}
 use Rattle.fts_log.specs.Scan.{EndsAs, IsFoundIn}
 use Rattle.fts_log.proofs.Unique.{one_list, not_damaged}
-use Rattle.fts_steps.specs.State.{payloads, rows_magic, IsCreated}
-use Rattle.fts_steps.specs.Fault.{AreNoState, AreOfState, IsFaultAt}
-use Rattle.fts_engine.specs.Opening.{IsNoDatabase, IsDamaged}
+use Rattle.fts_steps.specs.State.{payloads, rows_magic, index_magic, IsCreated}
+use Rattle.fts_steps.specs.Fault.{AreNoState, AreOfState, IsFaultAt, IsIndexFaultAt}
+use Rattle.fts_engine.specs.Opening.{IsNoRows, IsDamaged}
 use Rattle.fts_engine.specs.Loading.{IsWrongEntry}
 
 -- a fact holds of each value
@@ -34,24 +34,24 @@ closed_not_created [] file none log created = log.closed (subst (λ (f : List �
 closed_not_created (payload ∷ entries) file none log created = absurd (omega (arith, none))
 
 -- a file that is damaged is no database
-pub damaged_no_database : (at : ℕ) (file : List ℕ) → IsDamagedAt rows_magic at file → IsNoDatabase file
-damaged_no_database at file damaged state database = not_damaged rows_magic (payloads state) file at database.log damaged
+pub damaged_no_rows : (at : ℕ) (file : List ℕ) → IsDamagedAt rows_magic at file → IsNoRows file
+damaged_no_rows at file damaged state database = not_damaged rows_magic (payloads state) file at database.log damaged
 
 -- what is found at a place is no database
-pub broken_no_database : (entries : List (List ℕ)) (at : ℕ) (file : List ℕ) → IsBrokenBehind rows_magic entries at file → IsNoDatabase file
-broken_no_database entries at file broken = damaged_no_database at file (inr (entries, broken))
+pub broken_no_rows : (entries : List (List ℕ)) (at : ℕ) (file : List ℕ) → IsBrokenBehind rows_magic entries at file → IsNoRows file
+broken_no_rows entries at file broken = damaged_no_rows at file (inr (entries, broken))
 
 -- records whose entries are no sound state's, however they end, are no database
-pub found_no_database : (entries : List (List ℕ)) (file : List ℕ) (found : Found) → IsFoundIn rows_magic entries file found → AreNoState entries → IsNoDatabase file
-found_no_database entries file found is none = by_end found.is_whole is.«end»
+pub found_no_rows : (entries : List (List ℕ)) (file : List ℕ) (found : Found) → IsFoundIn rows_magic entries file found → AreNoState entries → IsNoRows file
+found_no_rows entries file found is none = by_end found.is_whole is.«end»
   where
-    by_end : (whole : Bool) → EndsAs whole is.rest → IsNoDatabase file
+    by_end : (whole : Bool) → EndsAs whole is.rest → IsNoRows file
     by_end true ends = λ state database.
         let log : IsLog rows_magic entries file =
         record { gate = ends.0; rest = ends.1; closed = ends.2; bytes = is.bytes ∙ ap (λ (rest : List ℕ). front rows_magic entries ++ rest) ends.3; fit = is.fit } in
         none state database.sound (one_list rows_magic (payloads state) entries file database.log log)
     by_end false broken =
-        broken_no_database entries (length (front rows_magic entries)) file (record { rest = is.rest; fit = is.fit; bytes = is.bytes; place = refl; broken = broken })
+        broken_no_rows entries (length (front rows_magic entries)) file (record { rest = is.rest; fit = is.fit; bytes = is.bytes; place = refl; broken = broken })
 
 -- no record, and neither a closed gate nor a whole record: that place is at fault
 pub none_torn : (entries : List (List ℕ)) (at : ℕ) (file : List ℕ) → length entries ≡ 0 → IsBrokenBehind rows_magic entries at file → IsFaultAt at file
@@ -62,7 +62,7 @@ none_torn (payload ∷ entries) at file none broken = absurd (omega (arith, none
 pub wrong_damaged : (entries : List (List ℕ)) (at : ℕ) (file : List ℕ) (found : Found) → IsFoundIn rows_magic entries file found → IsWrongEntry rows_magic entries at → IsDamaged at file
 wrong_damaged entries at file found is wrong = record {
   created = front_created entries is.rest file (omega (arith, wrong.within)) is.bytes;
-  none = found_no_database entries file found is wrong.none;
+  none = found_no_rows entries file found is wrong.none;
   place = inr (inl (record {
     entries = entries;
     rest = is.rest;
@@ -79,10 +79,27 @@ wrong_damaged entries at file found is wrong = record {
 pub torn_damaged : (entries : List (List ℕ)) (at : ℕ) (file : List ℕ) → 0 < length entries → AreOfState entries → IsBrokenBehind rows_magic entries at file → IsDamaged at file
 torn_damaged entries at file some before broken = record {
   created = front_created entries broken.rest file some broken.bytes;
-  none = broken_no_database entries at file broken;
+  none = broken_no_rows entries at file broken;
   place = inr (inr (record { entries = entries; before = before; broken = broken }));
 }
 
 -- a file at fault where its first record should begin, or before, is none
-pub fault_damaged : (at : ℕ) (file : List ℕ) → IsFaultAt at file → IsNoDatabase file → IsCreated file → IsDamaged at file
+pub fault_damaged : (at : ℕ) (file : List ℕ) → IsFaultAt at file → IsNoRows file → IsCreated file → IsDamaged at file
 fault_damaged at file place none created = record { created = created; none = none; place = place }
+
+-- an index log that has a record is at fault at its first gate, which is open
+pub some_open : (entries : List (List ℕ)) (at : ℕ) (file : List ℕ) (found : Found) → IsFoundIn index_magic entries file found → 0 < length entries
+    → at ≡ gate_at index_magic entries 0 → IsIndexFaultAt at file
+some_open [] at file found is some place = absurd (omega (arith, some))
+some_open (payload ∷ entries) at file found is some place = inr (record {
+  rest = records (payload ∷ entries) ++ is.rest;
+  bytes = is.bytes ∙ append_assoc index_magic (records (payload ∷ entries)) is.rest;
+  place = place;
+  unclosed = λ gate more e. (let same = e in cc);
+})
+
+-- and so is one without a record where a closed gate is missing
+pub none_open : (entries : List (List ℕ)) (at : ℕ) (file : List ℕ) → length entries ≡ 0 → IsBrokenBehind index_magic entries at file → IsIndexFaultAt at file
+none_open [] at file none broken =
+    inr (record { rest = broken.rest; bytes = broken.bytes; place = broken.place; unclosed = broken.broken.not_closed })
+none_open (payload ∷ entries) at file none broken = absurd (omega (arith, none))

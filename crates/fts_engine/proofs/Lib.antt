@@ -1,7 +1,9 @@
 pub mod Accepting
 pub mod Births
 pub mod Committing
+pub mod Framing
 pub mod Loading
 pub mod Gates
 pub mod Single
 pub mod Steps
+pub mod Causes

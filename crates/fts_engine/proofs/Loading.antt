@@ -1,5 +1,5 @@
 -- What is known of a log when its first entries were loaded.
-use Rattle.std.proofs.Common.{◌≡◌, ◌⊎◌, ℕ, ◌+◌, ◌<◌, List, [], ◌∷◌, ◌++◌, refl, ap, subst, sym, ◌∙◌, length, arith, map, take, drop, get_or, add-one, inl, inr, length-append}
+use Rattle.std.proofs.Common.{◌≡◌, ◌⊎◌, ℕ, ◌+◌, ◌<◌, ◌≤◌, List, [], ◌∷◌, ◌++◌, refl, ap, subst, sym, ◌∙◌, length, arith, map, take, drop, get_or, add-one, inl, inr, length-append}
 use Rattle.std.proofs.lemmas.List.{take_all, take_more, take-take, length-take-le, get_or-take, length-map}
 use Rattle.std.proofs.lemmas.List.Elements.{All-head, All-tail}
 use Rattle.std.specs.Prelude.{Result, Ok, Err, IsOk, All, fold}
@@ -22,7 +22,9 @@ use Rattle.fts_engine.specs.Kept.{kept_settings, kept_rows, kept_limits}
 use Rattle.fts_engine.specs.Loading.{BeginsWith, IsLoaded, IsWrongEntry}
 use Rattle.fts_steps.specs.Fault.{AreNoState}
 use Rattle.fts_log.specs.Record.{gate_at}
-use Rattle.fts_engine.proofs.Accepting.{replay_accepted}
+use Rattle.fts_rowcodec.proofs.Bounds.{few_columns}
+use Rattle.fts_rowcodec.proofs.Sizes.{settings_size}
+use Rattle.fts_engine.proofs.Accepting.{replay_accepted, accepted_size}
 use Rattle.fts_engine.proofs.Committing.{payloads-push, sound-push}
 
 -- a list of commits goes on behind another with one commit more
@@ -121,6 +123,16 @@ module _ (all : List (List ℕ)) (k : ℕ) (kept : Kept) (l : IsLoaded all k kep
       refused_not (after_commit standard_limits commit (replay l.state.commits)) error other
       (subst (λ (answer : Result Rows Refusal). IsNoPlan answer error) (same_answer commit) refused) ok
 
+  -- an entry that is longer than any commit: no sound state has it
+  pub no_long : 70000000 < length (get_or all k []) → AreNoState all
+  no_long long whole sound whole_is =
+      let next = whole_goes_on whole sound whole_is in
+      let accepted : AreAccepted no_rows (l.state.commits ++ next.commit ∷ next.rest) = subst (λ (commits : List Commit). AreAccepted no_rows commits) next.is sound.accepted in
+      let few : length (kept_settings kept).columns ≤ 8 = subst (λ (s : Settings). length s.columns ≤ 8) l.same (few_columns l.state.settings l.sound.settings) in
+      let most = accepted_size (length (kept_settings kept).columns) standard_limits next.commit (replay l.state.commits) _ few next.written refl
+      (accepted_at no_rows l.state.commits next.commit next.rest accepted) in
+      omega (arith, long, most, ap length (entry_is whole sound whole_is))
+
   -- one commit more is loaded
   pub one_more : (payload : List ℕ) (commit : Commit) (kept' : Kept) → payload ≡ get_or all k [] → IsWritten (length (kept_settings kept).columns) commit
       → payload ≡ commit_payload commit → after_commit (kept_limits kept) commit (kept_rows kept) ≡ Ok (kept_rows kept')
@@ -172,6 +184,17 @@ module _ (magic : List ℕ) (all : List (List ℕ)) (k at : ℕ) (kept : Kept) (
     none = no_commit all k kept l within payload result is exact bad;
   }
 
+  -- and so is one that is longer than any commit
+  pub wrong_long : 70000000 < length payload → IsWrongEntry magic all at
+  wrong_long long = record {
+    k = k;
+    within = within;
+    place = place;
+    before = inr (l.state, l.sound, l.loaded);
+    wrong = no_long (take (k + 1) all) k kept (cut all k kept l) within_cut (subst (λ (entry : List ℕ). 70000000 < length entry) is_cut long);
+    none = no_long all k kept l within (subst (λ (entry : List ℕ). 70000000 < length entry) is long);
+  }
+
   -- and so is a commit that the rows refuse
   pub wrong_accepted : (commit : Commit) (error : PlanError) → IsWritten (length (kept_settings kept).columns) commit → payload ≡ commit_payload commit
       → (error ≡ NoMemory → ⊥) → IsNoPlan (after_commit (kept_limits kept) commit (kept_rows kept)) error → IsWrongEntry magic all at
@@ -207,6 +230,22 @@ wrong_settings magic all at payload result some place is exact bad = record {
   none = no_settings all payload result is exact bad;
 }
 
+-- and so is one that is longer than any settings
+no_long_settings : (all : List (List ℕ)) → 300 < length (get_or all 0 []) → AreNoState all
+no_long_settings all long state sound same =
+    omega (arith, long, settings_size state.settings sound.settings, ap (λ (entries : List (List ℕ)). length (get_or entries 0 [])) same)
+
+pub wrong_long_settings : (magic : List ℕ) (all : List (List ℕ)) (at : ℕ) → 0 < length all → at ≡ gate_at magic all 0 → 300 < length (get_or all 0 [])
+    → IsWrongEntry magic all at
+wrong_long_settings magic all at some place long = record {
+  k = 0;
+  within = some;
+  place = place;
+  before = inl refl;
+  wrong = no_long_settings (take 1 all) (subst (λ (entry : List ℕ). 300 < length entry) (sym (get_or-take 1 all 0 [] (omega arith))) long);
+  none = no_long_settings all long;
+}
+
 -- the settings are loaded
 pub settings_begin : (all : List (List ℕ)) (payload : List ℕ) (settings : Settings) → 0 < length all → payload ≡ get_or all 0 []
     → AreSettings settings → payload ≡ settings_payload settings → BeginsWith settings all
@@ -218,8 +257,8 @@ settings_begin (first ∷ all) payload settings some is right spelled =
 pub first_loaded : (all : List (List ℕ)) (settings : Settings) (kept : Kept) → BeginsWith settings all → kept_settings kept ≡ settings
     → kept_rows kept ≡ no_rows → kept_limits kept ≡ standard_limits → IsLoaded all 1 kept
 first_loaded all settings kept begins same rows limits = record {
-  state = record { settings = settings; commits = [] };
-  sound = record { settings = begins.right; written = λ k d less. absurd (omega arith); accepted = tt };
+  state = record { settings = settings; commits = []; entries = [] };
+  sound = record { settings = begins.right; written = λ k d less. absurd (omega arith); accepted = tt; entries = refl };
   same = sym same;
   loaded = begins.first;
   count = refl;

@@ -1,27 +1,77 @@
-use Rattle.std.specs.Prelude.{◌≡◌, ℕ, List, Result, Ok, Err}
-use Rattle.fts_steps.specs.State.{State, IsCreated, IsDatabase}
-use Rattle.fts_steps.specs.Fault.{IsFaultAt}
+use Rattle.std.specs.Prelude.{◌≡◌, ℕ, List, codes, Result, Ok, Err}
+use Rattle.fts_disk.specs.declared.disk.Disk.{Ghosts}
+use Rattle.fts_commits.specs.Commit.{replay}
+use Rattle.fts_log.specs.Log.{StandsFor, device_of}
+use Rattle.fts_log.specs.declared.log.Log.{Log}
+use Rattle.fts_steps.specs.State.{State, payloads, IsSound, IsCreated, IsRows}
+use Rattle.fts_steps.specs.Fault.{IsFaultAt, IsIndexFaultAt}
 use Rattle.fts_log.specs.declared.error.EntryError.{EntryError}
 use Rattle.fts_log.specs.declared.error.EntryError.TheVariants as entry
+use Rattle.fts_engine.specs.declared.error.Device.{Device}
+use Rattle.fts_engine.specs.declared.error.Device.TheVariants.{Rows, Index}
 use Rattle.fts_engine.specs.declared.error.OpenError.{OpenError}
-use Rattle.fts_engine.specs.declared.error.OpenError.TheVariants.{NoMemory, DiskFault}
+use Rattle.fts_engine.specs.declared.error.OpenError.TheVariants as opening
+use Rattle.fts_engine.specs.declared.error.LogError.{LogError}
+use Rattle.fts_engine.specs.declared.error.LogError.TheVariants.{NoMemory, NotCreated, Damaged, DiskFault}
+use Rattle.fts_engine.specs.declared.kept.Kept.{Kept}
+use Rattle.fts_engine.specs.Kept.{kept_settings, kept_rows}
+
+-- the name of a device
+abbrev pub device_text : Device → List ℕ
+device_text Rows = codes "rows"
+device_text Index = codes "index"
+
+-- why a database was not opened whose log on this device was not
+abbrev pub open_error_of : Device → LogError → OpenError
+open_error_of device NoMemory = opening.NoMemory
+open_error_of device NotCreated = opening.NotCreated
+open_error_of device (Damaged at) = opening.Damaged device 0 at
+open_error_of device DiskFault = opening.DiskFault
 
 -- the opening ends with the same cause as the reading of an entry
-abbrev pub IsSameEntryError : EntryError → OpenError → Type 0
+abbrev pub IsSameEntryError : EntryError → LogError → Type 0
 IsSameEntryError entry.NoMemory error = error ≡ NoMemory
 IsSameEntryError entry.DiskFault error = error ≡ DiskFault
 
--- the device behind a call that makes a database on it
-abbrev pub device_behind : {D E : Type 0} → Result D (E × D) → D
+-- the device behind a call that makes a log on it
+abbrev pub device_behind : {D : Type 0} → Result D D → D
 device_behind (Ok device) = device
-device_behind (Err error) = error.1
+device_behind (Err device) = device
+
+-- the devices behind a call that makes a database on them
+abbrev pub rows_behind : {D E X : Type 0} → Result (D × E) (X × D × E) → D
+rows_behind (Ok devices) = devices.0
+rows_behind (Err error) = error.1
+
+abbrev pub index_behind : {D E X : Type 0} → Result (D × E) (X × D × E) → E
+index_behind (Ok devices) = devices.1
+index_behind (Err error) = error.2
+
+-- the device behind the opening of the rows log: the log's, or the one that is handed back
+abbrev pub log_left : {D E K : Type 0} {disk : Ghosts D} → Result (Log D disk × K) (E × D) → D
+log_left (Ok both) = device_of both.0
+log_left (Err error) = error.1
+
+-- the rows log was opened: it has the entries of a state, whose settings and rows are kept
+pub record AreOpened {D : Type 0} {disk : Ghosts D} (log : Log D disk) (kept : Kept) : Type 0 where
+  pub state : State
+  pub sound : IsSound state
+  pub settings : state.settings ≡ kept_settings kept
+  pub rows : kept_rows kept ≡ replay state.commits
+  pub entries : StandsFor (payloads state) log
 
 -- the file is no rows log of a database
-abbrev pub IsNoDatabase : List ℕ → Type 0
-IsNoDatabase file = (state : State) → IsDatabase state file → ⊥
+abbrev pub IsNoRows : List ℕ → Type 0
+IsNoRows file = (state : State) → IsRows state file → ⊥
 
--- a database was created in the file, which is none; this is the first place at fault
-pub record IsDamaged (at : ℕ) (file : List ℕ) : Type 0 where
-  pub created : IsCreated file
-  pub none : IsNoDatabase file
-  pub place : IsFaultAt at file
+-- a database was created in the rows log, which is none; this is the first place at fault
+pub record IsDamaged (at : ℕ) (rows : List ℕ) : Type 0 where
+  pub created : IsCreated rows
+  pub none : IsNoRows rows
+  pub place : IsFaultAt at rows
+
+-- the rows log is a database's, and the index log is not; this is its first place at fault
+pub record IsIndexDamaged (at : ℕ) (rows index : List ℕ) : Type 0 where
+  pub state : State
+  pub of_rows : IsRows state rows
+  pub place : IsIndexFaultAt at index

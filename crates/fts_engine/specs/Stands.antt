@@ -8,82 +8,106 @@ use Rattle.fts_types.specs.declared.limits.Limits.{Limits}
 use Rattle.fts_types.specs.declared.settings.Settings.{Settings}
 use Rattle.fts_types.specs.Limits.{standard_limits}
 use Rattle.fts_commits.specs.Commit.{replay}
-use Rattle.fts_steps.specs.State.{State, payloads, rows_magic, IsSound, IsDatabase}
+use Rattle.fts_steps.specs.State.{State, payloads, rows_magic, IsSound, IsRows}
 use Rattle.fts_steps.specs.Running.{Running}
-use Rattle.fts_steps.specs.Crash.{MayHold}
+use Rattle.fts_steps.specs.Crash.{MayHold, HoldsIndex}
 use Rattle.fts_steps.specs.Step.{Sight}
 use Rattle.fts_engine.specs.declared.engine.Engine.{Engine}
 use Rattle.fts_engine.specs.Bounds.{AreWithin}
 use Rattle.fts_engine.specs.Kept.{kept_settings, kept_rows, kept_limits}
 
 -- the settings of its database
-abbrev pub engine_settings : {D : Type 0} {disk : Ghosts D} → Engine D disk → Settings
+abbrev pub engine_settings : {D E : Type 0} {rows : Ghosts D} {index : Ghosts E} → Engine D E rows index → Settings
 engine_settings engine = kept_settings engine.kept
 
 -- the sum of the counts of faults at the fault that stopped it, if one did
-abbrev pub stopped_at : {D : Type 0} {disk : Ghosts D} → Engine D disk → Option ℕ
+abbrev pub stopped_at : {D E : Type 0} {rows : Ghosts D} {index : Ghosts E} → Engine D E rows index → Option ℕ
 stopped_at engine = engine.stopped
 
 -- the limits of its commits
-abbrev pub engine_limits : {D : Type 0} {disk : Ghosts D} → Engine D disk → Limits
+abbrev pub engine_limits : {D E : Type 0} {rows : Ghosts D} {index : Ghosts E} → Engine D E rows index → Limits
 engine_limits engine = kept_limits engine.kept
 
--- the device on which the rows log stands
-abbrev pub engine_device : {D : Type 0} {disk : Ghosts D} → Engine D disk → D
-engine_device engine = device_of engine.log
+-- its two logs
+abbrev pub rows_log : {D E : Type 0} {rows : Ghosts D} {index : Ghosts E} → Engine D E rows index → Log D rows
+rows_log engine = engine.rows
 
--- its rows log
-abbrev pub engine_log : {D : Type 0} {disk : Ghosts D} → Engine D disk → Log D disk
-engine_log engine = engine.log
+abbrev pub index_log : {D E : Type 0} {rows : Ghosts D} {index : Ghosts E} → Engine D E rows index → Log E index
+index_log engine = engine.index
 
--- how many faults of the device there were
-abbrev pub engine_faults : {D : Type 0} {disk : Ghosts D} → Engine D disk → ℕ
-engine_faults {disk} engine = disk.faults (device_of engine.log)
+-- the devices on which they stand
+abbrev pub rows_device : {D E : Type 0} {rows : Ghosts D} {index : Ghosts E} → Engine D E rows index → D
+rows_device engine = device_of engine.rows
 
--- the device behind an opening: the engine's, or the one that is handed back
-abbrev pub device_left : {D E : Type 0} {disk : Ghosts D} → Result (Engine D disk) (E × D) → D
-device_left (Ok engine) = engine_device engine
-device_left (Err error) = error.1
+abbrev pub index_device : {D E : Type 0} {rows : Ghosts D} {index : Ghosts E} → Engine D E rows index → E
+index_device engine = device_of engine.index
 
--- the engine keeps the state in memory, whatever its device holds: its settings, its rows, and its log's own numbers
-pub record Keeps {D : Type 0} {disk : Ghosts D} (state : State) (engine : Engine D disk) : Type 0 where
+-- how many faults the two devices had together
+abbrev pub engine_faults : {D E : Type 0} {rows : Ghosts D} {index : Ghosts E} → Engine D E rows index → ℕ
+engine_faults {rows} {index} engine = rows.faults (device_of engine.rows) + index.faults (device_of engine.index)
+
+-- the devices behind an opening: the engine's, or those that are handed back
+abbrev pub rows_left : {D E X : Type 0} {rows : Ghosts D} {index : Ghosts E}
+    → Result (Engine D E rows index) (X × D × E) → D
+rows_left (Ok engine) = rows_device engine
+rows_left (Err error) = error.1
+
+abbrev pub index_left : {D E X : Type 0} {rows : Ghosts D} {index : Ghosts E}
+    → Result (Engine D E rows index) (X × D × E) → E
+index_left (Ok engine) = index_device engine
+index_left (Err error) = error.2
+
+-- a log of the state's commits in memory, whatever its device holds: its own numbers are theirs
+pub record KeepsRows {D : Type 0} {rows : Ghosts D} (state : State) (log : Log D rows) : Type 0 where
+  pub count : count_of log ≡ length state.commits + 1
+  pub «end» : end_of log ≡ log_end rows_magic (payloads state)
+  pub magic : magic_of log ≡ rows_magic
+
+-- the engine keeps the state in memory, whatever its devices hold: its settings, its rows, and its logs' own numbers
+pub record Keeps {D E : Type 0} {disk : Ghosts D} {disk' : Ghosts E} (state : State) (engine : Engine D E disk disk')
+    : Type 0 where
   pub sound : IsSound state
   pub settings : state.settings ≡ kept_settings engine.kept
   pub rows : kept_rows engine.kept ≡ replay state.commits
   pub within : AreWithin standard_limits (engine_limits engine)
-  pub count : count_of engine.log ≡ length state.commits + 1
-  pub «end» : end_of engine.log ≡ log_end rows_magic (payloads state)
-  pub limit : limit_of engine.log ≡ (engine_limits engine).log_bytes
-  pub magic : magic_of engine.log ≡ rows_magic
+  pub log : KeepsRows state engine.rows
+  pub limit : limit_of engine.rows ≡ (engine_limits engine).log_bytes
+  pub entries : count_of engine.index ≡ length state.entries
 
--- a device reads as the database of what runs, and a crash leaves it; where a fault stopped the engine, perhaps with
--- the commit in doubt
-pub record OnDevice {D : Type 0} (disk : Ghosts D) (running : Running) (device : D) : Type 0 where
-  pub reads : running.stopped ≡ None → IsDatabase running.state (disk.seen device 0)
+-- the rows device reads as the database of what runs, and a crash leaves it; where a fault stopped the engine, perhaps
+-- with the commit in doubt
+pub record OnRows {D : Type 0} (disk : Ghosts D) (running : Running) (device : D) : Type 0 where
+  pub reads : running.stopped ≡ None → IsRows running.state (disk.seen device 0)
   pub may_read : MayHold running.state running.doubt (disk.seen device)
   pub crash : (c : Files) → disk.images device c → MayHold running.state running.doubt c
 
--- while no fault stopped it, its log has the state's entries, and nothing is in doubt
-pub record Logs {D : Type 0} {disk : Ghosts D} (running : Running) (engine : Engine D disk) : Type 0 where
-  pub entries : StandsFor (payloads running.state) engine.log
+-- the index device reads as the database's index log, and a crash leaves it
+pub record OnIndex {E : Type 0} (disk : Ghosts E) (running : Running) (device : E) : Type 0 where
+  pub reads : HoldsIndex running.state (disk.seen device)
+  pub crash : (c : Files) → disk.images device c → HoldsIndex running.state c
+
+-- while no fault stopped the engine, the rows log has the state's entries, and nothing is in doubt
+pub record Logs {D : Type 0} {disk : Ghosts D} (running : Running) (log : Log D disk) : Type 0 where
+  pub entries : StandsFor (payloads running.state) log
   pub sure : running.doubt ≡ []
 
--- the engine stands for what runs: it keeps the state, and where its device tells, this holds the state
-pub record Stands {D : Type 0} {disk : Ghosts D} (running : Running) (engine : Engine D disk) : Type 0 where
+-- the engine stands for what runs: it keeps the state, and where a device tells, its log holds the state
+pub record Stands {D E : Type 0} {rows : Ghosts D} {index : Ghosts E} (running : Running)
+    (engine : Engine D E rows index) : Type 0 where
   pub keeps : Keeps running.state engine
   pub stopped : stopped_at engine ≡ running.stopped
-  pub logs : IsTrue disk.tells → running.stopped ≡ None → Logs running engine
-  pub device : IsTrue disk.tells → OnDevice disk running (engine_device engine)
+  pub logs : IsTrue rows.tells → running.stopped ≡ None → Logs running engine.rows
+  pub on_rows : IsTrue rows.tells → OnRows rows running (rows_device engine)
+  pub on_index : IsTrue index.tells → OnIndex index running (index_device engine)
 
 -- what contracts see of an engine that one thread owns
-abbrev pub engine_sight : {D : Type 0} {disk : Ghosts D} → Sight (Engine D disk)
-engine_sight {D} {disk} = record {
+abbrev pub engine_sight : {D E : Type 0} {rows : Ghosts D} {index : Ghosts E} → Sight (Engine D E rows index)
+engine_sight {D} {E} {rows} {index} = record {
   is_shared = false;
   settings = engine_settings;
   limits = engine_limits;
   faults = engine_faults;
   stands = Stands;
-  Device = D;
-  disk = disk;
-  device = engine_device;
+  rows = record { Device = D; disk = rows; device = rows_device };
+  index = record { Device = E; disk = index; device = index_device };
 }

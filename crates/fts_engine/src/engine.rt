@@ -1,7 +1,8 @@
-ghost use Rattle.std.specs.Prelude.{◌≡◌, ◌≤◌, ℕ, [], ◌∷◌, false, length, IsTrue, IsErr, OnOk, IfOk};
+ghost use Rattle.std.specs.Prelude.{◌≡◌, ◌+◌, ◌≤◌, ℕ, false, length, IsTrue, IsErr, OnOk, IfOk};
 ghost use Rattle.std.specs.Prelude.{Err, None};
 ghost use Rattle.fts_engine.specs.Refusing.{refusal_answer};
 ghost use Rattle.fts_log.specs.Frame.{payload_of};
+ghost use Rattle.fts_log.specs.Framing.{inner};
 ghost use Rattle.fts_commits.specs.Fits.{CanCommit};
 ghost use Rattle.fts_rowcodec.specs.Payload.{IsWritten, commit_payload};
 ghost use Rattle.fts_steps.specs.State.{State};
@@ -11,31 +12,32 @@ ghost use Rattle.fts_steps.specs.Answers.{commit_answer_of, view_answer_of};
 use crate::kept::Kept;
 use fts_commits::Change;
 use fts_disk::Disk;
-use fts_log::{AppendError, Framed, Log};
-use fts_rowcodec::encode_commit;
+use fts_log::{AROUND_PAYLOAD, AppendError, BEFORE_PAYLOAD, Framed, Log};
+use fts_rowcodec::{commit_size, encode_commit_into};
 use fts_rows::PlanError;
 use fts_steps::{CommitError, View};
 use fts_types::Settings;
 use std::alloc::{AllocError, Global};
 
-/// A database that is open: its rows log, and its settings, its rows and the index of their words
-/// in memory. After a fault of a commit it takes no more, and views go on.
+/// A database that is open: its rows log and its index log, and its settings, its rows and the
+/// index of their words in memory. After a fault of a commit it takes no more, and views go on.
 #[derive(Drop)]
-pub struct Engine<D: Disk> {
+pub struct Engine<D: Disk, E: Disk> {
     pub(crate) alloc: Global,
-    pub(crate) log: Log<D>,
+    pub(crate) rows: Log<D>,
+    pub(crate) index: Log<E>,
     pub(crate) kept: Kept,
     pub(crate) stopped: Option<u128>,
 }
 
-impl<D: Disk> Engine<D> {
+impl<D: Disk, E: Disk> Engine<D, E> {
     ghost use Rattle.fts_disk.specs.Crash.{Only};
-    ghost use Rattle.fts_engine.specs.Stands.{Keeps, engine_sight, engine_log};
-    ghost use Rattle.fts_engine.specs.Stands.{engine_device, engine_settings};
+    ghost use Rattle.fts_engine.specs.Stands.{Keeps, engine_sight, engine_settings};
+    ghost use Rattle.fts_engine.specs.Stands.{rows_log, index_log, rows_device, index_device};
 
     /// Makes a commit of these changes, and returns its number, from 1. The changes fit the table:
     /// each INSERT has a text for each column. At `Ok` the commit is durable. All memory is taken
-    /// before the device is touched.
+    /// before a device is touched.
     ///
     /// A crash at any moment of the call leaves the database without the commit, or with it.
     ///
@@ -43,21 +45,22 @@ impl<D: Disk> Engine<D> {
     ///
     /// After each of them the engine keeps what it kept.
     ///
-    /// - `NoMemory` if memory ran out. The log is untouched.
+    /// - `NoMemory` if memory ran out. The logs are untouched.
     /// - `Stopped` exactly where an earlier commit answered `DiskFault`, with the sum of the counts
-    ///   of faults at that answer. The log is untouched.
-    /// - `Refused` exactly where the rows refuse the commit. The log is untouched.
-    /// - `LogFull` exactly where the log would end above its limit. The log is untouched.
-    /// - `DiskFault` if the device failed, with the sum of the counts of faults. Whether the commit
-    ///   is in the log is known from a new opening alone.
+    ///   of faults at that answer. The logs are untouched.
+    /// - `Refused` exactly where the rows refuse the commit. The logs are untouched.
+    /// - `LogFull` exactly where the rows log would end above its limit. The logs are untouched.
+    /// - `DiskFault` if the rows device failed, with the sum of both devices' counts of faults.
+    ///   Whether the commit is in the log is known from a new opening alone.
     pub fn commit(&mut self, changes: &[Change]) -> Result<u64, CommitError>
         requires { CanCommit (length (engine_settings self.old).columns) changes.now }
         ensures steps { Steps engine_sight (to_commit changes.now) (commit_answer_of result)
             self.old self.new }
         ensures durable { OnOk result (IsTrue D.tells
-            → Only (D.seen (engine_device self.new)) (D.images (engine_device self.new))) }
+            → Only (D.seen (rows_device self.new)) (D.images (rows_device self.new))) }
         ensures untouched { IsErr result → is_disk_fault (commit_answer_of result) ≡ false
-            → engine_log self.new ≡ engine_log self.old }
+            → rows_log self.new ≡ rows_log self.old }
+        ensures index { index_log self.new ≡ index_log self.old }
     {
         match self.stopped {
             None => {}
@@ -71,14 +74,14 @@ impl<D: Disk> Engine<D> {
             Ok(framed) => framed,
             Err(AllocError) => return Err(CommitError::NoMemory),
         };
-        match self.log.append(&framed) {
+        match self.rows.append(&framed) {
             Ok(number) => {
                 self.kept.install(next);
                 Ok(number)
             }
             Err(AppendError::LogFull { end }) => Err(CommitError::LogFull { end }),
             Err(AppendError::DiskFault) => {
-                let faults = self.log.faults() as u128;
+                let faults = self.rows.faults() as u128 + self.index.faults() as u128;
                 self.stopped = Some(faults);
                 Err(CommitError::DiskFault { faults })
             }
@@ -102,7 +105,14 @@ impl<D: Disk> Engine<D> {
     pub fn commits(&self) -> u64
         ensures { (state : State) → Keeps state self.now → result ≡ length state.commits }
     {
-        self.log.count().saturating_sub(1)
+        self.rows.count().saturating_sub(1)
+    }
+
+    /// How many entries the index log has.
+    pub fn entries(&self) -> u64
+        ensures { (state : State) → Keeps state self.now → result ≡ length state.entries }
+    {
+        self.index.count()
     }
 
     /// The settings with which the database was created.
@@ -114,17 +124,19 @@ impl<D: Disk> Engine<D> {
         self.kept.settings()
     }
 
-    /// The device.
-    pub fn close(self) -> D
-        ensures { result ≡ engine_device self }
+    /// The devices of the rows log and of the index log.
+    pub fn close(self) -> (D, E)
+        ensures rows { result.0 ≡ rows_device self }
+        ensures index { result.1 ≡ index_device self }
     {
         let Engine {
             alloc: _,
-            log,
+            rows,
+            index,
             kept: _,
             stopped: _,
         } = self;
-        log.close()
+        (rows.close(), index.close())
     }
 }
 
@@ -143,8 +155,17 @@ fn framed_commit(alloc: Global, changes: &[Change]) -> Result<Framed, AllocError
     requires { (columns : ℕ) × (columns ≤ 8) × IsWritten columns changes.now }
     ensures { IfOk result (λ framed. payload_of framed ≡ commit_payload changes.now) }
 {
-    let payload = encode_commit(alloc, changes)?;
-    let mut framed = Framed::with_room(alloc, payload.len() as u32)?;
-    framed.put(&payload);
-    Ok(framed)
+    let mut bytes = vec![in alloc; 0; commit_size(changes) + AROUND_PAYLOAD]?;
+    put_commit(&mut bytes, changes);
+    Ok(Framed::around(bytes))
+}
+
+// Puts the payload of a commit into the bytes of its frame.
+fn put_commit(frame: &mut [u8], changes: &[Change])
+    requires written { (columns : ℕ) × (columns ≤ 8) × IsWritten columns changes.now }
+    requires room { length frame.old ≡ length (commit_payload changes.now) + 5 }
+    ensures size { length frame.new ≡ length frame.old }
+    ensures payload { inner frame.new ≡ commit_payload changes.now }
+{
+    encode_commit_into(changes, &mut frame[BEFORE_PAYLOAD..]);
 }

@@ -1,9 +1,9 @@
-//! What holds of the rows log's file.
+//! What holds of the files of a database.
 ghost use Rattle.std.specs.Prelude.{◌≡◌, ℕ, List};
-ghost use Rattle.fts_steps.specs.State.{State, IsDatabase};
+ghost use Rattle.fts_steps.specs.State.{State, IsRows};
 
-/// A file is the database of one state alone. It does nothing: its contract is the theorem.
+/// A file is the rows log of one state alone. It does nothing: its contract is the theorem.
 pub fn one_database()
-    ensures { (state other : State) → (file : List ℕ) → IsDatabase state file
-        → IsDatabase other file → state ≡ other }
+    ensures { (state other : State) → (file : List ℕ) → IsRows state file
+        → IsRows other file → state ≡ other }
 {}

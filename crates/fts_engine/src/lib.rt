@@ -1,7 +1,7 @@
-//! The engine: a database on one device, its steps, and its opening again from the rows log.
+//! The engine: a database on two devices, its steps, and its opening again from its two logs.
 //!
 //! [`create_engine`] makes a database, and [`open_engine`] finds one:
-//! `let mut engine = open_engine(alloc, device, Limits::standard())?`. Then
+//! `let mut engine = open_engine(alloc, rows, index, Limits::standard())?`. Then
 //! `engine.commit(&[change])?` gives the commit's number once it is durable, and
 //! `engine.view(b"apple")?` the ids of the rows that have the word.
 //!
@@ -17,9 +17,9 @@ mod laws;
 mod load;
 mod open;
 
-pub use create::{CreateError, LARGEST_LOG, MAGIC, create_engine};
+pub use create::{CreateError, INDEX_MAGIC, LARGEST_LOG, ROWS_MAGIC, create_engine};
 pub use engine::Engine;
-pub use error::OpenError;
+pub use error::{Device, OpenError};
 pub use laws::one_database;
 pub use open::open_engine;
 

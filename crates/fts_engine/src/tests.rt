@@ -32,35 +32,43 @@ fn empty_disk(alloc: Global) -> Result<MemDisk, AllocError> {
     MemDisk::from_files(alloc, Vec::new(alloc), Vec::new(alloc))
 }
 
-/// Makes a database on the device.
-fn create(alloc: Global, rows: MemDisk) -> Result<MemDisk, CreateError> {
+/// Two devices without files.
+fn empty_disks(alloc: Global) -> Result<(MemDisk, MemDisk), AllocError> {
+    Ok((empty_disk(alloc)?, empty_disk(alloc)?))
+}
+
+/// Makes a database on the devices.
+fn create(
+    alloc: Global,
+    (rows, index): (MemDisk, MemDisk),
+) -> Result<(MemDisk, MemDisk), CreateError> {
     let Ok(settings) = settings(alloc) else {
         return Err(CreateError::NoMemory);
     };
     if settings.check().is_err() {
         return Err(CreateError::NoMemory);
     }
-    match create_engine(alloc, &settings, rows) {
-        Ok(rows) => Ok(rows),
-        Err((error, _)) => Err(error),
+    match create_engine(alloc, &settings, rows, index) {
+        Ok(devices) => Ok(devices),
+        Err((error, _, _)) => Err(error),
     }
 }
 
-/// Opens the database on the device, for at most so many rows and bytes of its log.
+/// Opens the database on the devices, for at most so many rows and bytes of a log.
 fn open(
     alloc: Global,
-    rows: MemDisk,
+    (rows, index): (MemDisk, MemDisk),
     most_rows: u64,
     log_bytes: u64,
-) -> Result<Engine<MemDisk>, OpenError> {
+) -> Result<Engine<MemDisk, MemDisk>, OpenError> {
     let limits = Limits {
         rows: most_rows.min(1_000_000),
         ids: 1_000,
         log_bytes: log_bytes.min(LARGEST_LOG),
     };
-    match open_engine(alloc, rows, limits) {
+    match open_engine(alloc, rows, index, limits) {
         Ok(engine) => Ok(engine),
-        Err((error, _)) => Err(error),
+        Err((error, _, _)) => Err(error),
     }
 }
 
@@ -110,7 +118,10 @@ fn quoted_row(alloc: Global) -> Result<Vec<Change>, AllocError>
 }
 
 /// Commits changes of a table of two columns.
-fn commit(engine: &mut Engine<MemDisk>, changes: &[Change]) -> Option<Result<u64, CommitError>>
+fn commit(
+    engine: &mut Engine<MemDisk, MemDisk>,
+    changes: &[Change],
+) -> Option<Result<u64, CommitError>>
     requires fits { CanCommit 2 changes.now }
 {
     if engine.settings().columns.len() != 2 {
@@ -131,7 +142,7 @@ const FOUND: [(&str, &[DocId]); 7] = [
 ];
 
 /// Whether a search for each word finds what it should after the first commit.
-fn finds_all(engine: &Engine<MemDisk>, found: &[(&str, &[DocId])]) -> bool {
+fn finds_all(engine: &Engine<MemDisk, MemDisk>, found: &[(&str, &[DocId])]) -> bool {
     for (word, want) in found {
         let Ok(view) = engine.view(word.as_bytes()) else {
             return false;
@@ -146,8 +157,8 @@ fn finds_all(engine: &Engine<MemDisk>, found: &[(&str, &[DocId])]) -> bool {
 #[test]
 fn a_commit_is_found_and_again_after_opening(rt: HostRuntime) -> Result<(), Fail> {
     let alloc = rt.alloc();
-    let rows = create(alloc, empty_disk(alloc)?)?;
-    let mut engine = open(alloc, rows, 2, 4_096)?;
+    let devices = create(alloc, empty_disks(alloc)?)?;
+    let mut engine = open(alloc, devices, 2, 4_096)?;
     assert_eq!(rt; commit(&mut engine, &two_rows(alloc, 7, 3)?), Some(Ok(1)));
     assert!(rt; finds_all(&engine, &FOUND));
     let engine = open(alloc, engine.close(), 1, 0)?;
@@ -158,8 +169,8 @@ fn a_commit_is_found_and_again_after_opening(rt: HostRuntime) -> Result<(), Fail
 #[test]
 fn a_thousand_changes_are_a_commit(rt: HostRuntime) -> Result<(), Fail> {
     let alloc = rt.alloc();
-    let rows = create(alloc, empty_disk(alloc)?)?;
-    let mut engine = open(alloc, rows, 1_000, LARGEST_LOG)?;
+    let devices = create(alloc, empty_disks(alloc)?)?;
+    let mut engine = open(alloc, devices, 1_000, LARGEST_LOG)?;
     assert_eq!(rt; commit(&mut engine, &many_rows(alloc, 1_000)?), Some(Ok(1)));
     let engine = open(alloc, engine.close(), 1_000, 0)?;
     assert!(rt; engine.commits() == 1 && engine.view(b"cream")?.docs.as_slice().len() == 1_000);
@@ -177,8 +188,8 @@ const FOUND_WHOLE: [(&str, &[DocId]); 4] = [
 #[test]
 fn a_word_is_found_whole(rt: HostRuntime) -> Result<(), Fail> {
     let alloc = rt.alloc();
-    let rows = create(alloc, empty_disk(alloc)?)?;
-    let mut engine = open(alloc, rows, 2, 4_096)?;
+    let devices = create(alloc, empty_disks(alloc)?)?;
+    let mut engine = open(alloc, devices, 2, 4_096)?;
     assert_eq!(rt; commit(&mut engine, &quoted_row(alloc)?), Some(Ok(1)));
     assert!(rt; finds_all(&engine, &FOUND_WHOLE));
     engine.close();
@@ -214,8 +225,8 @@ const ANSWERS: [(Key, Key, u64, u64, Result<u64, CommitError>); 5] = [
 fn a_commit_is_answered(rt: HostRuntime) -> Result<(), Fail> {
     let alloc = rt.alloc();
     for (first, second, most_rows, log_bytes, want) in ANSWERS {
-        let rows = create(alloc, empty_disk(alloc)?)?;
-        let mut engine = open(alloc, rows, most_rows, log_bytes)?;
+        let devices = create(alloc, empty_disks(alloc)?)?;
+        let mut engine = open(alloc, devices, most_rows, log_bytes)?;
         let changes = two_rows(alloc, first, second)?;
         assert_eq!(rt; commit(&mut engine, &changes), Some(want));
     }
@@ -225,15 +236,46 @@ fn a_commit_is_answered(rt: HostRuntime) -> Result<(), Fail> {
 #[test]
 fn a_database_is_created_once(rt: HostRuntime) -> Result<(), Fail> {
     let alloc = rt.alloc();
-    let mut rows = empty_disk(alloc)?;
+    let (mut rows, index) = empty_disks(alloc)?;
     assert!(rt; !is_begun(&mut rows)?);
-    let opened = open(alloc, empty_disk(alloc)?, 2, 4_096);
+    let opened = open(alloc, empty_disks(alloc)?, 2, 4_096);
     assert_eq!(rt; opened.err(), Some(OpenError::NotCreated));
-    let mut rows = create(alloc, rows)?;
+    let (mut rows, index) = create(alloc, (rows, index))?;
     assert!(rt; is_begun(&mut rows)?);
     assert_eq!(rt;
-        create(alloc, rows).err(),
+        create(alloc, (rows, index)).err(),
         Some(CreateError::AlreadyCreated)
     );
+    Ok(())
+}
+
+/// What stands in the index log, and the first place at fault.
+const INDEXES: [(&[u8], Option<u64>); 10] = [
+    (b"", Some(0)),
+    (b"FTSINDX", Some(0)),
+    (b"FTSROWS1\x00", Some(0)),
+    (b"FTSINDX1", Some(8)),
+    (b"FTSINDX1\x01", Some(8)),
+    (b"FTSINDX1\x01\x00\x00\x00\x00", Some(8)),
+    (b"FTSINDX1\x01\x00\x00\x00\x00\x00", Some(8)),
+    (b"FTSINDX1\x00", None),
+    (b"FTSINDX1\x02", None),
+    (b"FTSINDX1\x00\x01\x02", None),
+];
+
+#[test]
+fn an_index_log_has_no_entry(rt: HostRuntime) -> Result<(), Fail> {
+    let alloc = rt.alloc();
+    for (bytes, at) in INDEXES {
+        let (rows, _) = create(alloc, empty_disks(alloc)?)?;
+        let files = vec![in alloc; bytes.to_vec(alloc)?]?;
+        let index = MemDisk::from_files(alloc, files, Vec::new(alloc))?;
+        let damage = at.map(|at| OpenError::Damaged {
+            device: Device::Index,
+            file: 0,
+            at,
+        });
+        assert_eq!(rt; open(alloc, (rows, index), 2, 4_096).err(), damage);
+    }
     Ok(())
 }

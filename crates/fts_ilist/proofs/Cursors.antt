@@ -85,9 +85,6 @@ begins last bytes n len t some found =
 pub is_cursor : (id : ℕ) (bytes : List ℕ) → 0 < id → IsInside id bytes → IsCursor id bytes
 is_cursor id bytes some stands = record { within = λ more. stands; ended = λ e. absurd (omega arith) }
 
-pub is_ended : (bytes : List ℕ) → bytes ≡ [] → IsCursor 0 bytes
-is_ended bytes e = record { within = λ more. absurd (omega arith); ended = λ same. e }
-
 -- ---- to the document's end
 
 pub body_of : (id : ℕ) (bytes : List ℕ) → IsInside id bytes → BeginsBody bytes

@@ -59,10 +59,6 @@ or_first (d ∷ ds) es first id are e has =
     let positive : 0 < first = omega (arith, e, are.0) in
     ap (λ b. if b then id else first) (ne_eqb first 0 (λ (z : first ≡ 0). omega arith)) ∙ e
 
-pub first_of_has : (ds : List Posting) (id : ℕ) → HasFirstId ds id → id ≡ first_id ds
-first_of_has [] id has = absurd has
-first_of_has (d ∷ ds) id has = sym has
-
 -- ---- more documents
 
 pub kept_more : (first last count : ℕ) (bytes : List ℕ) (id end : ℕ) (new : List ℕ) (ds : List Posting) → IsKept first last count bytes → HasFirstId ds id → IsMade end new (postings_in 0 bytes ++ ds)

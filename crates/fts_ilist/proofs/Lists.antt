@@ -10,7 +10,7 @@ use Rattle.fts_ilist.specs.Spelling.Item.{document_end}
 use Rattle.fts_ilist.specs.Reading.{postings_in, IsTail, IsDocument, IsList}
 use Rattle.fts_ilist.specs.Reading.State.{between}
 use Rattle.fts_ilist.specs.Fault.{IsFirstFault}
-use Rattle.fts_ilist.specs.Progress.{ReadsItems, ReadsIncrease, HasNoIncrease}
+use Rattle.fts_ilist.specs.Progress.{ReadsItems, ReadsIncrease}
 use Rattle.fts_ilist.specs.Changes.{is_among}
 use Rattle.fts_ilist.proofs.Items.{bytes_append}
 use Rattle.fts_ilist.proofs.Postings.{postings_in-bytes, postings_items-append, id_at_end-append, PostingsAfter-append, id_limit}
@@ -87,19 +87,6 @@ first_from last bytes (d ∷ ds) id end e h i =
 
 pub first_id_of : (last : ℕ) (bytes : List ℕ) (id end : ℕ) → IsTail last bytes → ReadsIncrease bytes 0 last 9223372036854775807 id end → HasFirstId (postings_in last bytes) id
 first_id_of last bytes id end t i = first_from last bytes (postings_in last bytes) id end t.spelled t.after i
-
-none_from : (last : ℕ) (bytes : List ℕ) (ds : List Posting) → bytes ≡ items_bytes (postings_items last ds) → PostingsAfter last ds → HasNoIncrease bytes 0 last 9223372036854775807 → ds ≡ []
-none_from last bytes [] e h none = refl
-none_from last bytes (d ∷ ds) e h none =
-    let parts : bytes ≡ number_bytes (d.id - last) ++ (items_bytes (position_items 0 d.positions ++ document_end ∷ []) ++ items_bytes (postings_items d.id ds))
-    = e ∙ sym (append-nil (items_bytes (posting_items last d ++ postings_items d.id ds)))
-    ∙ bytes_append (posting_items last d) (postings_items d.id ds) []
-    ∙ ap (λ (w : List ℕ). items_bytes (posting_items last d) ++ w) (append-nil (items_bytes (postings_items d.id ds)))
-    ∙ append_assoc (number_bytes (d.id - last)) (items_bytes (position_items 0 d.positions ++ document_end ∷ [])) (items_bytes (postings_items d.id ds)) in
-    absurd (none (d.id - last) (items_bytes (position_items 0 d.positions ++ document_end ∷ []) ++ items_bytes (postings_items d.id ds)) parts (omega (arith, h.0)) (omega (arith, h.0, h.1)))
-
-pub no_first_id : (last : ℕ) (bytes : List ℕ) → IsTail last bytes → HasNoIncrease bytes 0 last 9223372036854775807 → postings_in last bytes ≡ []
-no_first_id last bytes t none = none_from last bytes (postings_in last bytes) t.spelled t.after none
 
 -- ---- more documents
 

@@ -2,20 +2,14 @@
 use Rattle.std.proofs.Common.{◌≡◌, ◌≢◌, ℕ, ◌<◌, List, [], ◌∷◌, ◌++◌, Bool, true, false, if◌then◌else◌, length, refl, sym, ap, subst, ◌∙◌, append_assoc, arith, inl, inr}
 use Rattle.std.proofs.lemmas.List.{append-nil}
 use Rattle.std.proofs.lemmas.Grind.{flat_map-append}
-use Rattle.fts_ilist.specs.Spelling.{Posting, PostingsAfter, id_at_end, last_id}
+use Rattle.fts_ilist.specs.Spelling.{Posting, PostingsAfter, last_id}
 use Rattle.fts_ilist.specs.Packing.{has_place, packed_from, packed_within, packed, joined, IsPacking, PutsInto}
 use Rattle.fts_ilist.proofs.Postings.{id_at_end-append}
-
-last_of_begun : (before : ℕ) (d : Posting) (ds : List Posting) → id_at_end before (d ∷ ds) ≡ last_id (d ∷ ds)
-last_of_begun before d ds = refl
 
 -- the last document of all is that of the node that is begun
 pub last_joined : (closed : List (List Posting)) (begun : List Posting) (id : ℕ) → IsPacking closed begun → last_id (joined closed ++ begun) < id → last_id begun < id
 last_joined closed [] id p h = omega (arith, h, ap (λ (ns : List (List Posting)). last_id (joined ns ++ [])) (p.first refl))
 last_joined closed (d ∷ ds) id p h = omega (arith, h, id_at_end-append 0 (joined closed) (d ∷ ds))
-
-pub no_packing : (closed : List (List Posting)) (begun : List Posting) → closed ≡ [] → begun ≡ [] → IsPacking closed begun
-no_packing closed begun e f = subst (λ ns. IsPacking ns begun) (sym e) (subst (λ ds. IsPacking [] ds) (sym f) (record { packs = λ rest. refl; first = λ none. refl }))
 
 joined_one : (closed : List (List Posting)) (node : List Posting) → joined (closed ++ node ∷ []) ≡ joined closed ++ node
 joined_one closed node = flat_map-append (λ docs. docs) closed (node ∷ []) ∙ ap (λ (w : List Posting). joined closed ++ w) (append-nil node)

@@ -1,7 +1,7 @@
 -- Documents that come in at the back and leave at the front.
-use Rattle.std.proofs.Common.{◌≡◌, ◌↔◌, ℕ, ◌+◌, ◌-◌, ◌*◌, ◌^◌, ◌<◌, ◌≤◌, List, [], ◌∷◌, ◌++◌, length, take, drop, get_or, append_assoc, Bool, cond, refl, sym, ap, subst, ◌∙◌, arith}
+use Rattle.std.proofs.Common.{◌≡◌, ◌↔◌, ℕ, ◌+◌, ◌-◌, ◌^◌, ◌<◌, ◌≤◌, List, [], ◌∷◌, ◌++◌, length, take, drop, get_or, append_assoc, Bool, cond, refl, sym, ap, subst, ◌∙◌, arith}
 use Rattle.std.proofs.lemmas.Bool.{lt-ltb, le-ltb}
-use Rattle.std.proofs.lemmas.List.{append-nil, length-drop, drop-append-le, drop-drop, drop_more, length-append}
+use Rattle.std.proofs.lemmas.List.{append-nil, length-drop, drop-append-le, drop_more, length-append}
 use Rattle.fts_ilist.specs.Number.{number_bytes}
 use Rattle.fts_ilist.specs.Spelling.{Posting, items_bytes, list_bytes, position_items, posting_items, postings_items, PositionsFrom, ArePositions, PostingsAfter, id_at_end, HasFirstId}
 use Rattle.fts_ilist.specs.Spelling.Item.{document_end}
@@ -51,15 +51,6 @@ pub record StandsBehind (bytes : List ℕ) (at last doc end id : ℕ) : Type 0 w
   pub stands : StandsAt bytes (at + end) id
   pub same : postings_behind doc (postings_in last (drop at bytes)) ≡ postings_behind doc (postings_in id (drop (at + end) bytes))
   pub end_is : id_at_end last (postings_in last (drop at bytes)) ≡ id_at_end id (postings_in id (drop (at + end) bytes))
-
-pub one_more_passed : (bytes : List ℕ) (at last doc end id : ℕ) → StandsAt bytes at last → Passes (drop at bytes) last doc end id → StandsBehind bytes at last doc end id
-one_more_passed bytes at last doc end id s p =
-    let e = drop-drop end at bytes in
-    record {
-      stands = record { within = omega (arith, p.within, length-drop at bytes, s.within); tail = subst (IsTail id) e p.tail };
-      same = p.same ∙ ap (λ (w : List ℕ). postings_behind doc (postings_in id w)) e;
-      end_is = p.end_is ∙ ap (λ (w : List ℕ). id_at_end id (postings_in id w)) e;
-    }
 
 -- ---- one more document at the back
 
@@ -132,30 +123,6 @@ no_queue bytes capacity e =
         lean = omega arith;
       };
       view = none;
-    }
-
--- documents left: the fields at a later place
-pub queue_later : (bytes : List ℕ) (capacity start before last room at id doc : ℕ) → IsQueue bytes capacity start before last room → StandsAt bytes at id
-    → postings_in id (drop at bytes) ≡ postings_behind doc (postings_in before (drop start bytes)) → id_at_end id (postings_in id (drop at bytes)) ≡ id_at_end before (postings_in before (drop start bytes))
-    → 2 * at ≤ length bytes
-    → IsQueueOf bytes capacity at id last room (postings_behind doc (postings_in before (drop start bytes)))
-queue_later bytes capacity start before last room at id doc q s e same lean = record {
-  is_queue = record { stands = s; last_is = q.last_is ∙ sym same; spare = q.spare; lean = lean };
-  view = e;
-}
-
-pub queue_cut : (bytes : List ℕ) (capacity start before last room : ℕ) (new : List ℕ) (more : ℕ) (ps : List Posting) → IsQueueOf bytes capacity start before last room ps → new ≡ drop start bytes → more ≡ capacity
-    → IsQueueOf new more 0 before last room ps
-queue_cut bytes capacity start before last room new more ps q e f =
-    let s = q.is_queue.stands in
-    record {
-      is_queue = record {
-        stands = record { within = omega arith; tail = subst (IsTail before) (sym e) s.tail };
-        last_is = q.is_queue.last_is ∙ ap (λ (w : List ℕ). id_at_end before (postings_in before w)) (sym e);
-        spare = omega (arith, ap length e, length-drop start bytes, q.is_queue.spare, f);
-        lean = omega arith;
-      };
-      view = ap (postings_in before) e ∙ q.view;
     }
 
 pub queue_pushed : (bytes : List ℕ) (capacity start before last room : ℕ) (d : Posting) (new : List ℕ) (more left : ℕ) → IsQueue bytes capacity start before last room

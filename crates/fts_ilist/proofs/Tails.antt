@@ -4,7 +4,7 @@ use Rattle.std.proofs.lemmas.List.{append-nil, length-append, length-drop, appen
 use Rattle.fts_ilist.specs.Number.{number_bytes, BeginsWithNumber}
 use Rattle.fts_ilist.specs.Spelling.{Posting, Item, items_bytes, position_items, posting_items, postings_items, PositionsFrom, ArePositions, PostingsAfter}
 use Rattle.fts_ilist.specs.Spelling.Item.{increase}
-use Rattle.fts_ilist.specs.Reading.{items_after, postings_of, positions_of, postings_in, positions_in, IsTail, IsPositionsTail, IsDocument}
+use Rattle.fts_ilist.specs.Reading.{items_after, postings_of, positions_of, postings_in, positions_in, IsTail, IsPositionsTail}
 use Rattle.fts_ilist.specs.Reading.State.{between}
 use Rattle.fts_ilist.specs.Progress.{ReadsIncrease, ReadsDocument}
 use Rattle.fts_ilist.proofs.Groups.{reads_number, length_number}
@@ -134,16 +134,6 @@ encoded_is bytes last id start end d =
 
 encoded_gives : (bytes : List ℕ) (last id start end : ℕ) (d : ReadsDocument bytes 0 last id start end) → positions_in 0 (take (end - 1 - start) (drop start bytes)) ≡ d.positions
 encoded_gives bytes last id start end d = ap (positions_in 0) (encoded_is bytes last id start end d) ∙ positions_in-bytes 0 d.positions d.are_positions.1
-
-pub encoded_document : (bytes : List ℕ) (last id start end : ℕ) → ReadsDocument bytes 0 last id start end → IsDocument id (take (end - 1 - start) (drop start bytes))
-encoded_document bytes last id start end d =
-    let gives = encoded_gives bytes last id start end d in
-    record {
-      positive = omega (arith, d.above);
-      limit = d.limit;
-      are_positions = rw gives d.are_positions;
-      spelled = encoded_is bytes last id start end d ∙ ap (λ (w : List ℕ). items_bytes (position_items 0 w)) (sym gives);
-    }
 
 -- a step gives the first document that was left
 pub document_step : (bytes : List ℕ) (last id start end : ℕ) → ReadsDocument bytes 0 last id start end

@@ -4,7 +4,7 @@ use Rattle.std.specs.List.{AllPairs, flat_map}
 use Rattle.std.specs.Str.{bytes_eq}
 use Rattle.std.specs.declared.cmp.Ordering.TheVariants.{Less}
 use Rattle.std.specs.Prelude.{◌≡◌}
-pub use Rattle.fts_words.specs.Order.{byte_order}
+use Rattle.fts_words.specs.Order.{byte_order}
 use Rattle.fts_ilist.specs.Spelling.{Posting, items_bytes, position_items, id_at_end}
 
 -- a node is the documents of its list

@@ -1,7 +1,6 @@
 -- Nodes that lie one behind the other in one run of bytes, and a table with a row for each.
-use Rattle.std.specs.Prelude.{◌≡◌, ◌≢◌, ℕ, ◌≤◌, List, [], ◌∷◌, ◌++◌, ◌+◌, length, map, sum_by}
+use Rattle.std.specs.Prelude.{◌≡◌, ◌≢◌, ℕ, ◌≤◌, List, [], ◌++◌, ◌+◌, length, map, sum_by}
 use Rattle.std.specs.List.{slice_range, AllByRecursion}
-use Rattle.fts_ilist.specs.Spelling.{Posting}
 use Rattle.fts_ilist.specs.Reading.{postings_in, IsKept}
 use Rattle.fts_ilist.specs.Node.{Docs, head_size}
 use Rattle.fts_ilist.specs.Packing.{node_size}

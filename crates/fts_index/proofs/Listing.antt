@@ -1,5 +1,5 @@
 -- A list of a row's indexed words, as it grows.
-use Rattle.std.proofs.Common.{◌≡◌, ℕ, List, [], ◌∷◌, ◌++◌, map, sym, ap, ◌∙◌, subst, append-nil, append_assoc, arith}
+use Rattle.std.proofs.Common.{◌≡◌, ℕ, List, [], ◌∷◌, ◌++◌, map, sym, ap, ◌∙◌, subst, append_assoc, arith}
 use Rattle.std.specs.Prelude.{All}
 use Rattle.std.proofs.lemmas.List.{map_push}
 use Rattle.std.proofs.lemmas.List.Elements.{All-head, All-tail}
@@ -10,7 +10,7 @@ use Rattle.fts_words.proofs.WordLemmas.{raw_words_within}
 use Rattle.fts_words.proofs.PlacedLemmas.{indexed_words_each}
 use Rattle.fts_token.specs.Row.{LiesIn}
 use Rattle.fts_index.specs.declared.occurrence.Occurrence.{Occurrence}
-use Rattle.fts_index.specs.Occurrences.{Spot, spot_of, spot_at, spot_in, AreListed}
+use Rattle.fts_index.specs.Occurrences.{Spot, spot_of, spot_at, spot_in}
 use Rattle.fts_index.proofs.Lowering.{lowered_spot, lowered_lies}
 
 -- what is listed and what is left are the row's indexed words
@@ -54,9 +54,3 @@ module _ (rules : Rules) (texts : List (List ℕ)) where
             ∙ listing.same;
         each = All-tail (IsIndexedWord rules texts) found rest (subst (All (IsIndexedWord rules texts)) split listing.each);
       }
-
-  pub listing_ends : (done : List Occurrence) (left : List PlacedWord) → left ≡ [] → IsListing rules texts done left → AreListed rules texts done
-  listing_ends done left none listing =
-      sym (append-nil (map spot_of done))
-      ∙ ap (λ (l : List PlacedWord). map spot_of done ++ map (spot_in texts) l) (sym none)
-      ∙ listing.same

@@ -19,7 +19,6 @@ use Rattle.fts_cache.proofs.Queues.{which_word, is_same}
 use Rattle.fts_cache.proofs.Documents.{size_push, found_here, found_later}
 use Rattle.fts_index.specs.declared.occurrence.Occurrence.{Occurrence}
 use Rattle.fts_index.specs.Words.{posting_at, row_postings}
-use Rattle.fts_index.specs.Document.{HasWordsOf}
 use Rattle.fts_index.specs.Occurrences.{comes_before, is_of, positions_among, AreSorted}
 use Rattle.fts_index.proofs.Sorting.{ranks}
 use Rattle.fts_index.proofs.Bounds.{positions_spelled}
@@ -232,17 +231,6 @@ module _ (rules : Rules) (row : Row) where
         size = omega arith;
       } in
       subst (λ (d : Document). IsBuilding rules row d xs) (sym new) empty
-
-  pub building_ends : (document : Document) (rest : List Occurrence) → rest ≡ [] → IsBuilding rules row document rest → HasWordsOf rules row document
-  building_ends document rest none building =
-      let here : IsBuilding rules row document [] = subst (IsBuilding rules row document) none building in
-      record {
-        id = here.id;
-        postings = λ word.
-            ap (λ (id : ℕ). postings_from id word document.words) here.id
-            ∙ sym (append-nil (postings_from row.doc word document.words))
-            ∙ here.postings word;
-      }
 
   module _ (document : Document) (x : Occurrence) (xs : List Occurrence) (building : IsBuilding rules row document (x ∷ xs)) where
     abbrev run : List Occurrence

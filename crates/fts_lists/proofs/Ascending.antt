@@ -13,7 +13,9 @@ use Rattle.std.proofs.lemmas.List.Sorted.{IsNonDecreasingBy-from_sort, list_any-
 use Rattle.std.proofs.lemmas.Map.Keys.{IsDistinct-IsPermutation}
 use Rattle.std.proofs.lemmas.Map.Made.{AllPairs-from_IsDistinct}
 use Rattle.std.proofs.lemmas.Map.Views.{any-filter_same}
-use Rattle.fts_lists.specs.Ids.{Held, has, with_id, without, ascending, AscendFrom}
+use Rattle.fts_lists.specs.Ids.{Held, with_id, without, ascending}
+use Rattle.fts_ids.proofs.Ascending.{same_ids, AscendFrom-filter}
+use Rattle.fts_ids.specs.Ids.{has, AscendFrom}
 
 -- the three ways in which two numbers compare
 by_order : (x y : ℕ) (P : Ordering → Type 0) → (x < y → P Less) → (x ≡ y → P Equal) → (y < x → P Greater) → P (nat_cmp x y)
@@ -25,45 +27,6 @@ by_order x y P less equal greater =
     (λ n. let above : y < x = omega (arith, n) in subst P (nat_cmp_is x y Greater above) (greater above))
     (cases_eq x y))
     (cases_lt x y)
-
-pub AscendFrom-sooner : (n m : ℕ) (xs : List ℕ) → AscendFrom n xs → m ≤ n → AscendFrom m xs
-AscendFrom-sooner n m [] f le = tt
-AscendFrom-sooner n m (x ∷ xs) f le = (omega (arith, f.0), f.1)
-
-pub has_below : (n q : ℕ) (xs : List ℕ) → AscendFrom n xs → q < n → has xs q ≡ false
-has_below n q [] f lt = refl
-has_below n q (x ∷ xs) f lt =
-    let apart : nat_eq q x ≡ false = ne_eqb q x (λ e. omega (arith, f.0)) in
-    rw apart (has_below (x + 1) q xs f.1 (omega (arith, f.0)))
-
--- two sets with the same ids are the same list
-pub same_ids : (n m : ℕ) (xs ys : List ℕ) → AscendFrom n xs → AscendFrom m ys → ((q : ℕ) → has xs q ≡ has ys q) → xs ≡ ys
-same_ids n m [] [] f g same = refl
-same_ids n m [] (y ∷ ys) f g same = absurd (false≢true (same y ∙ ap (λ b. b || has ys y) (eq-eqb y y refl)))
-same_ids n m (x ∷ xs) [] f g same = absurd (false≢true (sym (same x) ∙ ap (λ b. b || has xs x) (eq-eqb x x refl)))
-same_ids n m (x ∷ xs) (y ∷ ys) f g same =
-    let xx : has (x ∷ xs) x ≡ true = ap (λ b. b || has xs x) (eq-eqb x x refl) in
-    let yy : has (y ∷ ys) y ≡ true = ap (λ b. b || has ys y) (eq-eqb y y refl) in
-    let e : x ≡ y =
-    ⊎_elim
-    (λ lt. absurd (false≢true (sym (has_below y x (y ∷ ys) (omega arith, g.1) lt) ∙ sym (same x) ∙ xx)))
-    (λ ge. ⊎_elim
-    (λ lt. absurd (false≢true (sym (has_below x y (x ∷ xs) (omega arith, f.1) lt) ∙ same y ∙ yy)))
-    (λ le. omega (arith, ge, le))
-    (cases_lt y x))
-    (cases_lt x y) in
-    let rest : AscendFrom (x + 1) ys = subst (λ z. AscendFrom (z + 1) ys) (sym e) g.1 in
-    let tails : (q : ℕ) → has xs q ≡ has ys q =
-    λ q. ⊎_elim
-    (λ lt. has_below (x + 1) q xs f.1 (omega (arith, lt)) ∙ sym (has_below (x + 1) q ys rest (omega (arith, lt))))
-    (λ ge. ⊎_elim
-    (λ le. has_below (x + 1) q xs f.1 (omega (arith, le)) ∙ sym (has_below (x + 1) q ys rest (omega (arith, le))))
-    (λ gt. let apart : nat_eq q x ≡ false = ne_eqb q x (λ i. omega (arith, i, gt)) in
-    let other : nat_eq q y ≡ false = ne_eqb q y (λ i. omega (arith, i, e, gt)) in
-    sym (ap (λ b. b || has xs q) apart) ∙ same q ∙ ap (λ b. b || has ys q) other)
-    (cases_lt q (x + 1)))
-    (cases_lt q x) in
-    ap (λ z. z ∷ xs) e ∙ ap (λ zs. y ∷ zs) (same_ids (x + 1) (x + 1) xs ys f.1 rest tails)
 
 pub AscendFrom-with_id : (n : ℕ) (ids : List ℕ) (id : ℕ) → AscendFrom n ids → n ≤ id → AscendFrom n (with_id ids id)
 AscendFrom-with_id n [] id f le = (le, tt)
@@ -103,13 +66,6 @@ has-ascending (x ∷ xs) q = has-with_id (ascending xs) x q ∙ ap (λ b. nat_eq
 pub ascending_is : (xs ys : List ℕ) → AscendFrom 0 ys → ((q : ℕ) → has xs q ≡ has ys q) → ascending xs ≡ ys
 ascending_is xs ys f same = same_ids 0 0 (ascending xs) ys (AscendFrom-ascending xs) f (λ q. has-ascending xs q ∙ same q)
 
-pub AscendFrom-filter : (p : ℕ → Bool) (n : ℕ) (ids : List ℕ) → AscendFrom n ids → AscendFrom n (filter p ids)
-AscendFrom-filter p n [] f = tt
-AscendFrom-filter p n (x ∷ xs) f =
-    let rest : AscendFrom (x + 1) (filter p xs) = AscendFrom-filter p (x + 1) xs f.1 in
-    let keep : Bool → Type 0 = λ b. AscendFrom n (cond b (x ∷ filter p xs) (filter p xs)) in
-    elim (p x) as keep [ true ↦ (f.0, rest) | false ↦ AscendFrom-sooner (x + 1) n (filter p xs) rest (omega (arith, f.0)) ]
-
 pub has-without : (taken ids : List ℕ) (q : ℕ) → has (without taken ids) q ≡ (not (has taken q) && has ids q)
 has-without taken ids q =
     any-filter_same (nat_eq q) (λ k. not (has taken k)) (not (has taken q)) (λ k e. ap (λ z. not (has taken z)) (sym (eqb-true q k e))) ids
@@ -140,10 +96,6 @@ removed old new id same =
 pub nothing : (xs : List ℕ) → length xs ≡ 0 → ascending xs ≡ []
 nothing [] e = refl
 nothing (x ∷ xs) e = absurd (omega (arith, e))
-
-pub nothing_back : (xs : List ℕ) → ascending xs ≡ [] → length xs ≡ 0
-nothing_back [] e = refl
-nothing_back (x ∷ xs) e = absurd (false≢true (sym (ap (λ ys. has ys x) e) ∙ has-ascending (x ∷ xs) x ∙ ap (λ b. b || has xs x) (eq-eqb x x refl)))
 
 -- ---- ids taken out one after another
 

@@ -3,14 +3,11 @@ use Rattle.std.proofs.Common.{◌≡◌, suc, zero, length, take, drop, set, get
 use Rattle.std.proofs.lemmas.Bool.{false≢true, eqb-true, eq-eqb}
 use Rattle.std.proofs.lemmas.List.{take_more, drop-set, take-set-le, length-take-le, length-set, get_or-take, drop_all, take_all, take-take}
 use Rattle.std.proofs.lemmas.List.Folds.{list_any-append}
-use Rattle.fts_lists.specs.Ids.{has, with_id, with_ids, AscendFrom}
+use Rattle.fts_lists.specs.Ids.{with_id, with_ids}
+use Rattle.fts_ids.specs.Ids.{has, AscendFrom}
 use Rattle.fts_lists.specs.Merging.{IsMerging}
-use Rattle.fts_lists.proofs.Ascending.{same_ids, has-with_id, AscendFrom-with_id}
-
--- the two ways in which one of two tests holds
-one_of : (a b : Bool) → (a || b) ≡ true → (a ≡ true) ⊎ (b ≡ true)
-one_of true b e = inl refl
-one_of false b e = inr e
+use Rattle.fts_ids.proofs.Ascending.{same_ids, one_of, below_at, at_most, AscendFrom-take, AscendFrom-join}
+use Rattle.fts_lists.proofs.Ascending.{has-with_id, AscendFrom-with_id}
 
 or_left : (a b : Bool) → a ≡ true → (a || b) ≡ true
 or_left true b e = refl
@@ -22,22 +19,6 @@ or_right false b e = e
 
 -- ---- ids at a place
 
-pub at_least : (n : ℕ) (xs : List ℕ) (k : ℕ) → AscendFrom n xs → k < length xs → n ≤ get_or xs k 0
-at_least n [] k up lt = absurd (omega (arith, lt))
-at_least n (x ∷ xs) zero up lt = up.0
-at_least n (x ∷ xs) (suc k) up lt = omega (arith, up.0, at_least (x + 1) xs k up.1 (omega (arith, lt)))
-
--- those before a place are below the one there
-pub below_at : (n : ℕ) (xs : List ℕ) (k : ℕ) (id : ℕ) → AscendFrom n xs → k < length xs → has (take k xs) id ≡ true → id < get_or xs k 0
-below_at n [] k id up lt h = absurd (omega (arith, lt))
-below_at n (x ∷ xs) zero id up lt h = absurd (false≢true h)
-below_at n (x ∷ xs) (suc k) id up lt h =
-    let here : k < length xs = omega (arith, lt) in
-    ⊎_elim
-    (λ e. let same : id ≡ x = eqb-true id x e in omega (arith, same, at_least (x + 1) xs k up.1 here))
-    (λ later. below_at (x + 1) xs k id up.1 here later)
-    (one_of (nat_eq id x) (has (take k xs) id) h)
-
 has-more : (xs : List ℕ) (k : ℕ) (id : ℕ) → k < length xs → has (take (k + 1) xs) id ≡ (has (take k xs) id || (nat_eq id (get_or xs k 0) || false))
 has-more xs k id lt = ap (λ ys. has ys id) (take_more xs k 0 lt) ∙ list_any-append (nat_eq id) (take k xs) (get_or xs k 0 ∷ [])
 
@@ -48,21 +29,6 @@ last_of : (xs : List ℕ) (k : ℕ) → k < length xs → has (take (k + 1) xs) 
 last_of xs k lt =
     has-more xs k (get_or xs k 0) lt
     ∙ or_right (has (take k xs) (get_or xs k 0)) _ (or_left (nat_eq (get_or xs k 0) (get_or xs k 0)) false (eq-eqb (get_or xs k 0) (get_or xs k 0) refl))
-
--- ---- ascending ids, joined
-
-pub AscendFrom-join : (n : ℕ) (xs ys : List ℕ) → AscendFrom n xs → AscendFrom n ys → ((id : ℕ) → has xs id ≡ true → AscendFrom (id + 1) ys) → AscendFrom n (xs ++ ys)
-AscendFrom-join n [] ys up later above = later
-AscendFrom-join n (x ∷ xs) ys up later above = (
-  up.0,
-  AscendFrom-join (x + 1) xs ys up.1 (above x (or_left (nat_eq x x) (has xs x) (eq-eqb x x refl)))
-      (λ id h. above id (or_right (nat_eq id x) (has xs id) h)),
-)
-
-pub AscendFrom-take : (n : ℕ) (xs : List ℕ) (k : ℕ) → AscendFrom n xs → AscendFrom n (take k xs)
-AscendFrom-take n xs zero up = tt
-AscendFrom-take n [] (suc k) up = tt
-AscendFrom-take n (x ∷ xs) (suc k) up = (up.0, AscendFrom-take (x + 1) xs k up.1)
 
 pub AscendFrom-with_ids : (ids more : List ℕ) → AscendFrom 0 ids → AscendFrom 0 (with_ids ids more)
 AscendFrom-with_ids ids [] up = up
@@ -105,16 +71,6 @@ shuffle_both true b x t = refl
 shuffle_both false b true t = refl
 shuffle_both false true false t = refl
 shuffle_both false false false t = refl
-
--- the ids up to a place are at most the one there
-pub at_most : (xs : List ℕ) (k : ℕ) (id : ℕ) → AscendFrom 0 xs → k < length xs → has (take (k + 1) xs) id ≡ true → id ≤ get_or xs k 0
-at_most xs k id up lt h =
-    ⊎_elim
-    (λ before. omega (arith, below_at 0 xs k id up lt before))
-    (λ here. ⊎_elim (λ e. omega (arith, eqb-true id (get_or xs k 0) e)) (λ e. absurd (false≢true e)) (one_of (nat_eq id (get_or xs k 0)) false here))
-    (one_of (has (take k xs) id) (nat_eq id (get_or xs k 0) || false) (sym (has-more xs k id lt) ∙ h))
-
-pub begun : (old ids held : List ℕ) (count : ℕ) → old ≡ take count held → count + length ids ≡ length held → IsMerging old ids held count (length ids) (length held)
 begun old ids held count e long =
     let none : drop (length held) held ≡ [] = drop_all (length held) held (omega arith) in
     let old_long : length old ≡ count = ap length e ∙ length-take-le count held (omega (arith, long)) in

@@ -1,17 +1,14 @@
 -- Sets of ids, as ascending lists.
-use Rattle.std.specs.Prelude.{◌≡◌, ℕ, ◌+◌, ◌≤◌, Bool, not, List, [], ◌∷◌, fold, nat_eq}
+use Rattle.std.specs.Prelude.{ℕ, not, List, [], ◌∷◌, fold}
 use Rattle.std.specs.Ordering.{nat_cmp}
 use Rattle.std.specs.BTreeSet.{insert_key}
-use Rattle.std.specs.List.{list_any, filter}
+use Rattle.std.specs.List.{filter}
+use Rattle.fts_ids.specs.Ids.{has}
 
 -- the ids of a set in ascending order, each once, and how many more it was given room for
 pub record Held : Type 0 where
   pub ids : List ℕ
   pub room : ℕ
-
--- whether an id is among these
-abbrev pub has : List ℕ → ℕ → Bool
-has ids id = list_any (nat_eq id) ids
 
 -- ascending ids with one more, in its place
 abbrev pub with_id : List ℕ → ℕ → List ℕ
@@ -29,13 +26,3 @@ without taken ids = filter (λ id. not (has taken id)) ids
 abbrev pub ascending : List ℕ → List ℕ
 ascending [] = []
 ascending (x ∷ xs) = with_id (ascending xs) x
-
--- numbers from low on, each above the one before
-abbrev pub AscendFrom : ℕ → List ℕ → Type 0
-AscendFrom low [] = Unit {0}
-AscendFrom low (x ∷ xs) = (low ≤ x) × AscendFrom (x + 1) xs
-
--- ids without some at the front that are below one: nothing is changed for that one and those above it
-pub record PassesBelow (id : ℕ) (ids rest : List ℕ) : Type 0 where
-  pub ascend : AscendFrom 0 rest
-  pub kept : (later : ℕ) → id ≤ later → has rest later ≡ has ids later

@@ -1,7 +1,7 @@
 -- How far a merge has come that begins at the back.
 use Rattle.std.specs.Prelude.{◌≡◌, ℕ, ◌+◌, ◌≤◌, ◌||◌, true, List, length, take, drop}
 use Rattle.fts_lists.specs.declared.merge.Merging.{Merging}
-use Rattle.fts_lists.specs.Ids.{has, AscendFrom}
+use Rattle.fts_ids.specs.Ids.{has, AscendFrom}
 
 -- of the old ids so many are still in their place, so many of the new ones are still to be put, and all others
 -- stand in their order from end on

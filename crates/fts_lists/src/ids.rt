@@ -2,7 +2,8 @@
 ghost use Rattle.std.specs.Prelude.{◌≡◌, ◌+◌, ◌-◌, ◌<◌, ◌≤◌, [], ◌∷◌, IsOk, IfOk, OnOk, OnErr};
 ghost use Rattle.std.specs.Prelude.{nat_eq, length};
 ghost use Rattle.std.specs.List.{IsDistinct};
-ghost use Rattle.fts_lists.specs.Ids.{has, with_id, with_ids, without};
+ghost use Rattle.fts_lists.specs.Ids.{with_id, with_ids, without};
+ghost use Rattle.fts_ids.specs.Ids.{has};
 
 use fts_types::DocId;
 use std::alloc::{AllocError, Global};

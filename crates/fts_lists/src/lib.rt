@@ -13,10 +13,9 @@ mod ids;
 mod lists;
 mod merge;
 mod sorted;
-mod walk;
 
+pub use fts_ids::IdWalk;
 pub use lists::{DeleteList, Lists};
-pub use walk::IdWalk;
 
 #[cfg(test)]
 mod tests;

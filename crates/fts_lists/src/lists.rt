@@ -1,9 +1,9 @@
 //! The lists and numbers of an index.
 ghost use Rattle.std.specs.Prelude.{◌≡◌, ◌+◌, ◌<◌, ◌≤◌, ◌↔◌, [], length, true, false, Some, None};
 ghost use Rattle.std.specs.Prelude.{IsTrue, IsOk, IfOk, OnOk, OnErr};
-ghost use Rattle.std.specs.List.Sorted.{IsStrictlyIncreasing};
 ghost use Rattle.std.specs.Option.{option_copied};
-ghost use Rattle.fts_lists.specs.Ids.{has, with_id, with_ids, without};
+ghost use Rattle.fts_lists.specs.Ids.{with_id, with_ids, without};
+ghost use Rattle.fts_ids.specs.Ids.{has, Ascend};
 ghost use Rattle.fts_lists.specs.State.{held, ids_of, room_of, ChangesOnly, opened, closed};
 
 use crate::ids::IdSet;
@@ -109,7 +109,7 @@ impl Lists {
     /// The ids of DELETED, ascending, each once.
     pub fn deleted(&self) -> &[DocId]
         ensures value { result.now ≡ ids_of DeleteList.Deleted self.now }
-        ensures ascending { IsStrictlyIncreasing result.now }
+        ensures ascending { Ascend result.now }
     {
         self.deleted.as_slice()
     }
@@ -117,7 +117,7 @@ impl Lists {
     /// The ids of BEING_DELETED, ascending, each once.
     pub fn being_deleted(&self) -> &[DocId]
         ensures value { result.now ≡ ids_of DeleteList.BeingDeleted self.now }
-        ensures ascending { IsStrictlyIncreasing result.now }
+        ensures ascending { Ascend result.now }
     {
         self.being_deleted.as_slice()
     }
@@ -154,7 +154,7 @@ impl Lists {
     /// the room for each. In a list that is kept ascending it moves only what stands above the
     /// smallest of them; in DELETED_CACHE it takes constant time for each.
     pub fn add_all(&mut self, list: DeleteList, ids: &[DocId])
-        requires ascending { IsStrictlyIncreasing ids.now }
+        requires ascending { Ascend ids.now }
         requires room { length ids.now ≤ room_of list self.old }
         ensures ids { ids_of list self.new ≡ with_ids (ids_of list self.old) ids.now }
         ensures others { ChangesOnly list self.old self.new }

@@ -1,13 +1,13 @@
 //! A set of ids, kept ascending.
 ghost use Rattle.std.specs.Prelude.{◌≡◌, ◌+◌, ◌-◌, ◌<◌, ◌≤◌, ◌↔◌, ℕ, [], ◌∷◌, ◌++◌, length, take};
 ghost use Rattle.std.specs.Prelude.{drop, IsTrue, IsOk, OnOk, OnErr};
-ghost use Rattle.std.specs.List.Sorted.{IsStrictlyIncreasing};
 ghost use Rattle.std.specs.Vec.{vec_len, vec_capacity};
-ghost use Rattle.fts_lists.specs.Ids.{has, with_id, with_ids, without, AscendFrom};
+ghost use Rattle.fts_lists.specs.Ids.{with_id, with_ids, without};
+ghost use Rattle.fts_ids.specs.Ids.{has, Ascend, AscendFrom};
 ghost use Rattle.fts_lists.specs.Merging.{IsMerging};
 
 use crate::merge::{Merging, merge_next};
-use crate::walk::IdWalk;
+use fts_ids::IdWalk;
 use fts_types::DocId;
 use std::alloc::{AllocError, Global};
 use std::marker::Model;
@@ -23,7 +23,8 @@ pub struct SortedIds {
 impl Model for SortedIds {
     ghost use Rattle.std.specs.Prelude.{◌+◌, ◌≤◌};
     ghost use Rattle.std.specs.Vec.{vec_len, vec_capacity};
-    ghost use Rattle.fts_lists.specs.Ids.{Held, AscendFrom};
+    ghost use Rattle.fts_lists.specs.Ids.{Held};
+    ghost use Rattle.fts_ids.specs.Ids.{AscendFrom};
 
     ghost Value = { Held };
 
@@ -96,7 +97,7 @@ fn take_out(held: &mut Vec<DocId>, taken: &[DocId])
     ensures len { vec_len held.new ≤ vec_len held.old }
     ensures capacity { vec_capacity held.new ≡ vec_capacity held.old }
 {
-    let mut walk = IdWalk::over(taken);
+    let mut walk = IdWalk::new(taken);
     let mut kept = 0;
     for at in 0..held.len() {
         let id = held[at];
@@ -129,7 +130,7 @@ impl SortedIds {
     /// The ids, ascending.
     pub fn as_slice(&self) -> &[DocId]
         ensures value { result.now ≡ self.now.ids }
-        ensures ascending { IsStrictlyIncreasing result.now }
+        ensures ascending { Ascend result.now }
     {
         &self.ids
     }
@@ -155,7 +156,7 @@ impl SortedIds {
     /// Puts these ids into the set, those that are not in it. It moves only what is above the
     /// smallest of them, takes no memory, and a place of the room for each.
     pub fn put(&mut self, ids: &[DocId])
-        requires ascending { IsStrictlyIncreasing ids.now }
+        requires ascending { Ascend ids.now }
         requires room { length ids.now ≤ self.old.room }
         ensures { self.new ≡ record
             { ids = with_ids self.old.ids ids.now; room = self.old.room - length ids.now } }

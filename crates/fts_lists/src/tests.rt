@@ -1,5 +1,5 @@
 ghost use Rattle.std.specs.Prelude.{◌<◌, IsTrue, OnOk};
-ghost use Rattle.std.specs.List.Sorted.{IsStrictlyIncreasing};
+ghost use Rattle.fts_ids.specs.Ids.{Ascend};
 ghost use Rattle.fts_lists.specs.State.{room_of};
 
 use super::*;
@@ -85,7 +85,7 @@ fn lists_are_sets(rt: HostRuntime) -> Result<(), Fail> {
 
 // Whether each id is above the one before.
 fn ascend(ids: &[u64]) -> bool
-    ensures { IsTrue result → IsStrictlyIncreasing ids.now }
+    ensures { IsTrue result → Ascend ids.now }
 {
     for at in 1..ids.len() {
         if ids[at - 1] >= ids[at] {

@@ -1,5 +1,5 @@
 -- What a crash in an append leaves, call by call.
-use Rattle.std.proofs.Common.{◌≡◌, ◌⊎◌, inl, inr, ⊎_elim, ℕ, ◌+◌, List, ◌∷◌, length, sym, ◌∙◌, ap, subst}
+use Rattle.std.proofs.Common.{◌≡◌, inl, inr, ⊎_elim, ℕ, ◌+◌, List, sym, ◌∙◌, subst}
 use Rattle.fts_disk.specs.Device.{Files, OnFile, Torn}
 use Rattle.fts_disk.specs.Crash.{Images, Within, Follows, Only, OnlyIn, Elapses}
 use Rattle.fts_disk.specs.Moments.{LeavesOnly}
@@ -7,7 +7,7 @@ use Rattle.fts_disk.specs.declared.disk.Disk.{Ghosts}
 use Rattle.fts_disk.proofs.Runs.{started, goes_on}
 use Rattle.fts_log.specs.Device.{SameOthers}
 use Rattle.fts_log.specs.Record.{Fits, log_end, IsLog}
-use Rattle.fts_log.specs.Crash.{IsBefore, IsAfter, IsBeforeOrAfter}
+use Rattle.fts_log.specs.Crash.{IsBefore, IsBeforeOrAfter}
 use Rattle.fts_log.proofs.Appending.{IsStaged, after_torn, after_torn_gate}
 
 -- all files as they read but file 0, step by step

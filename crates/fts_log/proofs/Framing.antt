@@ -1,21 +1,36 @@
--- A piece put behind a payload.
-use Rattle.std.proofs.Common.{◌≡◌, ℕ, ◌+◌, ◌-◌, List, [], ◌∷◌, ◌++◌, length, take, drop, refl, ◌∙◌, ap, length-append, arith}
-use Rattle.std.proofs.lemmas.List.{take_at}
+-- A payload in the bytes of a frame.
+use Rattle.std.proofs.Common.{◌≡◌, ℕ, ◌-◌, ◌≤◌, List, [], ◌∷◌, ◌++◌, length, drop, refl, sym, ◌∙◌, ap, length-append, arith}
+use Rattle.std.specs.Prelude.{slice_set}
+use Rattle.std.proofs.lemmas.List.{take_at, take-append-drop, length-drop, length-take-le, set-append_right}
 use Rattle.std.specs.Int.{w32, to_be_bytes}
 use Rattle.fts_log.specs.Framing.{staged, inner}
 
--- without the closed gate
-pub without_gate : (payload : List ℕ) (n : ℕ) → n ≡ length (staged payload) - 1 → take n (staged payload) ≡ to_be_bytes w32 (length payload) ++ payload
-without_gate payload n here = take_at (to_be_bytes w32 (length payload) ++ payload) (0 ∷ []) n (omega (arith, here, length-append payload (0 ∷ [])))
+set_one : (xs : List ℕ) → length xs ≡ 1 → slice_set xs 0 0 ≡ 0 ∷ []
+set_one [] one = absurd (omega arith)
+set_one (x ∷ []) one = refl
+set_one (x ∷ y ∷ xs) one = absurd (omega arith)
 
--- the bytes of a frame with a piece more
-pub put_more : (old piece new : List ℕ) (count : ℕ) → old ≡ staged (inner old) → count ≡ length old - 5 + length piece
-    → new ≡ to_be_bytes w32 count ++ drop 4 (take (length old - 1) old ++ piece ++ 0 ∷ []) → new ≡ staged (inner old ++ piece)
-put_more old piece new count whole counted is =
+-- the payload of a frame
+pub inner_staged : (payload : List ℕ) → inner (staged payload) ≡ payload
+inner_staged payload = take_at payload (0 ∷ []) (length (staged payload) - 5) (omega (arith, length-append payload (0 ∷ [])))
+
+-- the length written over the first four bytes, and a closed gate over the last
+pub staged_around : (old mid new : List ℕ) (last count : ℕ) → 5 ≤ length old → last ≡ length old - 1 → count ≡ last - 4
+    → mid ≡ to_be_bytes w32 count ++ drop 4 old → new ≡ slice_set mid last 0 → new ≡ staged (inner old)
+staged_around old mid new last count room last_is count_is mid_is new_is =
+    let rest = drop 4 old in
+    let n = length old - 5 in
     let p = inner old in
-    let long : length old ≡ length p + 5 = omega (arith, ap length whole, length-append p (0 ∷ [])) in
-    let cut : take (length old - 1) old ≡ to_be_bytes w32 (length p) ++ p =
-    ap (take (length old - 1)) whole ∙ without_gate p (length old - 1) (omega (arith, ap length whole)) in
-    let same : count ≡ length (p ++ piece) = omega (arith, counted, long, length-append p piece) in
-    is ∙ ap (λ (front : List ℕ). to_be_bytes w32 count ++ drop 4 (front ++ piece ++ 0 ∷ [])) cut
-    ∙ ap (λ (n : ℕ). to_be_bytes w32 n ++ (p ++ piece ++ 0 ∷ [])) same ∙ refl
+    let rest_size : length rest ≡ length old - 4 = length-drop 4 old in
+    let p_size : length p ≡ n = length-take-le n rest (omega arith) in
+    let front = to_be_bytes w32 count ++ p in
+    let front_size : length front ≡ last = omega (arith, length-append (to_be_bytes w32 count) p) in
+    let split : mid ≡ front ++ drop n rest = mid_is ∙ ap (λ (xs : List ℕ). to_be_bytes w32 count ++ xs) (sym (take-append-drop n rest)) in
+    let one : length (drop n rest) ≡ 1 = omega (arith, length-drop n rest) in
+    let set_is : slice_set (front ++ drop n rest) last 0 ≡ front ++ slice_set (drop n rest) (last - last) 0 = set-append_right front (drop n rest) last last 0 front_size (omega arith) in
+    let zero_is : last - last ≡ 0 = omega arith in
+    let count_of : count ≡ length p = omega arith in
+    new_is ∙ ap (λ (xs : List ℕ). slice_set xs last 0) split ∙ set_is
+    ∙ ap (λ (k : ℕ). front ++ slice_set (drop n rest) k 0) zero_is
+    ∙ ap (λ (xs : List ℕ). front ++ xs) (set_one (drop n rest) one)
+    ∙ ap (λ (k : ℕ). to_be_bytes w32 k ++ p ++ 0 ∷ []) count_of

@@ -3,6 +3,7 @@ use Rattle.std.proofs.Common.{◌≡◌, ℕ, ◌+◌, ◌-◌, ◌^◌, ◌<◌
 use Rattle.std.proofs.lemmas.List.{take-append-drop, take-take, drop-take, drop-drop, drop_more, drop_all, take_min, length-take-le}
 use Rattle.std.proofs.lemmas.Nat.{from_be_bytes-to_be_bytes_4}
 use Rattle.std.specs.Int.{w32, to_be_bytes, from_be_bytes}
+use Rattle.byteorder.specs.Endian.{big_number}
 use Rattle.fts_log.specs.Record.{Fits, record_of, IsBroken}
 
 module _ (file : List ℕ) (at a b c d n : ℕ) (head : take 5 (drop at file) ≡ 1 ∷ a ∷ b ∷ c ∷ d ∷ []) where
@@ -56,6 +57,13 @@ five xs size = first ∙ ap (λ (rest : List ℕ). get_or xs 0 0 ∷ rest) secon
 
     fifth : drop 4 xs ≡ get_or xs 4 0 ∷ []
     fifth = drop_more xs 4 0 (omega arith) ∙ ap (λ (rest : List ℕ). get_or xs 4 0 ∷ rest) (drop_all 5 xs (omega arith))
+
+-- the number in the four bytes behind the first of five
+pub four_bytes : (xs : List ℕ) (n : ℕ) → length xs ≡ 5 → n ≡ big_number 4 (take (length xs - 1) (drop 1 xs))
+    → n ≡ from_be_bytes w32 (get_or xs 1 0 ∷ get_or xs 2 0 ∷ get_or xs 3 0 ∷ get_or xs 4 0 ∷ [])
+four_bytes xs n size number =
+    let same : big_number 4 (get_or xs 1 0 ∷ get_or xs 2 0 ∷ get_or xs 3 0 ∷ get_or xs 4 0 ∷ []) ≡ from_be_bytes w32 (get_or xs 1 0 ∷ get_or xs 2 0 ∷ get_or xs 3 0 ∷ get_or xs 4 0 ∷ []) = omega arith in
+    number ∙ ap (λ (ys : List ℕ). big_number 4 (take (length ys - 1) (drop 1 ys))) (five xs size) ∙ same
 
 -- four bytes are bytes at each place
 pub small_bytes : (a b c d : ℕ) → a < 256 → b < 256 → c < 256 → d < 256 → (i : ℕ) → get_or (a ∷ b ∷ c ∷ d ∷ []) i 0 < 256

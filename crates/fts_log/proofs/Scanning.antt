@@ -4,7 +4,7 @@ use Rattle.std.proofs.lemmas.List.{take-append-drop, length-take-le}
 use Rattle.std.proofs.lemmas.List.Elements.{All-push}
 use Rattle.fts_disk.specs.Device.{Files}
 use Rattle.fts_log.specs.declared.place.Place.{Place}
-use Rattle.fts_log.specs.declared.place.Place.TheVariants.{Closed, Whole, Broken}
+use Rattle.fts_log.specs.declared.place.Place.TheVariants.{Whole}
 use Rattle.fts_log.specs.Record.{Fits, record_of, records, front, ends_from}
 use Rattle.fts_log.specs.declared.found.Found.{Found}
 use Rattle.fts_log.specs.Scan.{PlaceIs, EndsAs, IsFoundIn}

@@ -2,10 +2,6 @@
 use Rattle.std.specs.Prelude.{ℕ, ◌-◌, List, length, take, drop}
 use Rattle.fts_log.specs.declared.frame.Framed.{Framed}
 
--- the payload that was put
+-- the payload that is framed
 abbrev pub payload_of : Framed → List ℕ
 payload_of framed = take (length framed.bytes.items - 5) (drop 4 framed.bytes.items)
-
--- how many bytes the payload may have
-abbrev pub room_of : Framed → ℕ
-room_of framed = framed.room

@@ -1,43 +1,36 @@
-//! A record that is made piece by piece before it is appended.
-ghost use Rattle.std.specs.Prelude.{◌≡◌, ◌+◌, ◌^◌, ◌<◌, ◌≤◌, ◌++◌, [], length, drop, IfOk, vec_len};
-ghost use Rattle.std.specs.Prelude.{vec_capacity};
-ghost use Rattle.std.specs.Int.{w32, to_be_bytes};
+//! A record before it is appended.
+ghost use Rattle.std.specs.Prelude.{◌≡◌, ◌+◌, ◌^◌, ◌<◌, ◌≤◌, length};
 ghost use Rattle.fts_log.specs.Framing.{staged, inner};
 
-use std::alloc::{AllocError, Global};
+use byteorder::{BigEndian, ByteOrder};
+
+/// How many bytes of a frame stand before its payload.
+pub const BEFORE_PAYLOAD: usize = 4;
+
+/// How many bytes of a frame stand before and behind its payload.
+pub const AROUND_PAYLOAD: usize = 5;
 
 /// The payload of a record, in the bytes that an append writes: the length, the payload and a
 /// closed gate.
 #[derive(Drop)]
 pub struct Framed {
     bytes: Vec<u8>,
-    room: u32,
-    ghost room_fits: { room < 2 ^ 32 },
     ghost staged: { bytes.items ≡ staged (inner bytes.items) },
-    ghost within: { length bytes.items ≤ room + 5 },
-    ghost reserved: { room + 5 ≤ vec_capacity bytes },
 }
 
 impl Framed {
-    ghost use Rattle.fts_log.specs.Frame.{payload_of, room_of};
+    ghost use Rattle.fts_log.specs.Frame.{payload_of};
 
-    /// Takes the memory of a record of at most `room` bytes of payload, with no payload yet.
-    pub fn with_room(alloc: Global, room: u32) -> Result<Self, AllocError>
-        ensures payload { IfOk result (λ framed. payload_of framed ≡ []) }
-        ensures room { IfOk result (λ framed. room_of framed ≡ room) }
+    /// Frames the payload that stands in these bytes: all but the first four and the last one,
+    /// whatever these are. It takes no memory.
+    pub fn around(bytes: Vec<u8>) -> Self
+        requires room { 5 ≤ length bytes.items }
+        requires fits { length bytes.items < 2 ^ 32 + 5 }
+        ensures { payload_of result ≡ inner bytes.items }
     {
-        let mut bytes = Vec::with_capacity(alloc, room as usize + 5)?;
-        bytes.extend_from_slice(&[0; 5])?;
-        Ok(Framed { bytes, room })
-    }
-
-    /// Puts a piece behind the payload. It takes no memory.
-    pub fn put(&mut self, piece: &[u8])
-        requires { length (payload_of self.old) + length piece.now ≤ room_of self.old }
-        ensures payload { payload_of self.new ≡ payload_of self.old ++ piece.now }
-        ensures room { room_of self.new ≡ room_of self.old }
-    {
-        put_payload(&mut self.bytes, piece);
+        let mut bytes = bytes;
+        stage(&mut bytes);
+        Framed { bytes }
     }
 
     /// The bytes that an append writes behind the closed gate.
@@ -48,30 +41,13 @@ impl Framed {
     }
 }
 
-// Puts a piece behind the payload that the bytes of a frame hold.
-fn put_payload(bytes: &mut Vec<u8>, piece: &[u8])
-    requires staged { bytes.old.items ≡ staged (inner bytes.old.items) }
-    requires room { vec_len bytes.old + length piece.now ≤ vec_capacity bytes.old }
-    requires fits { length (inner bytes.old.items) + length piece.now < 2 ^ 32 }
-    ensures staged { bytes.new.items ≡ staged (inner bytes.old.items ++ piece.now) }
-    ensures capacity { vec_capacity bytes.old ≤ vec_capacity bytes.new }
+// Writes the length over the first four bytes, and a closed gate over the last.
+fn stage(bytes: &mut [u8])
+    requires room { 5 ≤ length bytes.old }
+    requires fits { length bytes.old < 2 ^ 32 + 5 }
+    ensures { bytes.new ≡ staged (inner bytes.old) }
 {
-    let count = (bytes.len() - 5 + piece.len()) as u32;
-    bytes.pop();
-    bytes.extend_from_slice(piece).unwrap();
-    bytes.push(0).unwrap();
-    set_length(bytes, count);
-}
-
-// Writes the length over the first four bytes.
-fn set_length(bytes: &mut Vec<u8>, count: u32)
-    requires { 4 ≤ length bytes.old.items }
-    ensures items { bytes.new.items ≡ to_be_bytes w32 count ++ drop 4 bytes.old.items }
-    ensures capacity { vec_capacity bytes.old ≤ vec_capacity bytes.new }
-{
-    let [a, b, c, d] = count.to_be_bytes();
-    bytes[0] = a;
-    bytes[1] = b;
-    bytes[2] = c;
-    bytes[3] = d;
+    let last = bytes.len() - 1;
+    BigEndian::write_u32(bytes, (last - BEFORE_PAYLOAD) as u32);
+    bytes[last] = 0;
 }

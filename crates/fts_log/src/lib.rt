@@ -26,7 +26,7 @@ mod window;
 pub use begun::is_begun;
 pub use create::create_log;
 pub use error::{AppendError, EntryError, OpenError};
-pub use frame::Framed;
+pub use frame::{AROUND_PAYLOAD, BEFORE_PAYLOAD, Framed};
 pub use laws::{not_damaged, one_list, one_place};
 pub use log::Log;
 pub use opening::{open_log, read_records};

@@ -1,6 +1,8 @@
 //! What stands at a place of a log's file.
 ghost use Rattle.std.specs.Prelude.{◌≡◌, ℕ, List, ◌+◌, ◌^◌, ◌<◌, ◌≤◌, length, take, drop};
 
+use byteorder::{BigEndian, ByteOrder};
+
 /// What stands at a place of a file: a closed gate, a whole record, which ends at `next`, or
 /// neither.
 #[derive(Clone, Copy)]
@@ -24,8 +26,8 @@ impl Place {
             → (at + 5 ≤ next) × (next ≤ file_length) }
     {
         match head {
-            [1, a, b, c, d] => {
-                let next = at + 5 + u32::from_be_bytes([*a, *b, *c, *d]) as u64;
+            [1, _, _, _, _] => {
+                let next = at + 5 + BigEndian::read_u32(&head[1..]) as u64;
                 if next <= file_length {
                     Place::Whole { next }
                 } else {

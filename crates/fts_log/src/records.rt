@@ -56,6 +56,16 @@ impl<D: Disk> Records<D> {
         read_bytes(self.found.alloc, &mut self.device, start, size)
     }
 
+    /// How many bytes the payload of record `k` has, from 0. No memory is taken for it.
+    pub fn size_of(&self, k: u64) -> u64
+        requires { k < record_count self.now }
+        ensures { IsTrue D.tells → (entries : List (List ℕ)) → Hold entries self.now
+            → result ≡ length (slice_index_or entries k []) }
+    {
+        let (_, size) = self.found.payload_at(k as usize);
+        size as u64
+    }
+
     /// The place of the gate of record `k`, from 0.
     pub fn place_of(&self, k: u64) -> u64
         requires { k < record_count self.now }

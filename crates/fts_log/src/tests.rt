@@ -22,9 +22,10 @@ const BYTES: [u8; 59] =
 fn framed(alloc: Global, payload: &[u8]) -> Result<Framed, Fail>
     requires { length payload.now < 2 ^ 32 }
 {
-    let mut framed = Framed::with_room(alloc, payload.len() as u32)?;
-    framed.put(payload);
-    Ok(framed)
+    let mut bytes = vec![in alloc; 0; BEFORE_PAYLOAD]?;
+    bytes.extend_from_slice(payload)?;
+    bytes.push(0)?;
+    Ok(Framed::around(bytes))
 }
 
 // Appends an entry, and returns its number.

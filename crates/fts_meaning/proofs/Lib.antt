@@ -3,3 +3,4 @@ pub mod Places
 pub mod Pairing
 mod WorkedRows
 pub mod OneWord
+pub mod Candidates

@@ -19,7 +19,7 @@ module _ (rules : Rules) (columns : List (List ℕ)) (w : List ℕ) where
   can found = is_indexable rules (word_of columns found)
 
   -- a word that is found among those that can be indexed can be so itself
-  indexable : (founds : List PlacedWord) → list_any is_it (filter can founds) ≡ true → is_indexable rules w ≡ true
+  pub indexable : (founds : List PlacedWord) → list_any is_it (filter can founds) ≡ true → is_indexable rules w ≡ true
   indexable [] h = absurd (false≢true h)
   indexable (found ∷ founds) h = by (can found) (is_it found) refl refl (indexable founds) h
     where

@@ -14,6 +14,8 @@ use Rattle.fts_meaning.specs.Tree.{Operand, word, prefix, phrase, distance, Term
 use Rattle.fts_meaning.specs.Token.{stray_at, words_in, tokens_at, tokens_from, IsTreeOf}
 use Rattle.fts_types.specs.Row.{Row}
 use Rattle.fts_meaning.specs.Scan.{scan}
+use Rattle.fts_meaning.specs.Leaf.{no_leaf, of_word, of_prefix, of_words, leaves}
+use Rattle.fts_meaning.specs.View.{view_of}
 
 standard : Rules
 standard = record { min = 3; max = 84; stopwords = default_stopwords }
@@ -116,3 +118,26 @@ phrase_in_one_column = refl
 phrase_of_stopwords : scan standard (record { key = 1; doc = 1; texts = codes "all of the" ∷ [] } ∷ []) (one (optional (phrase (codes "of" ∷ codes "the" ∷ [])))) ≡ []
 unfolding one optional standard default_stopwords
 phrase_of_stopwords = refl
+
+-- what a query asks the index for: one leaf for each operand, those in brackets too
+
+one_leaf_an_operand : leaves standard (two (leaf Required (word (codes "the"))) (group Required (two (optional (phrase (codes "the" ∷ codes "of" ∷ []))) (optional (prefix (codes "the")))))) ≡ no_leaf ∷ no_leaf ∷ of_prefix (codes "the") ∷ []
+unfolding two optional standard default_stopwords
+one_leaf_an_operand = refl
+
+indexable_words_asked : leaves standard (two (optional (word (codes "pie"))) (optional (distance (codes "a" ∷ codes "pie" ∷ codes "apple" ∷ []) 3))) ≡ of_word (codes "pie") ∷ of_words (codes "pie" ∷ codes "apple" ∷ []) ∷ []
+unfolding two optional standard default_stopwords
+indexable_words_asked = refl
+
+-- what a view has: the ids of each leaf, and the texts of a phrase's candidates alone
+
+two_rows : List Row
+two_rows = row 4 (codes "pie of an apple") ∷ row 7 (codes "apple") ∷ []
+
+texts_of_candidates : view_of standard two_rows 9 (of_word (codes "apple") ∷ no_leaf ∷ of_words (codes "apple" ∷ codes "pie" ∷ []) ∷ []) ≡ record {
+  number = 9;
+  postings = record { leaf = of_word (codes "apple"); ids = 4 ∷ 7 ∷ [] } ∷ record { leaf = no_leaf; ids = [] } ∷ record { leaf = of_words (codes "apple" ∷ codes "pie" ∷ []); ids = 4 ∷ [] } ∷ [];
+  texts = record { doc = 4; texts = codes "pie of an apple" ∷ [] } ∷ [];
+}
+unfolding two_rows row standard default_stopwords words_in word_at apostrophe_at in_word runs_from placed_words
+texts_of_candidates = refl

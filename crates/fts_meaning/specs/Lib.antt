@@ -7,3 +7,5 @@ pub mod Fault
 pub mod Holds
 pub mod Nesting
 pub mod Scan
+pub mod Leaf
+pub mod View

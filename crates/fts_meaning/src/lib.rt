@@ -9,5 +9,5 @@
 mod laws;
 mod sign;
 
-pub use laws::faultless_queries_have_one_tree;
+pub use laws::{candidates_are_enough, faultless_queries_have_one_tree};
 pub use sign::Sign;

@@ -1,5 +1,5 @@
 -- Walks along a list from its front: what is left of it settles the answer.
-use Rattle.std.proofs.Common.{◌≡◌, ℕ, suc, ◌+◌, ◌-◌, ◌<◌, ◌≤◌, Bool, true, false, List, ◌∷◌, length, get_or, drop, refl, sym, ap, ◌∙◌, arith, add-one, drop-cons}
+use Rattle.std.proofs.Common.{◌≡◌, ℕ, suc, ◌+◌, ◌-◌, ◌<◌, Bool, false, List, ◌∷◌, length, get_or, drop, refl, sym, ap, ◌∙◌, arith, add-one, drop-cons}
 use Rattle.std.specs.List.{list_any, range_with_len}
 
 -- the first of what is left
@@ -12,13 +12,3 @@ module _ (p : ℕ → Bool) (n : ℕ) where
   places_on i within fails same =
       let counted : n - i ≡ suc (n - (i + 1)) = omega arith in
       sym (ap (λ (m : ℕ). list_any p (range_with_len i m)) counted ∙ rw fails refl) ∙ same
-
-  pub places_found : (i : ℕ) → i < n → p i ≡ true → list_any p (range_with_len i (n - i)) ≡ list_any p (range_with_len 0 n) → true ≡ list_any p (range_with_len 0 n)
-  places_found i within passes same =
-      let counted : n - i ≡ suc (n - (i + 1)) = omega arith in
-      sym (ap (λ (m : ℕ). list_any p (range_with_len i m)) counted ∙ rw passes refl) ∙ same
-
-  pub places_none : (i : ℕ) → n ≤ i → list_any p (range_with_len i (n - i)) ≡ list_any p (range_with_len 0 n) → false ≡ list_any p (range_with_len 0 n)
-  places_none i past same =
-      let counted : n - i ≡ 0 = omega arith in
-      sym (ap (λ (m : ℕ). list_any p (range_with_len i m)) counted) ∙ same

@@ -1,6 +1,6 @@
 -- A scan for faults: what is known of the places that it has passed.
-use Rattle.std.proofs.Common.{◌≡◌, ℕ, ◌+◌, ◌-◌, ◌<◌, ◌≤◌, ◌⊎◌, true, false, eqb, leb, min, ◌&&◌, List, length, get_or, Option, None, Some, refl, sym, subst, inl, inr, ⊎_elim, arith, eqb-true, eq-eqb}
-use Rattle.std.proofs.lemmas.Bool.{cases_Bool, cases_lt, and_parts}
+use Rattle.std.proofs.Common.{◌≡◌, ℕ, ◌+◌, ◌-◌, ◌<◌, ◌≤◌, ◌⊎◌, true, false, eqb, min, ◌&&◌, List, length, get_or, Option, None, Some, sym, subst, inl, inr, ⊎_elim, arith, eqb-true, eq-eqb}
+use Rattle.std.proofs.lemmas.Bool.{cases_Bool, cases_lt}
 use Rattle.std.proofs.lemmas.Bool.Decides.{nat_tests}
 use Rattle.fts_words.proofs.RunLemmas.{clash}
 use Rattle.fts_meaning.specs.Token.{stray_at}
@@ -30,9 +30,6 @@ bracket_at text i within =
     (cases_Bool (eqb (get_or text i 0) 41)))
     (cases_Bool (eqb (get_or text i 0) 40))
 
-pub height_first : (text : List ℕ) → IsHeight text 0 0
-height_first text = record { is = refl; small = omega arith }
-
 height_by : (text : List ℕ) (i height : ℕ) → IsHeight text i height → closed text (i + 1) ≤ opened text (i + 1) → Bracket text i → IsHeight text (i + 1) (height_behind (get_or text i 0) height)
 height_by text i height here order (opens is counts) =
     subst (λ (b : ℕ). IsHeight text (i + 1) (height_behind b height)) (sym is) (record { is = omega (arith, here.is, counts.opens, counts.closes); small = omega (arith, here.small) })
@@ -50,13 +47,6 @@ pub record IsPassed (query text : List ℕ) (place height : ℕ) : Type 0 where
   pub height_is : IsHeight text place height
   pub order : (j : ℕ) → j ≤ place → closed text j ≤ opened text j
   pub none : (j : ℕ) → j < place → IsEarly query text j → ⊥
-
-pub passed_first : (query text : List ℕ) → IsPassed query text 0 0
-passed_first query text = record {
-  height_is = height_first text;
-  order = λ j low. (let same : 0 ≡ j = omega arith in subst (λ (x : ℕ). closed text x ≤ opened text x) same (omega arith));
-  none = λ j less. absurd (omega arith);
-}
 
 order_by : (text : List ℕ) (i height : ℕ) → IsHeight text i height → (eqb (get_or text i 0) 41 && eqb height 0) ≡ false → Bracket text i → closed text (i + 1) ≤ opened text (i + 1)
 order_by text i height here open_ (opens is counts) = omega (arith, here.is, counts.opens, counts.closes)
@@ -95,30 +85,10 @@ passed_more query text i height passed within fine open_ =
           (cases_lt j i);
     }
 
-pub passed_stray : (query text : List ℕ) (i height : ℕ) → IsPassed query text i height → i < length text → stray_at query text i ≡ true → IsFirstBetween (IsEarly query text) 0 (length text) (Some i)
-passed_stray query text i height passed within fault = (omega arith, within, inl fault, λ j low less. passed.none j less)
-
-pub passed_lone : (query text : List ℕ) (i height : ℕ) → IsPassed query text i height → i < length text → (eqb (get_or text i 0) 41 && eqb height 0) ≡ true → IsFirstBetween (IsEarly query text) 0 (length text) (Some i)
-passed_lone query text i height passed within lone =
-    let parts = and_parts (eqb (get_or text i 0) 41) (eqb height 0) lone in
-    let level : height ≡ 0 = eqb-true _ 0 parts.1 in
-    let close : IsLoneClose text i = record { is = eqb-true _ 41 parts.0; none = λ begin low. omega (arith, passed.order begin low, passed.height_is.is) } in
-    (omega arith, within, inr close, λ j low less. passed.none j less)
-
-pub passed_all : (query text : List ℕ) (i height : ℕ) → IsPassed query text i height → length text ≤ i → IsFirstBetween (IsEarly query text) 0 (length text) None
-passed_all query text i height passed end = λ j low less. passed.none j (omega arith)
-
 -- a scan from the end
 module _ (text : List ℕ) where
   Most : ℕ → ℕ → ℕ → Type 0
   Most place pending end = closed text end + opened text place ≤ opened text end + closed text place + pending
-
-  pub seen_first : IsSeenFrom text (length text) 0 None
-  seen_first = record {
-    most = λ end low high. (let same : end ≡ length text = omega arith in subst (λ (x : ℕ). closed text x + opened text (length text) ≤ opened text x + closed text (length text) + 0) (sym same) (omega arith));
-    reached = (length text, omega arith, omega arith, omega arith);
-    found_is = λ j low high. absurd (omega arith);
-  }
 
   module _ (i pending : ℕ) (found : Option ℕ) (within : i < length text) (seen : IsSeenFrom text (i + 1) pending found) where
     most_on : (next : ℕ) → ((end : ℕ) → i + 1 ≤ end → end ≤ length text → Most i next end) → (end : ℕ) → i ≤ end → end ≤ length text → Most i next end
@@ -195,41 +165,6 @@ module _ (text : List ℕ) where
 pub record IsClimbed (text : List ℕ) (place height : ℕ) : Type 0 where
   pub height_is : IsHeight text place height
   pub none : (j : ℕ) → j < place → IsTooDeep text j → ⊥
-
-pub climbed_first : (text : List ℕ) → IsClimbed text 0 0
-climbed_first text = record { height_is = height_first text; none = λ j less. absurd (omega arith) }
-
-deep_means : (text : List ℕ) (i height : ℕ) → i < length text → IsHeight text i height → IsTooDeep text i → (eqb (get_or text i 0) 40 && leb 32 height) ≡ true
-deep_means text i height within here deep =
-    let counts = counts_open text i within deep.is in
-    let byte : eqb (get_or text i 0) 40 ≡ true = eq-eqb _ 40 deep.is in
-    let above : 32 ≤ height = omega (arith, here.is, deep.deep, counts.opens) in
-    let high : leb 32 height ≡ true = grind (arith, nat_tests) in
-    rw (byte, high) refl
-
-pub climbed_more : (text : List ℕ) (i height : ℕ) → IsClimbed text i height → i < length text → closed text (i + 1) ≤ opened text (i + 1) → (eqb (get_or text i 0) 40 && leb 32 height) ≡ false → IsClimbed text (i + 1) (height_behind (get_or text i 0) height)
-climbed_more text i height climbed within order shallow = record {
-  height_is = height_on text i height within climbed.height_is order;
-  none = λ j less deep. ⊎_elim
-      (λ (before : j < i). climbed.none j before deep)
-      (λ (here : i ≤ j).
-      let same : j ≡ i = omega arith in
-      clash _ (deep_means text i height within climbed.height_is (subst (IsTooDeep text) same deep)) shallow)
-      (cases_lt j i);
-}
-
-pub climbed_deep : (text : List ℕ) (i height : ℕ) → IsClimbed text i height → i < length text → (eqb (get_or text i 0) 40 && leb 32 height) ≡ true → IsFirstBetween (IsTooDeep text) 0 (length text) (Some i)
-climbed_deep text i height climbed within deep =
-    let parts = and_parts (eqb (get_or text i 0) 40) (leb 32 height) deep in
-    let byte = eqb-true _ 40 parts.0 in
-    let high : leb 32 height ≡ true = parts.1 in
-    let above : 32 ≤ height = grind (arith, nat_tests) in
-    let counts = counts_open text i within byte in
-    let here : IsTooDeep text i = record { within = within; is = byte; deep = omega (arith, climbed.height_is.is, counts.opens) } in
-    (omega arith, within, here, λ j low less. climbed.none j less)
-
-pub climbed_all : (text : List ℕ) (i height : ℕ) → IsClimbed text i height → length text ≤ i → IsFirstBetween (IsTooDeep text) 0 (length text) None
-climbed_all text i height climbed end = λ j low less. climbed.none j (omega arith)
 
 -- the first early fault and the first lone bracket give the first fault
 module _ (query text : List ℕ) where

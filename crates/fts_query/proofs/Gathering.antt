@@ -1,5 +1,5 @@
 -- The words of a text, one after another.
-use Rattle.std.proofs.Common.{◌≡◌, ℕ, ◌≤◌, List, [], ◌∷◌, ◌++◌, length, map, All, refl, sym, ◌∙◌, subst, arith, append_assoc, append-nil}
+use Rattle.std.proofs.Common.{◌≡◌, ℕ, ◌≤◌, List, [], ◌∷◌, ◌++◌, length, map, All, refl, sym, subst, arith, append_assoc}
 use Rattle.std.proofs.lemmas.List.Elements.{All-head, All-tail, All-weaker}
 use Rattle.fts_words.specs.declared.span.Span.{Span}
 use Rattle.fts_words.specs.Byte.{lowered}
@@ -35,8 +35,3 @@ pub gathered_span : (text : List ℕ) (words : List (List ℕ)) (span : Span) (l
 gathered_span text words span left rest gathered split =
     let here : IsGathered text words (span ∷ rest) = subst (IsGathered text words) split gathered in
     All-head (LiesWithin text) span rest here.within
-
-pub gathered_all : (text : List ℕ) (words : List (List ℕ)) (left : List Span) → IsGathered text words left → left ≡ [] → words ≡ words_in text
-gathered_all text words left gathered none =
-    let here : IsGathered text words [] = subst (IsGathered text words) none gathered in
-    sym (append-nil words) ∙ here.same

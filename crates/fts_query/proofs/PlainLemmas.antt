@@ -1,5 +1,5 @@
 -- A query in which phrases become spaces, one after another.
-use Rattle.std.proofs.Common.{◌≡◌, ℕ, zero, suc, ◌+◌, ◌-◌, ◌<◌, ◌≤◌, List, [], ◌∷◌, ◌++◌, length, take, drop, replicate, set, sym, ap, ap₂, ◌∙◌, arith, append_assoc}
+use Rattle.std.proofs.Common.{◌≡◌, ℕ, zero, suc, ◌+◌, ◌-◌, ◌≤◌, List, [], ◌∷◌, ◌++◌, length, take, drop, replicate, set, sym, ap, ap₂, ◌∙◌, arith, append_assoc}
 use Rattle.std.proofs.lemmas.List.{take-append-drop, take_more, take-set-le, drop-set-lt, get_or-set_same, length-set}
 use Rattle.fts_words.specs.declared.span.Span.{Span}
 use Rattle.fts_meaning.specs.Plain.{with_spaces, phrase_end, without}

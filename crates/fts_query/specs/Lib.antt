@@ -3,3 +3,4 @@ pub mod Ahead
 pub mod Found
 pub mod Built
 pub mod Refused
+pub mod Seen

@@ -4,6 +4,8 @@
 //! fault; the rules stand in `docs/LANGUAGE.md`, "The Boolean language".
 //!
 //! A query is read in six passes, each linear in its text, without recursion.
+//!
+//! A `Leaf` is what an operand asks the index for, and a `View` what the index tells of them.
 #![tactic(auto)]
 
 mod build;
@@ -15,8 +17,10 @@ mod query;
 mod quotes;
 #[cfg(test)]
 mod tests;
+mod view;
 mod words;
 
 pub use parser::{ParseError, parse};
 pub use query::{Operand, Query, Term};
+pub use view::{Candidate, Leaf, Postings, View};
 pub use words::words_in;

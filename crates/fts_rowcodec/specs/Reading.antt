@@ -1,16 +1,95 @@
-use Rattle.std.specs.Prelude.{ℕ, ◌<◌, ◌^◌, List, Result, Ok, Err}
+-- Reading from left to right: a value and the bytes behind it, or nothing where none is spelled there.
+use Rattle.std.specs.Prelude.{◌≡◌, ℕ, zero, suc, ◌<◌, ◌^◌, Bool, true, false, if◌then◌else◌, ◌==◌, nat_lt, List, []}
+use Rattle.std.specs.Prelude.{◌∷◌, length, take, drop, Option, Some, None, Result, Ok, Err}
+use Rattle.std.specs.List.{list_all}
+use Rattle.std.specs.Int.{Width, w16, w32, w64, byte_len, from_be_bytes, is_in_range}
 use Rattle.fts_types.specs.declared.settings.Settings.{Settings}
+use Rattle.fts_commits.specs.Commit.{Commit}
+use Rattle.fts_commits.specs.Text.{is_text_byte}
 use Rattle.fts_commits.specs.Fits.{IsText, FitsColumns, IsPlainInsert}
 use Rattle.fts_commits.specs.declared.change.Change.{Change}
+use Rattle.fts_commits.specs.declared.change.Change.TheVariants.{Insert}
 use Rattle.fts_rowcodec.specs.Payload.{FitsText, FitsBytes}
 use Rattle.fts_rowcodec.specs.declared.error.DecodeError.{DecodeError}
 use Rattle.fts_rowcodec.specs.declared.error.DecodeError.TheVariants.{NoMemory, Bad}
 
--- what was read is so, unless memory ran out
-abbrev pub IsRead : {X : Type 0} → Result X DecodeError → (X → Type 0) → Type 0
-IsRead (Ok read) is_so = is_so read
-IsRead (Err NoMemory) is_so = Unit {0}
-IsRead (Err Bad) is_so = ⊥
+infixl 10 ◌>>=◌
+abbrev pub ◌>>=◌ : {A B : Type 0} → Option A → (A → Option B) → Option B
+(Some x) >>= f = f x
+None >>= f = None
+
+-- what a reader returned, seen by view, is what reading gives
+abbrev pub Finds : {X Y : Type 0} → (X → Y) → Option X → Option Y → Type 0
+Finds view (Some x) read = read ≡ Some (view x)
+Finds view None read = read ≡ None
+
+-- the same of a reader that takes memory, unless it ran out
+abbrev pub Lacks : {Y : Type 0} → DecodeError → Option Y → Type 0
+Lacks NoMemory read = Unit {0}
+Lacks Bad read = read ≡ None
+
+abbrev pub Gives : {X Y : Type 0} → (X → Y) → Result X DecodeError → Option Y → Type 0
+Gives view (Ok x) read = read ≡ Some (view x)
+Gives view (Err e) read = Lacks e read
+
+-- what stands behind this byte
+abbrev pub behind_at : ℕ → List ℕ → Option (List ℕ)
+behind_at byte [] = None
+behind_at byte (first ∷ rest) = if first == byte then Some rest else None
+
+-- a number of this width
+abbrev pub number_at : Width → List ℕ → Option (ℕ × List ℕ)
+number_at w bytes =
+    if nat_lt (length bytes) (byte_len w) then None
+    else Some (from_be_bytes w (take (byte_len w) bytes), drop (byte_len w) bytes)
+
+-- so many bytes
+abbrev pub piece_at : ℕ → List ℕ → Option (List ℕ × List ℕ)
+piece_at count bytes = if nat_lt (length bytes) count then None else Some (take count bytes, drop count bytes)
+
+-- so many values, one behind another
+unfoldable pub many_at : {X : Type 0} → (List ℕ → Option (X × List ℕ)) → ℕ → List ℕ → Option (List X × List ℕ)
+many_at one zero bytes = Some ([], bytes)
+many_at one (suc count) bytes = do
+  first ← one bytes
+  others ← many_at one count first.1
+  Some (first.0 ∷ others.0, others.1)
+
+-- a text
+unfoldable pub text_at : List ℕ → Option (List ℕ × List ℕ)
+text_at bytes = do
+  size ← number_at w16 bytes
+  text ← piece_at size.0 size.1
+  if list_all is_text_byte text.0 then Some text else None
+
+-- the key of an INSERT that gives no document id
+unfoldable pub key_at : List ℕ → Option (ℕ × List ℕ)
+key_at bytes = do
+  rest ← behind_at 1 bytes
+  key ← number_at w64 rest
+  more ← behind_at 0 key.1
+  Some (key.0, more)
+
+-- a change of a row of so many columns: an INSERT that gives no document id
+unfoldable pub change_at : ℕ → List ℕ → Option (Change × List ℕ)
+change_at columns bytes = do
+  key ← key_at bytes
+  texts ← many_at text_at columns key.1
+  Some (Insert key.0 None texts.0, texts.1)
+
+-- the count of a commit's changes
+unfoldable pub count_at : List ℕ → Option (ℕ × List ℕ)
+count_at bytes = do
+  rest ← behind_at 1 bytes
+  count ← number_at w16 rest
+  if is_in_range 1 1000 count.0 then Some count else None
+
+-- a commit of rows of so many columns: all of the bytes
+unfoldable pub commit_of : ℕ → List ℕ → Option Commit
+commit_of columns bytes = do
+  count ← count_at bytes
+  changes ← many_at (change_at columns) count.0 count.1
+  if length changes.1 == 0 then Some changes.0 else None
 
 -- a text that the log can hold
 abbrev pub IsRowText : List ℕ → Type 0
@@ -19,6 +98,55 @@ IsRowText text = IsText text × FitsText text
 -- a change of a table of so many columns that the log can hold: an INSERT that gives no document id
 abbrev pub IsRowChange : ℕ → Change → Type 0
 IsRowChange columns change = FitsColumns columns change × IsPlainInsert change × FitsBytes change
+
+-- the name of a column
+unfoldable pub name_at : List ℕ → Option (List ℕ × List ℕ)
+name_at [] = None
+name_at (size ∷ rest) = piece_at size rest
+
+-- yes or no
+abbrev pub flag_of : ℕ → Option Bool
+flag_of zero = Some false
+flag_of (suc zero) = Some true
+flag_of (suc (suc n)) = None
+
+-- the sizes of words and the flag of stopwords, in one byte each
+unfoldable pub sizes_at : List ℕ → Option ((ℕ × ℕ × Bool) × List ℕ)
+sizes_at [] = None
+sizes_at (min ∷ []) = None
+sizes_at (min ∷ max ∷ []) = None
+sizes_at (min ∷ max ∷ flag ∷ rest) = do
+  stopword ← flag_of flag
+  Some ((min, max, stopword), rest)
+
+-- the settings with these columns whose numbers the bytes are: all of them
+unfoldable pub with_numbers : List (List ℕ) → List ℕ → Option Settings
+with_numbers columns bytes = do
+  sizes ← sizes_at bytes
+  words ← number_at w16 sizes.1
+  cache ← number_at w32 words.1
+  batch ← number_at w32 cache.1
+  if length batch.1 == 0 then Some (record {
+    columns = columns;
+    min = sizes.0.0;
+    max = sizes.0.1;
+    stopword = sizes.0.2;
+    optimize_words = words.0;
+    cache_bytes = cache.0;
+    batch_docs = batch.0;
+  }) else None
+
+-- the count of the columns, and their names
+unfoldable pub names_at : List ℕ → Option (List (List ℕ) × List ℕ)
+names_at [] = None
+names_at (count ∷ rest) = many_at name_at count rest
+
+-- settings, whether or not a database can have them: all of the bytes
+unfoldable pub settings_of : List ℕ → Option Settings
+settings_of bytes = do
+  rest ← behind_at 0 bytes
+  names ← names_at rest
+  with_numbers names.0 names.1
 
 -- settings whose numbers fit their bytes
 abbrev pub FitNumbers : Settings → Type 0

@@ -1,13 +1,12 @@
-ghost use Rattle.std.specs.Prelude.{◌≡◌, ◌<◌, ◌≤◌, ◌^◌, ◌++◌, ◌∷◌, ◌⊎◌, ℕ, All, List, length, true};
-ghost use Rattle.std.specs.Prelude.{IfOk, IfSome, IsSomeAnd, Ok, Err};
-ghost use Rattle.std.specs.List.{flat_map, list_all};
-ghost use Rattle.std.specs.Int.{w16, w64, to_be_bytes};
+//! The commits that payloads spell.
+ghost use Rattle.std.specs.Prelude.{◌≡◌, ◌⊎◌, IfOk, Ok, Err};
+ghost use Rattle.std.specs.List.{list_all};
+ghost use Rattle.std.specs.Int.{is_in_range};
 ghost use Rattle.fts_commits.specs.Commit.{Commit};
 ghost use Rattle.fts_commits.specs.Text.{is_text_byte};
-ghost use Rattle.fts_commits.specs.declared.change.Change.{Change};
-ghost use Rattle.fts_rowcodec.specs.Payload.{IsWritten, text_payload, change_payload};
-ghost use Rattle.fts_rowcodec.specs.Payload.{commit_payload};
-ghost use Rattle.fts_rowcodec.specs.Reading.{IsRead, IsRowText, IsRowChange};
+ghost use Rattle.fts_rowcodec.specs.Payload.{IsWritten, commit_payload};
+ghost use Rattle.fts_rowcodec.specs.Reading.{Finds, Gives, many_at, text_at, key_at, change_at};
+ghost use Rattle.fts_rowcodec.specs.Reading.{count_at, commit_of};
 
 use crate::error::DecodeError;
 use crate::front::{behind, bytes_at, u16_at, u64_at};
@@ -23,11 +22,9 @@ fn has_text_bytes(text: &[u8]) -> bool
 }
 
 /// A text, behind its length of two bytes.
+#[tactic(auto, unfolding(crate::specs::Reading::text_at))]
 fn text_at(bytes: &[u8]) -> Option<(&[u8], &[u8])>
-    ensures found { IfSome result (λ found. IsRowText found.0.now
-        × (bytes.now ≡ text_payload found.0.now ++ found.1.now)) }
-    ensures complete { (text rest : List ℕ) → IsRowText text → bytes.now ≡ text_payload text ++ rest
-        → IsSomeAnd result (λ found. (found.0.now ≡ text) × (found.1.now ≡ rest)) }
+    ensures { Finds (λ x. (x.0.now, x.1.now)) result (text_at bytes.now) }
 {
     let (count, rest) = u16_at(bytes)?;
     let (text, rest) = bytes_at(rest, count as usize)?;
@@ -39,11 +36,7 @@ fn text_at(bytes: &[u8]) -> Option<(&[u8], &[u8])>
 
 /// So many texts.
 fn texts_at(alloc: Global, count: usize, bytes: &[u8]) -> Result<(RowTexts, &[u8]), DecodeError>
-    ensures found { IfOk result (λ found. (length found.0 ≡ count) × All IsRowText found.0
-        × (bytes.now ≡ flat_map text_payload found.0 ++ found.1.now)) }
-    ensures complete { (texts : List (List ℕ)) (rest : List ℕ) → length texts ≡ count
-        → All IsRowText texts → bytes.now ≡ flat_map text_payload texts ++ rest
-        → IsRead result (λ found. (found.0 ≡ texts) × (found.1.now ≡ rest)) }
+    ensures { Gives (λ x. (x.0, x.1.now)) result (many_at text_at count bytes.now) }
 {
     let mut texts = RowTexts::new(alloc);
     let mut rest = bytes;
@@ -58,24 +51,18 @@ fn texts_at(alloc: Global, count: usize, bytes: &[u8]) -> Result<(RowTexts, &[u8
 }
 
 /// The key of an INSERT that gives no document id.
+#[tactic(auto, unfolding(crate::specs::Reading::key_at))]
 fn key_at(bytes: &[u8]) -> Option<(u64, &[u8])>
-    ensures found { IfSome result (λ found. bytes.now
-        ≡ 1 ∷ (to_be_bytes w64 found.0 ++ 0 ∷ found.1.now)) }
-    ensures complete { (key : ℕ) (rest : List ℕ) → key < 2 ^ 64
-        → bytes.now ≡ 1 ∷ (to_be_bytes w64 key ++ 0 ∷ rest)
-        → IsSomeAnd result (λ found. (found.0 ≡ key) × (found.1.now ≡ rest)) }
+    ensures { Finds (λ x. (x.0, x.1.now)) result (key_at bytes.now) }
 {
     let (key, rest) = u64_at(behind(bytes, 1)?)?;
     Some((key, behind(rest, 0)?))
 }
 
 /// A change of a row of so many columns.
+#[tactic(auto, unfolding(crate::specs::Reading::change_at))]
 fn change_at(alloc: Global, columns: usize, bytes: &[u8]) -> Result<(Change, &[u8]), DecodeError>
-    ensures found { IfOk result (λ found. IsRowChange columns found.0
-        × (bytes.now ≡ change_payload found.0 ++ found.1.now)) }
-    ensures complete { (change : Change) (rest : List ℕ) → IsRowChange columns change
-        → bytes.now ≡ change_payload change ++ rest
-        → IsRead result (λ found. (found.0 ≡ change) × (found.1.now ≡ rest)) }
+    ensures { Gives (λ x. (x.0, x.1.now)) result (change_at columns bytes.now) }
 {
     let Some((key, rest)) = key_at(bytes) else {
         return Err(DecodeError::Bad);
@@ -92,12 +79,8 @@ fn changes_at(
     count: u16,
     bytes: &[u8],
 ) -> Result<(Vec<Change>, &[u8]), DecodeError>
-    ensures found { IfOk result (λ found. (length found.0.items ≡ count)
-        × All (IsRowChange columns) found.0.items
-        × (bytes.now ≡ flat_map change_payload found.0.items ++ found.1.now)) }
-    ensures complete { (commit : Commit) (rest : List ℕ) → length commit ≡ count
-        → All (IsRowChange columns) commit → bytes.now ≡ flat_map change_payload commit ++ rest
-        → IsRead result (λ found. (found.0.items ≡ commit) × (found.1.now ≡ rest)) }
+    ensures { Gives (λ x. (x.0.items, x.1.now)) result
+        (many_at (change_at columns) count bytes.now) }
 {
     let mut changes = Vec::new(alloc);
     let mut rest = bytes;
@@ -110,18 +93,37 @@ fn changes_at(
 }
 
 /// The count of a commit's changes, 1 to 1,000.
+#[tactic(auto, unfolding(crate::specs::Reading::count_at))]
 fn count_at(bytes: &[u8]) -> Option<(u16, &[u8])>
-    ensures found { IfSome result (λ found. (1 ≤ found.0) × (found.0 ≤ 1000)
-        × (bytes.now ≡ 1 ∷ (to_be_bytes w16 found.0 ++ found.1.now))) }
-    ensures complete { (count : ℕ) (rest : List ℕ) → 1 ≤ count → count ≤ 1000
-        → bytes.now ≡ 1 ∷ (to_be_bytes w16 count ++ rest)
-        → IsSomeAnd result (λ found. (found.0 ≡ count) × (found.1.now ≡ rest)) }
+    ensures { Finds (λ x. (x.0, x.1.now)) result (count_at bytes.now) }
 {
     let (count, rest) = u16_at(behind(bytes, 1)?)?;
-    if count < 1 || count > 1000 {
+    if !is_count(count) {
         return None;
     }
     Some((count, rest))
+}
+
+/// Whether a commit may have so many changes.
+fn is_count(count: u16) -> bool
+    ensures { result ≡ is_in_range 1 1000 count }
+{
+    1 <= count && count <= 1000
+}
+
+/// The commit that the bytes spell, all of them.
+#[tactic(auto, unfolding(crate::specs::Reading::commit_of))]
+fn commit_in(alloc: Global, columns: usize, bytes: &[u8]) -> Result<Changes, DecodeError>
+    ensures { Gives (λ changes. changes) result (commit_of columns bytes.now) }
+{
+    let Some((count, rest)) = count_at(bytes) else {
+        return Err(DecodeError::Bad);
+    };
+    let (changes, rest) = changes_at(alloc, columns, count, rest)?;
+    if !rest.is_empty() {
+        return Err(DecodeError::Bad);
+    }
+    Ok(Changes::from_vec(changes))
 }
 
 /// The changes in the payload of a commit of rows of so many columns. `Bad` where the bytes are no
@@ -133,12 +135,5 @@ pub fn decode_commit(alloc: Global, columns: usize, bytes: &[u8]) -> Result<Chan
     ensures exact { (commit : Commit) → IsWritten columns commit → bytes.now ≡ commit_payload commit
         → (result ≡ Ok commit) ⊎ (result ≡ Err DecodeError.NoMemory) }
 {
-    let Some((count, rest)) = count_at(bytes) else {
-        return Err(DecodeError::Bad);
-    };
-    let (changes, rest) = changes_at(alloc, columns, count, rest)?;
-    if !rest.is_empty() {
-        return Err(DecodeError::Bad);
-    }
-    Ok(Changes::from_vec(changes))
+    commit_in(alloc, columns, bytes)
 }

@@ -1,66 +1,52 @@
 //! Readers of the front of some bytes: what stands there, and what stands behind it.
 
-ghost use Rattle.std.specs.Prelude.{◌≡◌, ◌<◌, ◌^◌, ◌++◌, ◌∷◌, ℕ, List, length, true, IfSome};
-ghost use Rattle.std.specs.Prelude.{IsSomeAnd};
-ghost use Rattle.std.specs.Int.{w16, w32, w64, to_be_bytes};
+ghost use Rattle.std.specs.Prelude.{length};
+ghost use Rattle.std.specs.Int.{w16, w32, w64};
+ghost use Rattle.fts_rowcodec.specs.Reading.{Finds, behind_at, number_at, piece_at};
 
 use byteorder::{BigEndian, ByteOrder};
 
 /// What stands behind this byte.
 pub(crate) fn behind(bytes: &[u8], byte: u8) -> Option<&[u8]>
-    ensures found { IfSome result (λ rest. bytes.now ≡ byte ∷ rest.now) }
-    ensures complete { (rest : List ℕ) → bytes.now ≡ byte ∷ rest
-        → IsSomeAnd result (λ found. found.now ≡ rest) }
+    ensures { Finds (λ rest. rest.now) result (behind_at byte bytes.now) }
 {
-    match bytes {
-        [first, rest @ ..] if *first == byte => Some(rest),
-        _ => None,
+    let (first, rest) = bytes.split_first()?;
+    if *first != byte {
+        return None;
     }
+    Some(rest)
 }
 
 /// A number of two bytes.
+#[tactic(auto, using(crate::proofs::Numbers::big16))]
 pub(crate) fn u16_at(bytes: &[u8]) -> Option<(u16, &[u8])>
-    ensures found { IfSome result (λ found. bytes.now ≡ to_be_bytes w16 found.0 ++ found.1.now) }
-    ensures complete { (n : ℕ) (rest : List ℕ) → n < 2 ^ 16 → bytes.now ≡ to_be_bytes w16 n ++ rest
-        → IsSomeAnd result (λ found. (found.0 ≡ n) × (found.1.now ≡ rest)) }
+    ensures { Finds (λ x. (x.0, x.1.now)) result (number_at w16 bytes.now) }
 {
-    if bytes.len() < 2 {
-        return None;
-    }
-    Some((BigEndian::read_u16(bytes), &bytes[2..]))
+    let (number, rest) = bytes_at(bytes, 2)?;
+    Some((BigEndian::read_u16(number), rest))
 }
 
 /// A number of four bytes.
+#[tactic(auto, using(crate::proofs::Numbers::big32))]
 pub(crate) fn u32_at(bytes: &[u8]) -> Option<(u32, &[u8])>
-    ensures found { IfSome result (λ found. bytes.now ≡ to_be_bytes w32 found.0 ++ found.1.now) }
-    ensures complete { (n : ℕ) (rest : List ℕ) → n < 2 ^ 32 → bytes.now ≡ to_be_bytes w32 n ++ rest
-        → IsSomeAnd result (λ found. (found.0 ≡ n) × (found.1.now ≡ rest)) }
+    ensures { Finds (λ x. (x.0, x.1.now)) result (number_at w32 bytes.now) }
 {
-    if bytes.len() < 4 {
-        return None;
-    }
-    Some((BigEndian::read_u32(bytes), &bytes[4..]))
+    let (number, rest) = bytes_at(bytes, 4)?;
+    Some((BigEndian::read_u32(number), rest))
 }
 
 /// A number of eight bytes.
+#[tactic(auto, using(crate::proofs::Numbers::big64))]
 pub(crate) fn u64_at(bytes: &[u8]) -> Option<(u64, &[u8])>
-    ensures found { IfSome result (λ found. bytes.now ≡ to_be_bytes w64 found.0 ++ found.1.now) }
-    ensures complete { (n : ℕ) (rest : List ℕ) → n < 2 ^ 64 → bytes.now ≡ to_be_bytes w64 n ++ rest
-        → IsSomeAnd result (λ found. (found.0 ≡ n) × (found.1.now ≡ rest)) }
+    ensures { Finds (λ x. (x.0, x.1.now)) result (number_at w64 bytes.now) }
 {
-    if bytes.len() < 8 {
-        return None;
-    }
-    Some((BigEndian::read_u64(bytes), &bytes[8..]))
+    let (number, rest) = bytes_at(bytes, 8)?;
+    Some((BigEndian::read_u64(number), rest))
 }
 
 /// So many bytes.
 pub(crate) fn bytes_at(bytes: &[u8], count: usize) -> Option<(&[u8], &[u8])>
-    ensures found { IfSome result (λ found. (bytes.now ≡ found.0.now ++ found.1.now)
-        × (length found.0.now ≡ count)) }
-    ensures complete { (front : List ℕ) (rest : List ℕ) → length front ≡ count
-        → bytes.now ≡ front ++ rest
-        → IsSomeAnd result (λ found. (found.0.now ≡ front) × (found.1.now ≡ rest)) }
+    ensures { Finds (λ x. (x.0.now, x.1.now)) result (piece_at count bytes.now) }
 {
     if bytes.len() < count {
         return None;

@@ -12,11 +12,14 @@ mod commit;
 mod encode;
 mod error;
 mod front;
+mod measure;
 mod settings;
+mod writing;
 
 pub use commit::decode_commit;
-pub use encode::{encode_commit, encode_settings};
+pub use encode::{encode_commit, encode_commit_into, encode_settings, encode_settings_into};
 pub use error::DecodeError;
+pub use measure::{commit_size, settings_size};
 pub use settings::decode_settings;
 
 #[cfg(test)]

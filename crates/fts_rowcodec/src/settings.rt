@@ -1,36 +1,30 @@
-ghost use Rattle.std.specs.Prelude.{◌≡◌, ◌<◌, ◌^◌, ◌++◌, ◌∷◌, ◌⊎◌, ℕ, Bool, List, length, IfOk};
-ghost use Rattle.std.specs.Prelude.{IfSome, IsSomeAnd, Ok, Err};
-ghost use Rattle.std.specs.List.{flat_map};
+//! The settings that payloads spell.
+ghost use Rattle.std.specs.Prelude.{◌≡◌, ◌⊎◌, IfOk, Ok, Err};
 ghost use Rattle.fts_types.specs.Settings.{AreSettings};
 ghost use Rattle.fts_types.specs.declared.settings.Settings.{Settings};
-ghost use Rattle.fts_rowcodec.specs.Payload.{flag_payload, column_payload, numbers_payload};
 ghost use Rattle.fts_rowcodec.specs.Payload.{settings_payload};
-ghost use Rattle.fts_rowcodec.specs.Reading.{IsRead, FitNumbers};
+ghost use Rattle.fts_rowcodec.specs.Reading.{Finds, Gives, many_at, name_at, names_at, flag_of};
+ghost use Rattle.fts_rowcodec.specs.Reading.{sizes_at, with_numbers, settings_of};
 
 use crate::error::DecodeError;
-use crate::front::{bytes_at, u16_at, u32_at};
+use crate::front::{behind, bytes_at, u16_at, u32_at};
 use fts_types::{Names, Settings};
 use std::alloc::Global;
 
 /// The name of a column, behind its length of one byte.
+#[tactic(auto, unfolding(crate::specs::Reading::name_at))]
 fn name_at(bytes: &[u8]) -> Option<(&[u8], &[u8])>
-    ensures found { IfSome result (λ found. bytes.now ≡ column_payload found.0.now ++ found.1.now) }
-    ensures complete { (name rest : List ℕ) → bytes.now ≡ column_payload name ++ rest
-        → IsSomeAnd result (λ found. (found.0.now ≡ name) × (found.1.now ≡ rest)) }
+    ensures { Finds (λ x. (x.0.now, x.1.now)) result (name_at bytes.now) }
 {
     match bytes {
         [] => None,
-        [count, rest @ ..] => bytes_at(rest, *count as usize),
+        [size, rest @ ..] => bytes_at(rest, *size as usize),
     }
 }
 
 /// So many names of columns.
-fn names_at(alloc: Global, count: u8, bytes: &[u8]) -> Result<(Names, &[u8]), DecodeError>
-    ensures found { IfOk result (λ found. (length found.0 ≡ count)
-        × (bytes.now ≡ flat_map column_payload found.0 ++ found.1.now)) }
-    ensures complete { (names : List (List ℕ)) (rest : List ℕ) → length names ≡ count
-        → bytes.now ≡ flat_map column_payload names ++ rest
-        → IsRead result (λ found. (found.0 ≡ names) × (found.1.now ≡ rest)) }
+fn many_names(alloc: Global, count: u8, bytes: &[u8]) -> Result<(Names, &[u8]), DecodeError>
+    ensures { Gives (λ x. (x.0, x.1.now)) result (many_at name_at count bytes.now) }
 {
     let mut names = Names::new(alloc);
     let mut rest = bytes;
@@ -44,28 +38,46 @@ fn names_at(alloc: Global, count: u8, bytes: &[u8]) -> Result<(Names, &[u8]), De
     Ok((names, rest))
 }
 
-/// The sizes of words and the flag of stopwords, in one byte each.
-fn sizes_at(bytes: &[u8]) -> Option<(u8, u8, bool, &[u8])>
-    ensures found { IfSome result (λ found. bytes.now
-        ≡ found.0 ∷ found.1 ∷ flag_payload found.2 ∷ found.3.now) }
-    ensures complete { (min max : ℕ) (stopword : Bool) (rest : List ℕ)
-        → bytes.now ≡ min ∷ max ∷ flag_payload stopword ∷ rest
-        → IsSomeAnd result (λ found. (found.0 ≡ min) × (found.1 ≡ max) × (found.2 ≡ stopword)
-        × (found.3.now ≡ rest)) }
+/// The names of the columns, behind their count of one byte.
+#[tactic(auto, unfolding(crate::specs::Reading::names_at))]
+fn names_at(alloc: Global, bytes: &[u8]) -> Result<(Names, &[u8]), DecodeError>
+    ensures { Gives (λ x. (x.0, x.1.now)) result (names_at bytes.now) }
 {
     match bytes {
-        [min, max, 0, rest @ ..] => Some((*min, *max, false, rest)),
-        [min, max, 1, rest @ ..] => Some((*min, *max, true, rest)),
+        [] => Err(DecodeError::Bad),
+        [count, rest @ ..] => many_names(alloc, *count, rest),
+    }
+}
+
+/// Yes or no in one byte.
+fn flag_of(byte: u8) -> Option<bool>
+    ensures { Finds (λ flag. flag) result (flag_of byte) }
+{
+    match byte {
+        0 => Some(false),
+        1 => Some(true),
         _ => None,
     }
 }
 
+/// The sizes of words and the flag of stopwords, in one byte each.
+#[tactic(auto, unfolding(crate::specs::Reading::sizes_at))]
+fn sizes_at(bytes: &[u8]) -> Option<(u8, u8, bool, &[u8])>
+    ensures { Finds (λ x. ((x.0, x.1, x.2), x.3.now)) result (sizes_at bytes.now) }
+{
+    match bytes {
+        [] | [_] | [_, _] => None,
+        [min, max, flag, rest @ ..] => {
+            let stopword = flag_of(*flag)?;
+            Some((*min, *max, stopword, rest))
+        }
+    }
+}
+
 /// The settings with these columns whose numbers the bytes are, all of them.
+#[tactic(auto, unfolding(crate::specs::Reading::with_numbers))]
 fn with_numbers(columns: Names, bytes: &[u8]) -> Option<Settings>
-    ensures found { IfSome result (λ settings. (settings.columns ≡ columns)
-        × (bytes.now ≡ numbers_payload settings)) }
-    ensures complete { (settings : Settings) → FitNumbers settings → columns ≡ settings.columns
-        → bytes.now ≡ numbers_payload settings → IsSomeAnd result (λ found. found ≡ settings) }
+    ensures { Finds (λ settings. settings) result (with_numbers columns bytes.now) }
 {
     let (min, max, stopword, rest) = sizes_at(bytes)?;
     let (optimize_words, rest) = u16_at(rest)?;
@@ -86,15 +98,14 @@ fn with_numbers(columns: Names, bytes: &[u8]) -> Option<Settings>
 }
 
 /// The settings whose payload the bytes are, whether or not a database can have them.
+#[tactic(auto, unfolding(crate::specs::Reading::settings_of))]
 fn settings_in(alloc: Global, bytes: &[u8]) -> Result<Settings, DecodeError>
-    ensures found { IfOk result (λ settings. bytes.now ≡ settings_payload settings) }
-    ensures complete { (settings : Settings) → FitNumbers settings
-        → bytes.now ≡ settings_payload settings → IsRead result (λ found. found ≡ settings) }
+    ensures { Gives (λ settings. settings) result (settings_of bytes.now) }
 {
-    let [0, count, rest @ ..] = bytes else {
+    let Some(rest) = behind(bytes, 0) else {
         return Err(DecodeError::Bad);
     };
-    let (columns, rest) = names_at(alloc, *count, rest)?;
+    let (columns, rest) = names_at(alloc, rest)?;
     match with_numbers(columns, rest) {
         None => Err(DecodeError::Bad),
         Some(settings) => Ok(settings),
@@ -111,7 +122,10 @@ pub fn decode_settings(alloc: Global, bytes: &[u8]) -> Result<Settings, DecodeEr
         → bytes.now ≡ settings_payload settings
         → (result ≡ Ok settings) ⊎ (result ≡ Err DecodeError.NoMemory) }
 {
-    let settings = settings_in(alloc, bytes)?;
+    let settings = match settings_in(alloc, bytes) {
+        Ok(settings) => settings,
+        Err(error) => return Err(error),
+    };
     match settings.check() {
         Ok(()) => Ok(settings),
         Err(_) => Err(DecodeError::Bad),

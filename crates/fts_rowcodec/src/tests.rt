@@ -186,6 +186,7 @@ fn commit_in(
 ) -> Result<Changes, Fail> {
     match decode_commit(alloc, columns, bytes) {
         Ok(commit) => {
+            assert!(rt; bytes.len() < 65_536);
             let again = encode_commit(alloc, commit.as_slice())?;
             assert_eq!(rt; again.as_slice(), bytes);
             Ok(commit)
@@ -328,5 +329,27 @@ fn encodes_an_update(rt: HostRuntime) -> Result<(), Fail> {
         bytes.as_slice(),
         [1, 0, 1, 2, 0, 0, 0, 0, 0, 0, 0, 2, 0, 1, 0, 2, 0x61, 0x62].as_slice()
     );
+    Ok(())
+}
+
+// The bytes behind a payload stay as they are.
+#[test]
+fn a_commit_is_written_at_the_head_of_a_buffer(rt: HostRuntime) {
+    let mut buf = [7; 14];
+    assert_eq!(rt;
+        encode_commit_into(&[Change::Delete { key: 258 }], &mut buf),
+        12
+    );
+    assert_eq!(rt; buf, [1, 0, 1, 3, 0, 0, 0, 0, 0, 0, 1, 2, 7, 7]);
+}
+
+#[test]
+fn settings_are_written_at_the_head_of_a_buffer(rt: HostRuntime) -> Result<(), Fail> {
+    let settings = settings_of(rt.alloc(), &["body"], 3, true)?;
+    settings.check()?;
+    let mut buf = [7; 300];
+    assert_eq!(rt; encode_settings_into(&settings, &mut buf), 20);
+    assert_eq!(rt; &buf[..20], SETTINGS.as_slice());
+    assert_eq!(rt; &buf[20..22], [7, 7].as_slice());
     Ok(())
 }

@@ -87,6 +87,7 @@ module _ {S : Type 0} (sight : Sight S) (line : List ℕ) where
     follows = λ running stands. tt;
     stands = λ running stands. stands;
     crash = λ e told running stands. inl refl;
+    index = λ e told running stands. inl refl;
     settings = refl;
     limits = refl;
     faults = record { rose = λ is. absurd (calm is); calm = λ no. refl; never_falls = omega arith };
@@ -112,6 +113,7 @@ module _ {S : Type 0} (sight : Sight S) (line : List ℕ) where
       follows = λ running stands. (made.made.may running stands, tt);
       stands = λ running stands. made.made.stands running stands;
       crash = λ single told running stands. made.made.crash single told running stands;
+      index = made.made.index;
       settings = made.made.settings;
       limits = made.made.limits;
       faults = told_fault made.answer reply (sight.faults old) (sight.faults new) made.told made.made.faults;

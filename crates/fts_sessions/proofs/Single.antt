@@ -5,7 +5,6 @@ use Rattle.fts_io.specs.Text.{Line, whole, too_long}
 use Rattle.fts_schema.specs.declared.reply.Reply.{Reply}
 use Rattle.fts_sql.proofs.Laws.{one_statement}
 use Rattle.fts_sql.proofs.Single.{one_fault, statement_or_fault, blank_or_statement}
-use Rattle.fts_schema.specs.declared.reply.Reply.TheVariants.{NoMemory, DiskFault}
 use Rattle.fts_steps.specs.Running.{Running, Entry, grown}
 use Rattle.fts_steps.specs.Step.{Ask, Answer, Call, MayAnswer, Follows, AreAlone, plain_answer}
 use Rattle.fts_steps.specs.Step.{committed, refused, full, found, disk_fault, stopped, no_memory}

@@ -5,7 +5,7 @@ use Rattle.fts_types.specs.declared.settings.Settings.{Settings}
 use Rattle.fts_schema.specs.declared.reply.Reply.{Reply}
 use Rattle.fts_schema.specs.declared.reply.Reply.TheVariants.{NoMemory, DiskFault}
 use Rattle.fts_steps.specs.Running.{Running}
-use Rattle.fts_steps.specs.Crash.{IsBetween}
+use Rattle.fts_steps.specs.Crash.{IsBetween, HoldsIndex}
 use Rattle.fts_steps.specs.Step.{Ask, Answer, Call, Sight, Leaves, Steps, Follows, AreAlone, after_all}
 use Rattle.fts_sessions.specs.Request.{Request, IsRequest}
 use Rattle.fts_sessions.specs.Conversation.{Next, asks, ends, Converses, reply_to}
@@ -18,15 +18,17 @@ Says settings line calls reply =
 
 -- a line is executed: the steps that it made, with its reply. On each engine for which the steps stood they answered as
 -- they may, and stand then for what these made of it; where there are no others, a crash at any moment leaves what was
--- before the line or what is behind it
+-- before the line or what is behind it, and the index log as it was
 pub record Executes {S : Type 0} (sight : Sight S) (line : Line) (old : S) (reply : Reply) (new : S) : Type 0 where
   pub calls : List Call
   pub says : Says (sight.settings old) line calls reply
   pub alone : sight.is_shared ≡ false → AreAlone calls
   pub follows : (running : Running) → sight.stands running old → Follows (sight.limits old) running calls
   pub stands : (running : Running) → sight.stands running old → sight.stands (after_all running calls) new
-  pub crash : sight.is_shared ≡ false → IsTrue sight.disk.tells → (running : Running) → sight.stands running old
-      → Leaves sight (IsBetween running (after_all running calls)) old new
+  pub crash : sight.is_shared ≡ false → IsTrue sight.rows.disk.tells → (running : Running)
+      → sight.stands running old → Leaves sight.rows (IsBetween running (after_all running calls)) old new
+  pub index : sight.is_shared ≡ false → IsTrue sight.index.disk.tells → (running : Running)
+      → sight.stands running old → Leaves sight.index (HoldsIndex running.state) old new
   pub settings : sight.settings new ≡ sight.settings old
   pub limits : sight.limits new ≡ sight.limits old
   pub faults : CountsFault (reply ≡ DiskFault) (sight.faults old) (sight.faults new)

@@ -8,11 +8,11 @@ use std::alloc::AllocError;
 
 /// The steps of an engine that one thread owns: each is a call of the engine.
 #[derive(Drop)]
-pub struct Direct<D: Disk> {
-    pub engine: Engine<D>,
+pub struct Direct<D: Disk, E: Disk> {
+    pub engine: Engine<D, E>,
 }
 
-impl<D: Disk> EngineSteps for Direct<D> {
+impl<D: Disk, E: Disk> EngineSteps for Direct<D, E> {
     ghost use Rattle.fts_sessions.specs.Direct.{direct_sight};
 
     ghost sight = { direct_sight };

@@ -187,27 +187,31 @@ fn settings_of(alloc: Global, columns: &[&str]) -> Result<Settings, AllocError> 
 }
 
 /// A database without commits of a table with a title and a body.
-fn created(alloc: Global) -> Result<MemDisk, AllocError> {
+fn created(alloc: Global) -> Result<(MemDisk, MemDisk), AllocError> {
     let Ok(settings) = settings_of(alloc, &COLUMNS) else {
         return Err(AllocError);
     };
     let Ok(rows) = MemDisk::from_files(alloc, Vec::new(alloc), Vec::new(alloc)) else {
         return Err(AllocError);
     };
+    let Ok(index) = MemDisk::from_files(alloc, Vec::new(alloc), Vec::new(alloc)) else {
+        return Err(AllocError);
+    };
     if settings.check().is_err() {
         return Err(AllocError);
     }
-    match create_engine(alloc, &settings, rows) {
-        Ok(rows) => Ok(rows),
+    match create_engine(alloc, &settings, rows, index) {
+        Ok(devices) => Ok(devices),
         Err(_) => Err(AllocError),
     }
 }
 
 /// The engine over it.
-fn engine(alloc: Global) -> Result<Engine<MemDisk>, AllocError>
+fn engine(alloc: Global) -> Result<Engine<MemDisk, MemDisk>, AllocError>
     ensures { IfOk result (λ engine. (state : State) × Stands (opened state) engine) }
 {
-    match open_engine(alloc, created(alloc)?, Limits::standard()) {
+    let (rows, index) = created(alloc)?;
+    match open_engine(alloc, rows, index, Limits::standard()) {
         Ok(engine) => Ok(engine),
         Err(_) => Err(AllocError),
     }

@@ -3,16 +3,20 @@ use Rattle.std.specs.Prelude.{◌≡◌, ◌⊎◌, List, ◌++◌}
 use Rattle.fts_disk.specs.Device.{Files}
 use Rattle.fts_disk.specs.Crash.{Images}
 use Rattle.fts_commits.specs.Commit.{Commit}
-use Rattle.fts_steps.specs.State.{State, with_commits, IsDatabase}
+use Rattle.fts_steps.specs.State.{State, with_commits, IsRows, IsIndex}
 use Rattle.fts_steps.specs.Running.{Running}
 
--- these files are the database of the state, or of the state and the commits in doubt
+-- the rows log is that of the state, or of the state and the commits in doubt
 abbrev pub MayHold : State → List Commit → Images
-MayHold state doubt c = IsDatabase state (c 0) ⊎ IsDatabase (with_commits state doubt) (c 0)
+MayHold state doubt c = IsRows state (c 0) ⊎ IsRows (with_commits state doubt) (c 0)
 
--- these files are the database at the start with a front of what was added up to now, the commit in doubt as the last
+-- the rows log is that of the start with a front of what was added up to now, the commit in doubt as the last
 pub record IsBetween (start now : Running) (c : Files) : Type 0 where
   pub front : List Commit
   pub rest : List Commit
   pub added : now.state.commits ++ now.doubt ≡ start.state.commits ++ (front ++ rest)
-  pub database : IsDatabase (with_commits start.state front) (c 0)
+  pub rows : IsRows (with_commits start.state front) (c 0)
+
+-- the index log is that of the state
+abbrev pub HoldsIndex : State → Images
+HoldsIndex state c = IsIndex state (c 0)

@@ -1,7 +1,7 @@
--- Where the bytes of a rows log are at fault.
-use Rattle.std.specs.Prelude.{◌≡◌, ◌≢◌, ◌⊎◌, ℕ, ◌+◌, ◌<◌, List, [], ◌++◌, length, take}
+-- Where the bytes of the two logs are at fault.
+use Rattle.std.specs.Prelude.{◌≡◌, ◌≢◌, ◌⊎◌, ℕ, ◌+◌, ◌<◌, List, [], ◌∷◌, ◌++◌, length, take}
 use Rattle.fts_log.specs.Record.{IsBrokenBehind, front, gate_at}
-use Rattle.fts_steps.specs.State.{State, payloads, rows_magic, IsSound}
+use Rattle.fts_steps.specs.State.{State, payloads, rows_magic, index_magic, IsSound}
 
 -- the entries are no sound state's
 abbrev pub AreNoState : List (List ℕ) → Type 0
@@ -33,3 +33,15 @@ pub record IsTornAt (at : ℕ) (file : List ℕ) : Type 0 where
 abbrev pub IsFaultAt : ℕ → List ℕ → Type 0
 IsFaultAt at file =
     ((at ≡ 0) × ((rest : List ℕ) → file ≢ rows_magic ++ rest)) ⊎ (IsWrongAt at file ⊎ IsTornAt at file)
+
+-- behind the magic, at this place, stands no closed gate
+pub record IsOpenAt (at : ℕ) (file : List ℕ) : Type 0 where
+  pub rest : List ℕ
+  pub bytes : file ≡ index_magic ++ rest
+  pub place : at ≡ length index_magic
+  pub unclosed : (gate : ℕ) (more : List ℕ) → rest ≡ gate ∷ more → gate ≡ 1
+
+-- the first place at which the file is no index log of a database: 0 where the magic is wrong or missing, else the
+-- first gate, where it isn't closed: no entry is a database's yet
+abbrev pub IsIndexFaultAt : ℕ → List ℕ → Type 0
+IsIndexFaultAt at file = ((at ≡ 0) × ((rest : List ℕ) → file ≢ index_magic ++ rest)) ⊎ IsOpenAt at file

@@ -12,7 +12,7 @@ use Rattle.fts_disk.specs.Moments.{LeavesOnly}
 use Rattle.fts_disk.specs.declared.disk.Disk.{Ghosts}
 use Rattle.fts_steps.specs.State.{State, end_after}
 use Rattle.fts_steps.specs.Running.{Running, What, made, failed, Entry, grown}
-use Rattle.fts_steps.specs.Crash.{IsBetween}
+use Rattle.fts_steps.specs.Crash.{IsBetween, HoldsIndex}
 
 -- what a step is asked: to make a commit, or to look for the rows that have a word
 pub data Ask : Type 0 where
@@ -78,34 +78,41 @@ entries_of by ask answer = map (λ what. record { by = by; what = what }) (chang
 abbrev pub after : Running → Ask → Answer → Running
 after running ask answer = grown running (entries_of 0 ask answer)
 
+-- a device below what makes steps
+pub record Below (S : Type 0) : Type 1 where
+  pub Device : Type 0
+  pub disk : Ghosts Device
+  pub device : S → Device
+
 -- what contracts see of what makes steps: whether others make some in between, the settings and the limits of commits,
--- how many faults the devices had, for which engine it stands, and on which device
+-- how many faults the devices had together, for which engine it stands, and the devices of its two logs
 pub record Sight (S : Type 0) : Type 1 where
   pub is_shared : Bool
   pub settings : S → Settings
   pub limits : S → Limits
   pub faults : S → ℕ
   pub stands : Running → S → Type 0
-  pub Device : Type 0
-  pub disk : Ghosts Device
-  pub device : S → Device
+  pub rows : Below S
+  pub index : Below S
 
 -- from one to the other the device was not touched, or a crash at any moment leaves files of which this holds
-abbrev pub Leaves : {S : Type 0} → Sight S → Images → S → S → Type 0
-Leaves sight P old new = (sight.device new ≡ sight.device old)
-    ⊎ LeavesOnly sight.disk (sight.device old) (sight.device new) P
+abbrev pub Leaves : {S : Type 0} → Below S → Images → S → S → Type 0
+Leaves below P old new = (below.device new ≡ below.device old)
+    ⊎ LeavesOnly below.disk (below.device old) (below.device new) P
 
 -- a step: `more` is what others added before it. It answers as it may on the engine grown so, and what stands then
 -- stands for this engine after the answer. Where there are no others, a crash at any moment leaves what stood before it
--- or what stands behind it
+-- or what stands behind it, and the index log as it was
 pub record Steps {S : Type 0} (sight : Sight S) (ask : Ask) (answer : Answer) (old new : S) : Type 0 where
   pub more : List Entry
   pub alone : sight.is_shared ≡ false → more ≡ []
   pub may : (running : Running) → sight.stands running old
       → MayAnswer (sight.limits old) (grown running more) ask answer
   pub stands : (running : Running) → sight.stands running old → sight.stands (after (grown running more) ask answer) new
-  pub crash : sight.is_shared ≡ false → IsTrue sight.disk.tells → (running : Running) → sight.stands running old
-      → Leaves sight (IsBetween running (after (grown running more) ask answer)) old new
+  pub crash : sight.is_shared ≡ false → IsTrue sight.rows.disk.tells → (running : Running)
+      → sight.stands running old → Leaves sight.rows (IsBetween running (after (grown running more) ask answer)) old new
+  pub index : sight.is_shared ≡ false → IsTrue sight.index.disk.tells → (running : Running)
+      → sight.stands running old → Leaves sight.index (HoldsIndex running.state) old new
   pub settings : sight.settings new ≡ sight.settings old
   pub limits : sight.limits new ≡ sight.limits old
   pub faults : CountsFault (IsTrue (is_disk_fault answer)) (sight.faults old) (sight.faults new)

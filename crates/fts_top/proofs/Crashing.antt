@@ -9,22 +9,22 @@ use Rattle.fts_disk.specs.Crash.{Images}
 use Rattle.fts_disk.specs.Moments.{LeavesOnly, LeavesAsBefore}
 use Rattle.fts_disk.specs.declared.disk.Disk.{Ghosts}
 use Rattle.fts_disk.proofs.Runs.{leaves_weaker}
-use Rattle.fts_steps.specs.State.{State, with_commits, IsDatabase}
+use Rattle.fts_steps.specs.State.{State, with_commits, IsRows}
 use Rattle.fts_steps.specs.Running.{Running, What, made, failed, Entry, with_what, grown}
-use Rattle.fts_steps.specs.Crash.{IsBetween}
+use Rattle.fts_steps.specs.Crash.{IsBetween, HoldsIndex}
 use Rattle.fts_steps.specs.Step.{Ask, to_commit, to_find, Answer, committed, refused, full, found, disk_fault, stopped, no_memory, unless_stopped, MayAnswer}
-use Rattle.fts_steps.specs.Step.{Call, Sight, Leaves, after, after_call, after_all, entries_of, Follows, AreAlone}
-use Rattle.fts_top.specs.Run.{IsSure, MayCrash}
+use Rattle.fts_steps.specs.Step.{Call, Below, Sight, Leaves, after, after_call, after_all, entries_of, Follows, AreAlone}
+use Rattle.fts_top.specs.Run.{IsSure, MayCrash, MayCrashIndex}
 
 -- a state that has grown by commits
 abbrev pub Grown : State → State → Type 0
 Grown old new = (more : List Commit) × (new ≡ with_commits old more)
 
 none_more : (state : State) → state ≡ with_commits state []
-none_more state = ap (λ (commits : List Commit). record { settings = state.settings; commits = commits }) (sym (append-nil state.commits))
+none_more state = ap (λ (commits : List Commit). record { settings = state.settings; commits = commits; entries = state.entries }) (sym (append-nil state.commits))
 
 with_more : (state : State) (first more : List Commit) → with_commits (with_commits state first) more ≡ with_commits state (first ++ more)
-with_more state first more = ap (λ (commits : List Commit). record { settings = state.settings; commits = commits }) (append_assoc state.commits first more)
+with_more state first more = ap (λ (commits : List Commit). record { settings = state.settings; commits = commits; entries = state.entries }) (append_assoc state.commits first more)
 
 grown_more : (old mid new : State) → Grown old mid → Grown mid new → Grown old new
 grown_more old mid new first behind = (
@@ -127,7 +127,7 @@ earlier start mid now c more between = record {
   rest = between.rest ++ more.0;
   added = more.1 ∙ ap (λ (all : List Commit). all ++ more.0) between.added ∙ append_assoc start.state.commits (between.front ++ between.rest) more.0
       ∙ ap (λ (all : List Commit). start.state.commits ++ all) (append_assoc between.front between.rest more.0);
-  database = between.database;
+  rows = between.rows;
 }
 
 behind : (start mid now : Running) (c : Files) → Grown start.state mid.state → IsBetween mid now c → IsBetween start now c
@@ -137,8 +137,8 @@ behind start mid now c grew between = record {
   added = between.added ∙ ap (λ (state : State). state.commits ++ (between.front ++ between.rest)) grew.1
       ∙ append_assoc start.state.commits grew.0 (between.front ++ between.rest)
       ∙ ap (λ (all : List Commit). start.state.commits ++ all) (sym (append_assoc grew.0 between.front between.rest));
-  database = subst (λ (state : State). IsDatabase state (c 0)) (ap (λ (state : State). with_commits state between.front) grew.1 ∙ with_more start.state grew.0 between.front)
-      between.database;
+  rows = subst (λ (state : State). IsRows state (c 0)) (ap (λ (state : State). with_commits state between.front) grew.1 ∙ with_more start.state grew.0 between.front)
+      between.rows;
 }
 
 -- one run behind another
@@ -149,27 +149,36 @@ joined disk old mid new P first then_ = record {
   before = λ t c le left. ⊎_elim (λ past. first.before t c le past) inr (then_.before t c (let a = first.later in omega (arith, le, a)) left);
 }
 
-module _ {S : Type 0} (sight : Sight S) (before mid new : S) (start middle now : Running) (grew : Grown start.state middle.state) (more : Adds middle now) where
-  sooner : (c : Files) → MayCrash sight start middle before c → MayCrash sight start now before c
-  sooner c may = ⊎_elim inl (λ between. inr (earlier start middle now c more between)) may
+-- what is left of one run and of one behind it
+leaves_more : {S : Type 0} (below : Below S) (before mid new : S) (P Q R : Images) → ((c : Files) → P c → R c) → ((c : Files) → Q c → R c)
+    → Leaves below P before mid → Leaves below Q mid new → Leaves below R before new
+leaves_more below before mid new P Q R sooner later (inl same) (inl again) = inl (again ∙ same)
+leaves_more below before mid new P Q R sooner later (inl same) (inr left) =
+    inr (subst (λ (d : below.Device). LeavesOnly below.disk d (below.device new) R) same
+    (leaves_weaker below.disk (below.device mid) (below.device new) Q R later left))
+leaves_more below before mid new P Q R sooner later (inr left) (inl same) =
+    inr (subst (λ (d : below.Device). LeavesOnly below.disk (below.device before) d R) (sym same)
+    (leaves_weaker below.disk (below.device before) (below.device mid) P R sooner left))
+leaves_more below before mid new P Q R sooner later (inr first) (inr then_) =
+    inr (joined below.disk (below.device before) (below.device mid) (below.device new) R
+    (leaves_weaker below.disk (below.device before) (below.device mid) P R sooner first)
+    (leaves_weaker below.disk (below.device mid) (below.device new) Q R later then_))
 
-  later : (c : Files) → IsBetween middle now c → MayCrash sight start now before c
-  later c between = inr (behind start middle now c grew between)
+module _ {S : Type 0} (sight : Sight S) (before mid new : S) (start middle : Running) (grew : Grown start.state middle.state) where
+  -- a line behind others leaves of the rows log
+  pub crash_more : (now : Running) → Adds middle now → Leaves sight.rows (MayCrash sight start middle before) before mid → Leaves sight.rows (IsBetween middle now) mid new
+      → Leaves sight.rows (MayCrash sight start now before) before new
+  crash_more now more = leaves_more sight.rows before mid new (MayCrash sight start middle before) (IsBetween middle now) (MayCrash sight start now before)
+      (λ c may. ⊎_elim inl (λ between. inr (earlier start middle now c more between)) may) (λ c between. inr (behind start middle now c grew between))
 
-  -- a line behind others
-  pub crash_more : Leaves sight (MayCrash sight start middle before) before mid → Leaves sight (IsBetween middle now) mid new
-      → Leaves sight (MayCrash sight start now before) before new
-  crash_more (inl same) (inl again) = inl (again ∙ same)
-  crash_more (inl same) (inr left) =
-      inr (subst (λ (d : sight.Device). LeavesOnly sight.disk d (sight.device new) (MayCrash sight start now before)) same
-      (leaves_weaker sight.disk (sight.device mid) (sight.device new) (IsBetween middle now) (MayCrash sight start now before) later left))
-  crash_more (inr left) (inl same) =
-      inr (subst (λ (d : sight.Device). LeavesOnly sight.disk (sight.device before) d (MayCrash sight start now before)) (sym same)
-      (leaves_weaker sight.disk (sight.device before) (sight.device mid) (MayCrash sight start middle before) (MayCrash sight start now before) sooner left))
-  crash_more (inr first) (inr then_) =
-      inr (joined sight.disk (sight.device before) (sight.device mid) (sight.device new) (MayCrash sight start now before)
-      (leaves_weaker sight.disk (sight.device before) (sight.device mid) (MayCrash sight start middle before) (MayCrash sight start now before) sooner first)
-      (leaves_weaker sight.disk (sight.device mid) (sight.device new) (IsBetween middle now) (MayCrash sight start now before) later then_))
+  same_index : (c : Files) → HoldsIndex middle.state c → HoldsIndex start.state c
+  same_index c held = subst (λ (state : State). HoldsIndex state c) grew.1 held
+
+  -- and of the index log
+  pub index_more : Leaves sight.index (MayCrashIndex sight start before) before mid → Leaves sight.index (HoldsIndex middle.state) mid new
+      → Leaves sight.index (MayCrashIndex sight start before) before new
+  index_more = leaves_more sight.index before mid new (MayCrashIndex sight start before) (HoldsIndex middle.state) (MayCrashIndex sight start before)
+      (λ c may. may) (λ c held. inr (same_index c held))
 
 -- a run behind an opening
 pub crash_behind : {D : Type 0} (disk : Ghosts D) (first opened now : D) (P : Images) → LeavesAsBefore disk first opened

@@ -1,14 +1,14 @@
--- What was done by the steps of an engine, seen by its device.
-use Rattle.std.proofs.Common.{◌≡◌, ℕ, List, [], refl, subst, inr}
+-- What was done by the steps of an engine, seen by its devices.
+use Rattle.std.proofs.Common.{◌≡◌, ℕ, ◌+◌, List, [], refl, subst, inr}
 use Rattle.std.specs.Prelude.{false}
 use Rattle.fts_types.specs.declared.limits.Limits.{Limits}
 use Rattle.fts_types.specs.declared.settings.Settings.{Settings}
 use Rattle.fts_disk.specs.Moments.{LeavesAsBefore}
-use Rattle.fts_engine.specs.Stands.{OnDevice}
+use Rattle.fts_engine.specs.Stands.{OnRows, OnIndex}
 use Rattle.fts_faults.specs.Count.{CountsFault}
 use Rattle.fts_io.specs.Text.{Line}
 use Rattle.fts_steps.specs.Running.{Running}
-use Rattle.fts_steps.specs.Crash.{IsBetween}
+use Rattle.fts_steps.specs.Crash.{IsBetween, HoldsIndex}
 use Rattle.fts_steps.specs.Step.{Sight, Follows, after_all}
 use Rattle.fts_top.specs.declared.ends.Health.{Health}
 use Rattle.fts_top.specs.declared.ends.Health.TheVariants.{Failed}
@@ -17,23 +17,37 @@ use Rattle.fts_top.specs.declared.ends.RunEnd.{RunEnd}
 use Rattle.fts_top.specs.declared.ends.RunEnd.TheVariants as end
 use Rattle.fts_top.specs.Run.{Sides, Front, Reads, Stops, Outcome}
 use Rattle.fts_top.specs.Talk.{Talks}
-use Rattle.fts_top.specs.Once.{device_sight}
+use Rattle.fts_top.specs.Once.{Devices, devices_of, Disks, disks_of, disk_faults, device_sight}
 use Rattle.fts_top.proofs.Crashing.{crash_behind}
 
+-- what was looked at before, on both devices
+pub record Looked {S : Type 0} (sight : Sight S) (first : Devices sight.rows.Device sight.index.Device) (opened : S) : Type 0 where
+  pub rows : LeavesAsBefore sight.rows.disk first.rows (sight.rows.device opened)
+  pub index : LeavesAsBefore sight.index.disk first.index (sight.index.device opened)
+
 module _ {S : Type 0} (sight : Sight S) (single : sight.is_shared ≡ false) (settings : Settings) (limits : Limits)
-    (held : (running : Running) (s : S) → sight.stands running s → OnDevice sight.disk running (sight.device s)) (start : Running) (script : List Line) (before now : Sides S)
-    (first : sight.Device) (looked : LeavesAsBefore sight.disk first (sight.device before.steps))
+    (held : (running : Running) (s : S) → sight.stands running s
+    → OnRows sight.rows.disk running (sight.rows.device s) × OnIndex sight.index.disk running (sight.index.device s))
+    (start : Running) (script : List Line) (before now : Sides S)
+    (first : Devices sight.rows.Device sight.index.Device) (looked : Looked sight first before.steps)
     (same_settings : sight.settings before.steps ≡ settings) (same_limits : sight.limits before.steps ≡ limits)
-    (calm : sight.faults before.steps ≡ sight.disk.faults first) (counts : sight.faults now.steps ≡ sight.disk.faults (sight.device now.steps)) where
-  -- the same sides with a device in place of the steps: before, as it was before the opening
-  abbrev begun : Sides sight.Device
+    (calm : sight.faults before.steps ≡ sight.rows.disk.faults first.rows + sight.index.disk.faults first.index)
+    (counts : sight.faults now.steps ≡ sight.rows.disk.faults (sight.rows.device now.steps) + sight.index.disk.faults (sight.index.device now.steps)) where
+  abbrev both : Disks sight.rows.Device sight.index.Device
+  both = disks_of sight.rows.disk sight.index.disk
+
+  abbrev last : Devices sight.rows.Device sight.index.Device
+  last = devices_of (sight.rows.device now.steps) (sight.index.device now.steps)
+
+  -- the same sides with the devices in place of the steps: before, as they were before the opening
+  abbrev begun : Sides (Devices sight.rows.Device sight.index.Device)
   begun = record { left = before.left; held = before.held; steps = first }
 
-  abbrev done : Sides sight.Device
-  done = record { left = now.left; held = now.held; steps = sight.device now.steps }
+  abbrev done : Sides (Devices sight.rows.Device sight.index.Device)
+  done = record { left = now.left; held = now.held; steps = last }
 
   abbrev front_on : (ahead : List Line) → Front sight start script ahead before now
-      → Front (device_sight sight.disk settings limits) start script ahead begun done
+      → Front (device_sight both settings limits) start script ahead begun done
   front_on ahead front = record {
     lines = front.lines;
     calls = front.calls;
@@ -48,21 +62,25 @@ module _ {S : Type 0} (sight : Sight S) (single : sight.is_shared ≡ false) (se
     limits = refl;
     stands = held (after_all start front.calls) now.steps front.stands;
     going = λ e calm. front.going single calm;
-    counted = subst (λ (n : ℕ). CountsFault (health_of_all front.replies ≡ Failed) n (sight.disk.faults (sight.device now.steps))) calm
+    counted = subst (λ (n : ℕ). CountsFault (health_of_all front.replies ≡ Failed) n (disk_faults both last)) calm
         (subst (λ (n : ℕ). CountsFault (health_of_all front.replies ≡ Failed) (sight.faults before.steps) n) counts front.counted);
     crash = λ e told sure.
-        inr (crash_behind sight.disk first (sight.device before.steps) (sight.device now.steps) (IsBetween start (after_all start front.calls)) looked (front.crash single told sure));
+        inr (crash_behind sight.rows.disk first.rows (sight.rows.device before.steps) (sight.rows.device now.steps) (IsBetween start (after_all start front.calls)) looked.rows
+        (front.crash single told sure));
+    index = λ e told.
+        inr (crash_behind sight.index.disk first.index (sight.index.device before.steps) (sight.index.device now.steps) (HoldsIndex start.state) looked.index
+        (front.index single told));
   }
 
-  abbrev reads_on : (met : Health) → Reads sight met start script before now → Reads (device_sight sight.disk settings limits) met start script begun done
+  abbrev reads_on : (met : Health) → Reads sight met start script before now → Reads (device_sight both settings limits) met start script begun done
   reads_on met reads = record { front = front_on [] reads.front; whole = reads.whole; met_is = reads.met_is; empty = reads.empty }
 
-  abbrev stops_on : (n : ℕ) → Stops sight start script n before now → Stops (device_sight sight.disk settings limits) start script n begun done
+  abbrev stops_on : (n : ℕ) → Stops sight start script n before now → Stops (device_sight both settings limits) start script n begun done
   stops_on n stops = record { ahead = stops.ahead; front = front_on stops.ahead stops.front; whole = stops.whole; begun = stops.begun }
 
   -- the outcome of a run
   pub outcome_on : (result : RunEnd) → Outcome sight result start script before now
-      → Outcome (device_sight sight.disk settings limits) result start script begun done
+      → Outcome (device_sight both settings limits) result start script begun done
   outcome_on end.Done outcome = reads_on _ outcome
   outcome_on end.ShortOfMemory outcome = reads_on _ outcome
   outcome_on end.DiskFault outcome = reads_on _ outcome

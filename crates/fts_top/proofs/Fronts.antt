@@ -15,8 +15,8 @@ use Rattle.fts_top.specs.declared.ends.Health.TheVariants.{Sound, Short, Failed}
 use Rattle.fts_top.specs.declared.ends.Halt.{Halt}
 use Rattle.fts_top.specs.declared.ends.Halt.TheVariants as halt
 use Rattle.fts_top.specs.Health.{health_of, worse, health_of_all, end_of, read_end}
-use Rattle.fts_top.specs.Run.{MayCrash, Sides, Stays, Front, IsWhole, IsCut, Reads, OneLine, Outcome}
-use Rattle.fts_top.proofs.Crashing.{grows, stays_sure, adds, crash_more}
+use Rattle.fts_top.specs.Run.{MayCrash, MayCrashIndex, Sides, Stays, Front, IsWhole, IsCut, Reads, OneLine, Outcome}
+use Rattle.fts_top.proofs.Crashing.{grows, stays_sure, adds, crash_more, index_more}
 use Rattle.fts_top.proofs.Health.{health_more, failed_before, failed_now, counted_more, counted_reply}
 use Rattle.fts_top.proofs.Talking.{after_more, follows_more, alone_more, talks_more, texts_more, line_still}
 
@@ -39,6 +39,7 @@ module _ {S : Type 0} (sight : Sight S) (start : Running) (script : List Line) w
     going = λ e calm. refl;
     counted = record { rose = λ is. absurd cc; calm = λ no. refl; never_falls = omega arith };
     crash = λ e told sure. inl refl;
+    index = λ e told. inl refl;
   }
 
   -- the same front, seen by equal lines, and by what holds as much
@@ -60,7 +61,9 @@ module _ {S : Type 0} (sight : Sight S) (start : Running) (script : List Line) w
     going = front.going;
     counted = subst (λ (s : S). CountsFault (health_of_all front.replies ≡ Failed) (sight.faults before.steps) (sight.faults s)) (sym stays.unmade) front.counted;
     crash = λ single told sure.
-        subst (λ (s : S). Leaves sight (MayCrash sight start (after_all start front.calls) before.steps) before.steps s) (sym stays.unmade) (front.crash single told sure);
+        subst (λ (s : S). Leaves sight.rows (MayCrash sight start (after_all start front.calls) before.steps) before.steps s) (sym stays.unmade) (front.crash single told sure);
+    index = λ single told.
+        subst (λ (s : S). Leaves sight.index (MayCrashIndex sight start before.steps) before.steps s) (sym stays.unmade) (front.index single told);
   }
 
   -- one line more was executed, and a part of its reply written
@@ -95,10 +98,13 @@ module _ {S : Type 0} (sight : Sight S) (start : Running) (script : List Line) w
         crash = λ single told sure.
             let mid = after_all start front.calls in
             let follows = executes.follows mid front.stands in
-            subst (λ (now_is : Running). Leaves sight (MayCrash sight start now_is before.steps) before.steps now.steps) (sym (after_more start front.calls executes.calls))
-            (crash_more sight before.steps middle.steps now.steps start mid (after_all mid executes.calls) (grows start front.calls)
+            subst (λ (now_is : Running). Leaves sight.rows (MayCrash sight start now_is before.steps) before.steps now.steps) (sym (after_more start front.calls executes.calls))
+            (crash_more sight before.steps middle.steps now.steps start mid (grows start front.calls) (after_all mid executes.calls)
             (adds (sight.limits middle.steps) mid executes.calls (stays_sure start front.calls sure) (executes.alone single) follows)
             (front.crash single told sure) (executes.crash single told mid front.stands));
+        index = λ single told.
+            index_more sight before.steps middle.steps now.steps start (after_all start front.calls) (grows start front.calls)
+            (front.index single told) (executes.index single told (after_all start front.calls) front.stands);
       }
 
   -- a run so far: each reply was written whole, and the lines met this

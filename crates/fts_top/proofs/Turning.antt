@@ -21,6 +21,7 @@ module _ {S : Type 0} (sight : Sight S) where
     follows = λ running stands. tt;
     stands = λ running stands. stands;
     crash = λ e told running stands. inl refl;
+    index = λ e told running stands. inl refl;
     settings = refl;
     limits = refl;
     faults = record { rose = λ is. absurd cc; calm = λ no. refl; never_falls = omega arith };

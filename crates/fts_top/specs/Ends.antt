@@ -2,7 +2,6 @@ use Rattle.fts_engine.specs.declared.error.OpenError.{OpenError}
 use Rattle.fts_engine.specs.declared.error.OpenError.TheVariants as opening
 use Rattle.fts_top.specs.declared.status.Status.{Status}
 use Rattle.fts_top.specs.declared.status.Status.TheVariants as status
-use Rattle.fts_top.specs.declared.status.Device.TheVariants.{Rows}
 use Rattle.fts_top.specs.declared.ends.RunEnd.{RunEnd}
 use Rattle.fts_top.specs.declared.ends.RunEnd.TheVariants as run_end
 use Rattle.fts_top.specs.declared.ends.CreateEnd.{CreateEnd}
@@ -35,9 +34,9 @@ status_of_create create_end.AlreadyCreated = status.AlreadyCreated
 status_of_create create_end.WriteFault = status.WriteFault
 status_of_create create_end.DiskFault = status.DiskFault
 
--- the status where no database was opened: damage is of the rows log
+-- the status where no database was opened
 abbrev pub status_of_opening : OpenError → Status
 status_of_opening opening.NoMemory = status.NoMemory
 status_of_opening opening.NotCreated = status.NotCreated
-status_of_opening (opening.Damaged at) = status.Damaged Rows 0 at
+status_of_opening (opening.Damaged device file at) = status.Damaged device file at
 status_of_opening opening.DiskFault = status.DiskFault

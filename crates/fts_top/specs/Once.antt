@@ -1,4 +1,4 @@
-use Rattle.std.specs.Prelude.{◌≡◌, ◌⊎◌, ◌≤◌, ◌^◌, Bool, false, ℕ, List, ◌∷◌, [], ◌++◌, length, take, codes, IsTrue}
+use Rattle.std.specs.Prelude.{◌≡◌, ◌⊎◌, ◌≤◌, ◌+◌, ◌^◌, Bool, false, ℕ, List, ◌∷◌, [], ◌++◌, length, take, codes, IsTrue}
 use Rattle.fts_io.specs.Text.{lines_of}
 use Rattle.fts_steps.specs.State.{State, IsDatabase, IsCreated, created_with}
 use Rattle.fts_steps.specs.Running.{opened}
@@ -6,14 +6,16 @@ use Rattle.fts_steps.specs.Step.{Sight}
 use Rattle.fts_types.specs.declared.limits.Limits.{Limits}
 use Rattle.fts_types.specs.declared.settings.Settings.{Settings}
 use Rattle.fts_faults.specs.Count.{CountsFault, Rose}
+use Rattle.fts_disk.specs.Crash.{Only}
 use Rattle.fts_disk.specs.Moments.{Looks}
 use Rattle.fts_disk.specs.declared.disk.Disk as disk
 use Rattle.fts_io.specs.declared.source.Source as source
 use Rattle.fts_io.specs.declared.sink.Sink as sink
 use Rattle.fts_engine.specs.declared.error.OpenError.{OpenError}
 use Rattle.fts_engine.specs.declared.error.OpenError.TheVariants as opening
-use Rattle.fts_engine.specs.Opening.{IsDamaged}
-use Rattle.fts_engine.specs.Stands.{OnDevice}
+use Rattle.fts_engine.specs.declared.error.Device.TheVariants.{Rows, Index}
+use Rattle.fts_engine.specs.Opening.{IsDamaged, IsIndexDamaged}
+use Rattle.fts_engine.specs.Stands.{OnRows, OnIndex}
 use Rattle.fts_args.specs.Asked.{Asks}
 use Rattle.fts_args.specs.declared.command.Command.TheVariants.{Create, Run}
 use Rattle.fts_top.specs.declared.status.Status.{Status}
@@ -38,11 +40,16 @@ pub record SinkSeen : Type 0 where
   pub held : List ℕ
   pub faults : ℕ
 
+-- the two devices at one time
+pub record Devices (D E : Type 0) : Type 0 where
+  pub rows : D
+  pub index : E
+
 -- the outside at one time
-pub record Outside (D : Type 0) : Type 0 where
+pub record Outside (D E : Type 0) : Type 0 where
   pub source : SourceSeen
   pub sink : SinkSeen
-  pub rows : D
+  pub devices : Devices D E
 
 abbrev pub source_seen : {I : Type 0} → source.Ghosts I → I → SourceSeen
 source_seen ghosts input = record { tells = ghosts.tells; left = ghosts.left input; faults = ghosts.faults input }
@@ -50,121 +57,155 @@ source_seen ghosts input = record { tells = ghosts.tells; left = ghosts.left inp
 abbrev pub sink_seen : {O : Type 0} → sink.Ghosts O → O → SinkSeen
 sink_seen ghosts out = record { tells = ghosts.tells; held = ghosts.holds out; faults = ghosts.faults out }
 
-abbrev pub outside : {I O D : Type 0} → source.Ghosts I → sink.Ghosts O → I → O → D → Outside D
-outside source sink input out rows = record {
+abbrev pub devices_of : {D E : Type 0} → D → E → Devices D E
+devices_of rows index = record { rows = rows; index = index }
+
+abbrev pub outside : {I O D E : Type 0} → source.Ghosts I → sink.Ghosts O → I → O → D → E → Outside D E
+outside source sink input out rows index = record {
   source = source_seen source input;
   sink = sink_seen sink out;
-  rows = rows;
+  devices = devices_of rows index;
 }
 
--- the rows log's file, as the device reads
+-- a log's file, as its device reads
 abbrev pub file_of : {D : Type 0} → disk.Ghosts D → D → List ℕ
 file_of ghosts device = ghosts.seen device 0
 
--- a run seen from outside: the device in place of the steps
-abbrev pub seen_from : {D : Type 0} → Outside D → Sides D
-seen_from here = record { left = here.source.left; held = here.sink.held; steps = here.rows }
+-- what contracts see of the two devices
+pub record Disks (D E : Type 0) : Type 1 where
+  pub rows : disk.Ghosts D
+  pub index : disk.Ghosts E
 
--- the steps of a run, seen by the device alone
-abbrev pub device_sight : {D : Type 0} → disk.Ghosts D → Settings → Limits → Sight D
-device_sight {D} ghosts settings limits = record {
+abbrev pub disks_of : {D E : Type 0} → disk.Ghosts D → disk.Ghosts E → Disks D E
+disks_of rows index = record { rows = rows; index = index }
+
+-- how many faults the two devices had together
+abbrev pub disk_faults : {D E : Type 0} → Disks D E → Devices D E → ℕ
+disk_faults disks here = disks.rows.faults here.rows + disks.index.faults here.index
+
+-- both devices tell what they hold
+abbrev pub DisksTell : {D E : Type 0} → Disks D E → Type 0
+DisksTell disks = IsTrue disks.rows.tells × IsTrue disks.index.tells
+
+-- the two logs are those of the database
+abbrev pub Holds : {D E : Type 0} → Disks D E → State → Devices D E → Type 0
+Holds disks state here = IsDatabase state (file_of disks.rows here.rows) (file_of disks.index here.index)
+
+-- a run seen from outside: the devices in place of the steps
+abbrev pub seen_from : {D E : Type 0} → Outside D E → Sides (Devices D E)
+seen_from here = record { left = here.source.left; held = here.sink.held; steps = here.devices }
+
+-- the steps of a run, seen by the devices alone
+abbrev pub device_sight : {D E : Type 0} → Disks D E → Settings → Limits → Sight (Devices D E)
+device_sight {D} {E} disks settings limits = record {
   is_shared = false;
-  settings = λ device. settings;
-  limits = λ device. limits;
-  faults = λ device. ghosts.faults device;
-  stands = OnDevice ghosts;
-  Device = D;
-  disk = ghosts;
-  device = λ device. device;
+  settings = λ devices. settings;
+  limits = λ devices. limits;
+  faults = disk_faults disks;
+  stands = λ running here. OnRows disks.rows running here.rows × OnIndex disks.index running here.index;
+  rows = record { Device = D; disk = disks.rows; device = λ here. here.rows };
+  index = record { Device = E; disk = disks.index; device = λ here. here.index };
 }
 
 -- a script was executed on the database that the opening found, and ended so
-pub record Executed {D : Type 0} (ghosts : disk.Ghosts D) (limits : Limits) (end : RunEnd) (before after : Outside D)
+pub record Executed {D E : Type 0} (disks : Disks D E) (limits : Limits) (end : RunEnd) (before after : Outside D E)
     : Type 0 where
-  pub found : IsTrue ghosts.tells → (state : State) × IsDatabase state (file_of ghosts before.rows)
-  pub outcome : IsTrue before.source.tells → IsTrue before.sink.tells → IsTrue ghosts.tells
-      → (start : State) → IsDatabase start (file_of ghosts before.rows)
-      → Outcome (device_sight ghosts start.settings limits) end (opened start) (lines_of before.source.left)
+  pub found : DisksTell disks → (state : State) × Holds disks state before.devices
+  pub outcome : IsTrue before.source.tells → IsTrue before.sink.tells → DisksTell disks
+      → (start : State) → Holds disks start before.devices
+      → Outcome (device_sight disks start.settings limits) end (opened start) (lines_of before.source.left)
       (seen_from before) (seen_from after)
   pub whole : IsRead end → IsTrue before.source.tells → length before.source.left ≤ 2 ^ 40
   pub too_long : (lines bytes : ℕ) → end ≡ run_end.ScriptTooLong lines bytes → IsTrue before.source.tells
       → PassesLimit bytes before.source.left after.source.left
   pub fault : IsRead end
-      → CountsFault (end ≡ run_end.DiskFault) (ghosts.faults before.rows) (ghosts.faults after.rows)
+      → CountsFault (end ≡ run_end.DiskFault) (disk_faults disks before.devices) (disk_faults disks after.devices)
 
 -- why no database was opened
-abbrev pub IsWhy : OpenError → List ℕ → Type 0
-IsWhy opening.NotCreated file = IsCreated file → ⊥
-IsWhy (opening.Damaged at) file = IsDamaged at file
-IsWhy opening.NoMemory file = Unit {0}
-IsWhy opening.DiskFault file = Unit {0}
+abbrev pub IsWhy : OpenError → List ℕ → List ℕ → Type 0
+IsWhy opening.NotCreated rows index = IsCreated rows → ⊥
+IsWhy (opening.Damaged Rows file at) rows index = (file ≡ 0) × IsDamaged at rows
+IsWhy (opening.Damaged Index file at) rows index = (file ≡ 0) × IsIndexDamaged at rows index
+IsWhy opening.NoMemory rows index = Unit {0}
+IsWhy opening.DiskFault rows index = Unit {0}
 
--- no database was opened, for this cause; `unused` says that the source and the sink are as they were. The device was
+-- no database was opened, for this cause; `unused` says that the source and the sink are as they were. The devices were
 -- only looked at
-pub record Unopened {D : Type 0} (ghosts : disk.Ghosts D) (error : OpenError) (unused : Type 0) (before after : D)
-    : Type 0 where
+pub record Unopened {D E : Type 0} (disks : Disks D E) (error : OpenError) (unused : Type 0)
+    (before after : Devices D E) : Type 0 where
   pub untouched : unused
-  pub looks : IsTrue ghosts.tells → Looks ghosts before after
-  pub why : IsTrue ghosts.tells → IsWhy error (file_of ghosts before)
-  pub fault : CountsFault (error ≡ opening.DiskFault) (ghosts.faults before) (ghosts.faults after)
+  pub rows : IsTrue disks.rows.tells → Looks disks.rows before.rows after.rows
+  pub index : IsTrue disks.index.tells → Looks disks.index before.index after.index
+  pub why : DisksTell disks → IsWhy error (file_of disks.rows before.rows) (file_of disks.index before.index)
+  pub fault : CountsFault (error ≡ opening.DiskFault) (disk_faults disks before) (disk_faults disks after)
 
 -- how `run` ended
-abbrev pub RunEnds : {D : Type 0} → disk.Ghosts D → Limits → Status → Type 0 → Outside D → Outside D → Type 0
-RunEnds ghosts limits result unused before after =
-    ((end : RunEnd) × (result ≡ status_of_run end) × Executed ghosts limits end before after)
-    ⊎ ((error : OpenError) × (result ≡ status_of_opening error) × Unopened ghosts error unused before.rows after.rows)
+abbrev pub RunEnds : {D E : Type 0} → Disks D E → Limits → Status → Type 0 → Outside D E → Outside D E → Type 0
+RunEnds disks limits result unused before after =
+    ((end : RunEnd) × (result ≡ status_of_run end) × Executed disks limits end before after)
+    ⊎ ((error : OpenError) × (result ≡ status_of_opening error)
+    × Unopened disks error unused before.devices after.devices)
 
 -- what `create` writes
 abbrev pub created_text : List ℕ
 created_text = codes "OK created" ++ 10 ∷ []
 
--- a database without commits was made where none was created
-pub record Made {D : Type 0} (ghosts : disk.Ghosts D) (settings : Settings) (before after : D) : Type 0 where
-  pub fresh : IsCreated (file_of ghosts before) → ⊥
-  pub database : IsDatabase (created_with settings) (file_of ghosts after)
+-- a database without commits was made where none was created, and a crash leaves it
+pub record Made {D E : Type 0} (disks : Disks D E) (settings : Settings) (before after : Devices D E) : Type 0 where
+  pub fresh : IsCreated (file_of disks.rows before.rows) → ⊥
+  pub database : Holds disks (created_with settings) after
+  pub rows : Only (disks.rows.seen after.rows) (disks.rows.images after.rows)
+  pub index : Only (disks.index.seen after.index) (disks.index.images after.index)
 
--- what `create` has done to the sink and the device; `unwritten` says that the sink is as it was
-abbrev pub Creates : {D : Type 0} → disk.Ghosts D → CreateEnd → Settings → Type 0 → SinkSeen → SinkSeen → D → D → Type 0
-Creates ghosts create_end.Done settings unwritten sink sink' device device' =
-    (IsTrue ghosts.tells → Made ghosts settings device device')
+-- the devices read as before, and a crash leaves what it could leave
+abbrev pub OnlyLooked : {D E : Type 0} → Disks D E → Devices D E → Devices D E → Type 0
+OnlyLooked disks before after = Looks disks.rows before.rows after.rows × Looks disks.index before.index after.index
+
+-- what `create` has done to the sink and the devices; `unwritten` says that the sink is as it was
+abbrev pub Creates : {D E : Type 0} → Disks D E → CreateEnd → Settings → Type 0 → SinkSeen → SinkSeen → Devices D E
+    → Devices D E → Type 0
+Creates disks create_end.Done settings unwritten sink sink' before after =
+    (DisksTell disks → Made disks settings before after)
     × (IsTrue sink.tells → sink'.held ≡ sink.held ++ created_text)
-Creates ghosts create_end.WriteFault settings unwritten sink sink' device device' =
-    (IsTrue ghosts.tells → Made ghosts settings device device')
+Creates disks create_end.WriteFault settings unwritten sink sink' before after =
+    (DisksTell disks → Made disks settings before after)
     × (IsTrue sink.tells → (n : ℕ) × (sink'.held ≡ sink.held ++ take n created_text))
-Creates ghosts create_end.AlreadyCreated settings unwritten sink sink' device device' = unwritten
-    × (IsTrue ghosts.tells → IsCreated (file_of ghosts device) × (ghosts.seen device' ≡ ghosts.seen device))
-Creates ghosts create_end.NoMemory settings unwritten sink sink' device device' = unwritten × (device' ≡ device)
-Creates ghosts create_end.DiskFault settings unwritten sink sink' device device' = unwritten
-    × (IsTrue ghosts.tells → IsCreated (file_of ghosts device) → ghosts.seen device' ≡ ghosts.seen device)
+Creates disks create_end.AlreadyCreated settings unwritten sink sink' before after = unwritten
+    × (IsTrue disks.rows.tells → IsCreated (file_of disks.rows before.rows))
+    × (DisksTell disks → OnlyLooked disks before after)
+Creates disks create_end.NoMemory settings unwritten sink sink' before after = unwritten × (after ≡ before)
+Creates disks create_end.DiskFault settings unwritten sink sink' before after = unwritten
+    × (DisksTell disks → IsCreated (file_of disks.rows before.rows) → OnlyLooked disks before after)
 
 -- how `create` ended
-pub record CreateEnds {D : Type 0} (ghosts : disk.Ghosts D) (result : Status) (settings : Settings) (unwritten : Type 0)
-    (before after : Outside D) : Type 0 where
+pub record CreateEnds {D E : Type 0} (disks : Disks D E) (result : Status) (settings : Settings) (unwritten : Type 0)
+    (before after : Outside D E) : Type 0 where
   pub end : CreateEnd
   pub told : result ≡ status_of_create end
-  pub creates : Creates ghosts end settings unwritten before.sink after.sink before.rows after.rows
-  pub fault : CountsFault (end ≡ create_end.DiskFault) (ghosts.faults before.rows) (ghosts.faults after.rows)
+  pub creates : Creates disks end settings unwritten before.sink after.sink before.devices after.devices
+  pub fault : CountsFault (end ≡ create_end.DiskFault) (disk_faults disks before.devices)
+      (disk_faults disks after.devices)
 
 -- a fault of the source and of the sink was counted exactly where it is the status
-pub record CountsFaults {D : Type 0} (result : Status) (before after : Outside D) : Type 0 where
+pub record CountsFaults {D E : Type 0} (result : Status) (before after : Outside D E) : Type 0 where
   pub read : CountsFault (result ≡ status.ReadFault) before.source.faults after.source.faults
   pub write : CountsFault (result ≡ status.WriteFault) before.sink.faults after.sink.faults
 
 -- no count of faults rose
-pub record NoneRose {D : Type 0} (ghosts : disk.Ghosts D) (before after : Outside D) : Type 0 where
+pub record NoneRose {D E : Type 0} (disks : Disks D E) (before after : Outside D E) : Type 0 where
   pub read : Rose before.source.faults after.source.faults → ⊥
   pub write : Rose before.sink.faults after.sink.faults → ⊥
-  pub disk : Rose (ghosts.faults before.rows) (ghosts.faults after.rows) → ⊥
+  pub disk : Rose (disk_faults disks before.devices) (disk_faults disks after.devices) → ⊥
 
 -- all was done, but for want of memory
 abbrev pub Finishes : Status → Type 0
 Finishes result = (result ≡ status.Done) ⊎ (result ≡ status.NoMemory)
 
--- the words are a command that fits the device: `create` where no database was created, or `run` on a database, with a
+-- the words are a command that fits the devices: `create` where no database was created, or `run` on a database, with a
 -- script of at most 2^40 bytes
-abbrev pub CanFinish : {D : Type 0} → disk.Ghosts D → List (List ℕ) → Outside D → Type 0
-CanFinish ghosts words before =
-    ((settings : Settings) × Asks words (Create settings) × IsTrue ghosts.tells
-    × (IsCreated (file_of ghosts before.rows) → ⊥))
-    ⊎ (Asks words Run × IsTrue before.source.tells × IsTrue ghosts.tells
-    × ((state : State) × IsDatabase state (file_of ghosts before.rows)) × (length before.source.left ≤ 2 ^ 40))
+abbrev pub CanFinish : {D E : Type 0} → Disks D E → List (List ℕ) → Outside D E → Type 0
+CanFinish disks words before =
+    ((settings : Settings) × Asks words (Create settings) × IsTrue disks.rows.tells
+    × (IsCreated (file_of disks.rows before.devices.rows) → ⊥))
+    ⊎ (Asks words Run × IsTrue before.source.tells × DisksTell disks
+    × ((state : State) × Holds disks state before.devices) × (length before.source.left ≤ 2 ^ 40))

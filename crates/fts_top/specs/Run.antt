@@ -8,7 +8,7 @@ use Rattle.fts_schema.specs.declared.reply.Reply.TheVariants.{DiskFault}
 use Rattle.fts_schema.specs.Reply.{text_of}
 use Rattle.fts_steps.specs.Running.{Running}
 use Rattle.fts_disk.specs.Crash.{Images}
-use Rattle.fts_steps.specs.Crash.{IsBetween}
+use Rattle.fts_steps.specs.Crash.{IsBetween, HoldsIndex}
 use Rattle.fts_steps.specs.Step.{Call, Sight, Leaves, AreAlone, Follows, after_all}
 use Rattle.fts_sessions.specs.Execute.{Executes}
 use Rattle.fts_top.specs.declared.ends.Health.{Health}
@@ -36,9 +36,14 @@ pub record Stays {S : Type 0} (before after : Sides S) : Type 0 where
   pub unwritten : after.held ≡ before.held
   pub unmade : after.steps ≡ before.steps
 
--- what a crash could leave before, or the database with a front of what was added
+-- what a crash could leave of the rows log before, or that log with a front of what was added
 abbrev pub MayCrash : {S : Type 0} → Sight S → Running → Running → S → Images
-MayCrash sight start now before c = sight.disk.images (sight.device before) c ⊎ IsBetween start now c
+MayCrash sight start now before c = sight.rows.disk.images (sight.rows.device before) c ⊎ IsBetween start now c
+
+-- what a crash could leave of the index log before, or that log
+abbrev pub MayCrashIndex : {S : Type 0} → Sight S → Running → S → Images
+MayCrashIndex sight start before c =
+    sight.index.disk.images (sight.index.device before) c ⊎ HoldsIndex start.state c
 
 -- where no fault stopped it, nothing is in doubt
 abbrev pub IsSure : Running → Type 0
@@ -46,7 +51,7 @@ IsSure running = running.stopped ≡ None → running.doubt ≡ []
 
 -- the lines from the front of the script that were executed, what is ahead, and the text that was written. While no
 -- line met a fault, commits are taken; a fault was counted exactly where one met it. A crash at any moment leaves what
--- it could leave before, or the database with a front of the commits that were made
+-- it could leave before, or the rows log with a front of the commits that were made, and the index log
 pub record Front {S : Type 0} (sight : Sight S) (start : Running) (script ahead : List Line) (before after : Sides S)
     : Type 0 where
   pub lines : List Line
@@ -65,8 +70,10 @@ pub record Front {S : Type 0} (sight : Sight S) (start : Running) (script ahead 
       → (after_all start calls).stopped ≡ start.stopped
   pub counted : CountsFault (health_of_all replies ≡ health.Failed) (sight.faults before.steps)
       (sight.faults after.steps)
-  pub crash : sight.is_shared ≡ false → IsTrue sight.disk.tells → IsSure start
-      → Leaves sight (MayCrash sight start (after_all start calls) before.steps) before.steps after.steps
+  pub crash : sight.is_shared ≡ false → IsTrue sight.rows.disk.tells → IsSure start
+      → Leaves sight.rows (MayCrash sight start (after_all start calls) before.steps) before.steps after.steps
+  pub index : sight.is_shared ≡ false → IsTrue sight.index.disk.tells
+      → Leaves sight.index (MayCrashIndex sight start before.steps) before.steps after.steps
 
 -- each reply was written, to the end
 abbrev pub IsWhole : List Reply → List ℕ → Type 0

@@ -1,13 +1,7 @@
 use Rattle.std.specs.Prelude.{ℕ, List, ◌++◌, codes, decimal}
 use Rattle.fts_top.specs.declared.status.Status.{Status}
 use Rattle.fts_top.specs.declared.status.Status.TheVariants as status
-use Rattle.fts_top.specs.declared.status.Device.{Device}
-use Rattle.fts_top.specs.declared.status.Device.TheVariants as device
-
--- the name of a device
-abbrev pub device_text : Device → List ℕ
-device_text device.Rows = codes "rows"
-device_text device.Index = codes "index"
+use Rattle.fts_engine.specs.Opening.{device_text}
 
 -- the words that the program prints for a status
 abbrev pub status_text : Status → List ℕ

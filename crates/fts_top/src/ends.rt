@@ -5,7 +5,7 @@ ghost use Rattle.fts_top.specs.Ends.{status_of_opening, status_of_run};
 ghost use Rattle.fts_top.specs.Health.{end_of as the_end_of, worse as the_worse};
 ghost use Rattle.fts_top.specs.Health.{health_of as the_health_of};
 
-use crate::{Device, Status};
+use crate::Status;
 use fts_engine::{CreateError, OpenError};
 use fts_schema::Reply;
 
@@ -181,11 +181,7 @@ impl From<OpenError> for Status {
         match error {
             OpenError::NoMemory => Status::NoMemory,
             OpenError::NotCreated => Status::NotCreated,
-            OpenError::Damaged { at } => Status::Damaged {
-                device: Device::Rows,
-                file: 0,
-                at,
-            },
+            OpenError::Damaged { device, file, at } => Status::Damaged { device, file, at },
             OpenError::DiskFault => Status::DiskFault,
         }
     }

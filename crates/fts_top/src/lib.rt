@@ -17,10 +17,11 @@ mod status;
 
 pub use ends::{CreateEnd, RunEnd};
 pub use fts_args::{Command, command_of};
+pub use fts_engine::Device;
 pub use laws::one_text;
 pub use once::fts_once;
 pub use script::run;
-pub use status::{Device, Status};
+pub use status::Status;
 
 #[cfg(test)]
 mod tests;

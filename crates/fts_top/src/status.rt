@@ -1,7 +1,8 @@
 ghost use Rattle.std.specs.Prelude.{◌≡◌, Some};
 ghost use Rattle.fts_top.specs.Number.{number_of};
-ghost use Rattle.fts_top.specs.StatusText.{device_text, status_text};
+ghost use Rattle.fts_top.specs.StatusText.{status_text};
 
+use fts_engine::Device;
 use std::fmt;
 
 /// How a call of the program ends.
@@ -27,24 +28,6 @@ pub enum Status {
     Damaged { device: Device, file: u32, at: u64 },
     /// The script has more than 2^40 bytes. `lines` and `bytes` were taken.
     ScriptTooLong { lines: u64, bytes: u64 },
-}
-
-/// One of the two devices of a database.
-#[derive(Clone, Copy, Debug, PartialEq, Eq)]
-pub enum Device {
-    Rows,
-    Index,
-}
-
-impl fmt::Display for Device {
-    ghost output = { λ device. Some (device_text device) };
-
-    fn fmt<W: fmt::Write>(&self, f: &mut fmt::Formatter<W>) -> fmt::Result {
-        f.write_str(match self {
-            Device::Rows => "rows",
-            Device::Index => "index",
-        })
-    }
 }
 
 impl Status {

@@ -8,4 +8,5 @@ mod limits;
 mod runs;
 mod statements;
 mod status;
+mod stops;
 mod words;

@@ -14,9 +14,6 @@ byte_tables_rise a b le low = grind (arith, nat_tests)
 pub high_byte : (b : ℕ) → 122 < b → table_of_byte b ≡ 1
 high_byte b high = grind (arith, nat_tests)
 
-pub table_least : (b : ℕ) → 1 ≤ table_of_byte b
-table_least b = grind (arith, nat_tests)
-
 -- a word's first byte doesn't fall from a word to one behind it
 pub first_rises : (u v : List ℕ) → slice_cmp nat_cmp u v ≡ Less → slice_index u 0 ≤ slice_index v 0
 first_rises [] v less = omega arith

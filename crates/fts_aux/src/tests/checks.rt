@@ -4,7 +4,8 @@ ghost use Rattle.std.specs.List.{AllByRecursion};
 ghost use Rattle.std.specs.List.Sorted.{IsStrictlySortedBy};
 ghost use Rattle.std.specs.Map.{keys_of};
 ghost use Rattle.std.specs.declared.cmp.Ordering.TheVariants.{Less};
-ghost use Rattle.fts_ilist.specs.Node.{BeginsAfter, NodesAfter, last_of, byte_order};
+ghost use Rattle.fts_ilist.specs.Node.{BeginsAfter, NodesAfter, last_of};
+ghost use Rattle.fts_words.specs.Order.{byte_order};
 ghost use Rattle.fts_aux.specs.Tables.{ComesAfter};
 
 use crate::Tables;

@@ -13,15 +13,23 @@ pub const RUN: &str = "shop run";
 
 pub const INSERT: &str = "INSERT INTO docs (id, body) VALUES (1, 'apple pie')\n";
 
+/// Two INSERTs, of 29 bytes of the rows log each.
+pub const TWO: &str = "INSERT INTO docs (id, body) VALUES (1, 'apple pie')\n\
+    INSERT INTO docs (id, body) VALUES (2, 'apple pie')\n";
+
 pub const SEARCH: &str =
     "SELECT FTS_DOC_ID FROM docs WHERE MATCH (body) AGAINST ('pie' IN BOOLEAN MODE)\n";
 
-/// What a call answered, wrote and left on the rows device.
+/// The index log of a database: it has no entry.
+pub const INDEX: &[u8] = b"FTSINDX1\x00";
+
+/// What a call answered, wrote and left on the devices.
 #[derive(Drop)]
 pub struct Outcome {
     pub status: Status,
     pub out: MemSink,
     pub rows: MemDisk,
+    pub index: MemDisk,
 }
 
 /// The words of a command line, which stand between its spaces.
@@ -62,25 +70,43 @@ pub fn call_over(
     input: MemSource,
     out: MemSink,
     rows: MemDisk,
+    index: MemDisk,
 ) -> Result<Outcome, AllocError> {
     let words = words_of(alloc, line)?;
     let mut input = input;
     let mut out = out;
-    let index = empty_disk(alloc)?;
-    let (status, rows, _) = fts_once(alloc, &words, &mut input, &mut out, rows, index, &OpenGate);
-    Ok(Outcome { status, out, rows })
+    let (status, rows, index) = fts_once(
+        alloc, &words, &mut input, &mut out, rows, index, &OpenGate,
+    );
+    Ok(Outcome {
+        status,
+        out,
+        rows,
+        index,
+    })
 }
 
-/// Calls the program over a script and a device, and nothing fails but what the device names.
+/// Calls the program over a script and two devices, and nothing fails but what these name.
+pub fn call_on(
+    alloc: Global,
+    line: &str,
+    script: &[u8],
+    rows: MemDisk,
+    index: MemDisk,
+) -> Result<Outcome, AllocError> {
+    let input = source_of(alloc, script)?;
+    let out = MemSink::new(alloc, Vec::new(alloc));
+    call_over(alloc, line, input, out, rows, index)
+}
+
+/// Calls the program over a script and a rows device, beside the index log of a database.
 pub fn call(
     alloc: Global,
     line: &str,
     script: &[u8],
     rows: MemDisk,
 ) -> Result<Outcome, AllocError> {
-    let input = source_of(alloc, script)?;
-    let out = MemSink::new(alloc, Vec::new(alloc));
-    call_over(alloc, line, input, out, rows)
+    call_on(alloc, line, script, rows, disk_of(alloc, INDEX)?)
 }
 
 /// The rows device after `create --columns body`.

@@ -1,5 +1,5 @@
 //! Logs of a database whose bytes were changed.
-use super::calling::{RUN, call, disk_of, ended};
+use super::calling::{RUN, call, call_on, created, disk_of, empty_disk, ended};
 use crate::{Device, Status};
 use fts_disk::MemDisk;
 use std::alloc::Global;
@@ -45,6 +45,38 @@ fn the_first_place_at_fault_is_told(rt: HostRuntime) -> Result<(), Fail> {
         };
         ended(&rt, &run, &damaged, "", "a changed log");
     }
+    Ok(())
+}
+
+/// What stands in the index log beside a whole rows log, and how a run ends.
+const INDEX_DAMAGES: [(&[u8], Option<u64>); 7] = [
+    (b"", Some(0)),
+    (b"FTSROWS1\x00", Some(0)),
+    (b"FTSINDX1", Some(8)),
+    (b"FTSINDX1\x01\x00\x00\x00\x01", Some(8)),
+    (b"FTSINDX1\x01\x00\x00\x00\x00\x00", Some(8)),
+    (b"FTSINDX1\x00", None),
+    (b"FTSINDX1\x02\x01", None),
+];
+
+#[test]
+fn the_index_log_is_looked_at_behind_the_rows_log(rt: HostRuntime) -> Result<(), Fail> {
+    for (bytes, at) in INDEX_DAMAGES {
+        let index = disk_of(rt.alloc(), bytes)?;
+        let run = call_on(rt.alloc(), RUN, b"", created(rt.alloc())?, index)?;
+        let status = match at {
+            Some(at) => Status::Damaged {
+                device: Device::Index,
+                file: 0,
+                at,
+            },
+            None => Status::Done,
+        };
+        ended(&rt, &run, &status, "", "an index log");
+    }
+    let index = disk_of(rt.alloc(), b"")?;
+    let run = call_on(rt.alloc(), RUN, b"", empty_disk(rt.alloc())?, index)?;
+    ended(&rt, &run, &Status::NotCreated, "", "no rows log");
     Ok(())
 }
 

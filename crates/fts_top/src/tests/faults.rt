@@ -1,16 +1,16 @@
 use super::calling::{
-    CREATE, INSERT, RUN, SEARCH, call, call_over, created, empty_disk, ended, failing, finds,
-    searched, source_of,
+    CREATE, INDEX, INSERT, RUN, SEARCH, TWO, call, call_on, call_over, created, disk_of,
+    empty_disk, ended, failing, finds, searched, source_of,
 };
 use crate::Status;
-use fts_disk::Kind;
+use fts_disk::{Kind, MemDisk};
 use fts_io::{MemSink, MemSource};
 use std::alloc::{AllocError, Global};
 use std::process::Abort;
 use std::test::Fail;
 
-/// Calls of the device by which `create` fails, how many bytes of file 0 it leaves, and how a run
-/// then ends.
+/// Calls of the rows device by which `create` fails, how many bytes of file 0 it leaves, and how a
+/// run then ends.
 const CREATE_FAULTS: [(Kind, u64, usize, Status); 8] = [
     (Kind::Len, 1, 0, Status::NotCreated),
     (Kind::Cut, 1, 0, Status::NotCreated),
@@ -47,19 +47,75 @@ fn each_failing_call_of_create_ends_it_with_a_disk_fault(rt: HostRuntime) -> Res
     Ok(())
 }
 
+/// Calls of the index device by which `create` fails, and how many bytes of its file 0 it leaves.
+const CREATE_INDEX_FAULTS: [(Kind, u64, usize); 4] = [
+    (Kind::Len, 1, 0),
+    (Kind::Cut, 1, 0),
+    (Kind::Write, 1, 0),
+    (Kind::Sync, 1, 9),
+];
+
+/// The index log is made first: where that fails, the rows device has no byte.
+#[test]
+fn a_failing_call_of_the_index_device_ends_create(rt: HostRuntime) -> Result<(), Fail> {
+    let alloc = rt.alloc();
+    for (kind, number, left) in CREATE_INDEX_FAULTS {
+        let index = failing(alloc, b"", (kind, number))?;
+        let made = call_on(alloc, CREATE, b"", empty_disk(alloc)?, index)?;
+        ended(&rt, &made, &Status::DiskFault, "", "create");
+        assert_eq!(rt; made.index.file(0).len(), left, "{kind:?} {number}");
+        assert!(rt; made.rows.file(0).is_empty(), "{kind:?} {number}");
+    }
+    Ok(())
+}
+
+#[test]
+fn create_makes_both_logs(rt: HostRuntime) -> Result<(), Fail> {
+    let alloc = rt.alloc();
+    let made = call_on(alloc, CREATE, b"", empty_disk(alloc)?, empty_disk(alloc)?)?;
+    ended(&rt, &made, &Status::Done, "OK created\n", "create");
+    assert_eq!(rt; made.index.file(0), INDEX);
+    assert_eq!(rt; made.rows.file(0).len(), 34);
+    Ok(())
+}
+
 const FAULT: &str = "ERROR disk fault\n";
 
-/// Calls of the device by which a run of an INSERT fails: what the run writes, how many bytes of
-/// file 0 it leaves, and what a search then finds. The first four are calls of the opening.
-const INSERT_FAULTS: [(Kind, u64, &str, usize, &str); 8] = [
+/// Calls of the index device in the opening.
+const OPENING_INDEX_FAULTS: [(Kind, u64); 3] = [(Kind::Sync, 1), (Kind::Len, 1), (Kind::Read, 1)];
+
+#[test]
+fn a_failing_call_of_the_index_device_ends_the_opening(rt: HostRuntime) -> Result<(), Fail> {
+    let alloc = rt.alloc();
+    for fails in OPENING_INDEX_FAULTS {
+        let index = failing(alloc, INDEX, fails)?;
+        let run = call_on(alloc, RUN, INSERT.as_bytes(), created(alloc)?, index)?;
+        ended(&rt, &run, &Status::DiskFault, "", "an opening");
+        assert_eq!(rt; run.rows.file(0).len(), 34, "{fails:?}");
+    }
+    Ok(())
+}
+
+const AT_FIRST: &str = "ERROR disk fault\nERROR stopped after 1 disk faults\n";
+
+const AT_SECOND: &str = "OK commit 1\nERROR disk fault\n";
+
+/// Calls of the rows device by which a run of two INSERTs fails: what the run writes, how many
+/// bytes of file 0 it leaves, and what a search then finds. The first four are calls of the
+/// opening.
+const INSERT_FAULTS: [(Kind, u64, &str, usize, &str); 12] = [
     (Kind::Sync, 1, "", 34, "OK as of 0: none\n"),
     (Kind::Len, 1, "", 34, "OK as of 0: none\n"),
     (Kind::Read, 1, "", 34, "OK as of 0: none\n"),
     (Kind::Read, 2, "", 34, "OK as of 0: none\n"),
-    (Kind::Write, 1, FAULT, 34, "OK as of 0: none\n"),
-    (Kind::Sync, 2, FAULT, 63, "OK as of 0: none\n"),
-    (Kind::Write, 2, FAULT, 63, "OK as of 0: none\n"),
-    (Kind::Sync, 3, FAULT, 63, "OK as of 1: 1\n"),
+    (Kind::Write, 1, AT_FIRST, 34, "OK as of 0: none\n"),
+    (Kind::Sync, 2, AT_FIRST, 63, "OK as of 0: none\n"),
+    (Kind::Write, 2, AT_FIRST, 63, "OK as of 0: none\n"),
+    (Kind::Sync, 3, AT_FIRST, 63, "OK as of 1: 1\n"),
+    (Kind::Write, 3, AT_SECOND, 63, "OK as of 1: 1\n"),
+    (Kind::Sync, 4, AT_SECOND, 92, "OK as of 1: 1\n"),
+    (Kind::Write, 4, AT_SECOND, 92, "OK as of 1: 1\n"),
+    (Kind::Sync, 5, AT_SECOND, 92, "OK as of 2: 1 2\n"),
 ];
 
 /// A run ends with a disk fault where one call of the device fails: it writes this, and leaves so
@@ -74,14 +130,14 @@ fn insert_fails(
 ) -> Result<(), Fail> {
     let made = created(alloc)?;
     let device = failing(alloc, made.file(0), fails)?;
-    let run = call(alloc, RUN, INSERT.as_bytes(), device)?;
-    ended(rt, &run, &Status::DiskFault, text, "an INSERT");
+    let run = call(alloc, RUN, TWO.as_bytes(), device)?;
+    ended(rt, &run, &Status::DiskFault, text, "two INSERTs");
     assert_eq!(rt; run.rows.file(0).len(), left, "{fails:?}");
     finds(rt, alloc, run.rows.file(0), found)
 }
 
 #[test]
-fn each_failing_call_of_an_insert_is_the_status_of_the_run(rt: HostRuntime) -> Result<(), Fail> {
+fn each_failing_call_of_two_inserts_is_the_status_of_the_run(rt: HostRuntime) -> Result<(), Fail> {
     for (kind, number, text, left, found) in INSERT_FAULTS {
         insert_fails(&rt, rt.alloc(), (kind, number), text, left, found)?;
     }
@@ -106,6 +162,11 @@ fn a_run_goes_on_behind_a_fault_and_takes_no_commit(rt: HostRuntime) -> Result<(
     finds(&rt, rt.alloc(), run.rows.file(0), "OK as of 2: 1 2\n")
 }
 
+/// The index device of a database.
+fn index(alloc: Global) -> Result<MemDisk, AllocError> {
+    disk_of(alloc, INDEX)
+}
+
 /// An INSERT and a search, of which the second read, behind nine bytes of the search, fails.
 fn failing_source(alloc: Global) -> Result<MemSource, AllocError> {
     let mut script = Vec::from_slice(alloc, INSERT.as_bytes())?;
@@ -118,7 +179,14 @@ fn failing_source(alloc: Global) -> Result<MemSource, AllocError> {
 fn a_failed_read_ends_the_run_behind_the_whole_lines_before(rt: HostRuntime) -> Result<(), Fail> {
     let source = failing_source(rt.alloc())?;
     let sink = MemSink::new(rt.alloc(), Vec::new(rt.alloc()));
-    let run = call_over(rt.alloc(), RUN, source, sink, created(rt.alloc())?)?;
+    let run = call_over(
+        rt.alloc(),
+        RUN,
+        source,
+        sink,
+        created(rt.alloc())?,
+        index(rt.alloc())?,
+    )?;
     ended(&rt, &run, &Status::ReadFault, "OK commit 1\n", "a read");
     finds(&rt, rt.alloc(), run.rows.file(0), "OK as of 1: 1\n")
 }
@@ -129,7 +197,7 @@ fn a_failed_read_is_told_before_a_disk_fault(rt: HostRuntime) -> Result<(), Fail
     let sink = MemSink::new(rt.alloc(), Vec::new(rt.alloc()));
     let made = created(rt.alloc())?;
     let device = failing(rt.alloc(), made.file(0), (Kind::Write, 1))?;
-    let run = call_over(rt.alloc(), RUN, source, sink, device)?;
+    let run = call_over(rt.alloc(), RUN, source, sink, device, index(rt.alloc())?)?;
     ended(&rt, &run, &Status::ReadFault, FAULT, "a read");
     Ok(())
 }
@@ -143,7 +211,14 @@ fn failing_sink(alloc: Global) -> Result<MemSink, AllocError> {
 fn a_failed_write_ends_the_run_with_a_front_of_the_reply(rt: HostRuntime) -> Result<(), Fail> {
     let source = source_of(rt.alloc(), INSERT.as_bytes())?;
     let sink = failing_sink(rt.alloc())?;
-    let run = call_over(rt.alloc(), RUN, source, sink, created(rt.alloc())?)?;
+    let run = call_over(
+        rt.alloc(),
+        RUN,
+        source,
+        sink,
+        created(rt.alloc())?,
+        index(rt.alloc())?,
+    )?;
     ended(&rt, &run, &Status::WriteFault, "OK comm", "a reply");
     finds(&rt, rt.alloc(), run.rows.file(0), "OK as of 1: 1\n")
 }
@@ -152,7 +227,14 @@ fn a_failed_write_ends_the_run_with_a_front_of_the_reply(rt: HostRuntime) -> Res
 fn a_failed_write_ends_create_with_a_database(rt: HostRuntime) -> Result<(), Fail> {
     let source = source_of(rt.alloc(), b"")?;
     let sink = failing_sink(rt.alloc())?;
-    let made = call_over(rt.alloc(), CREATE, source, sink, empty_disk(rt.alloc())?)?;
+    let made = call_over(
+        rt.alloc(),
+        CREATE,
+        source,
+        sink,
+        empty_disk(rt.alloc())?,
+        index(rt.alloc())?,
+    )?;
     ended(&rt, &made, &Status::WriteFault, "OK crea", "create");
     finds(&rt, rt.alloc(), made.rows.file(0), "OK as of 0: none\n")
 }

@@ -1,7 +1,7 @@
 ghost use Rattle.fts_types.specs.Limits.{standard_limits};
 ghost use Rattle.fts_engine.specs.Bounds.{AreWithin};
 
-use super::calling::{created, source_of};
+use super::calling::{INDEX, created, disk_of, source_of};
 use crate::RunEnd;
 use crate::once::run_script;
 use fts_io::{MemSink, OpenGate};
@@ -33,7 +33,8 @@ fn limited(
     let mut input = source_of(alloc, script.as_bytes())?;
     let mut out = MemSink::new(alloc, Vec::new(alloc));
     let rows = created(alloc)?;
-    let (end, _) = run_script(alloc, &mut input, &mut out, rows, limits, &OpenGate);
+    let index = disk_of(alloc, INDEX)?;
+    let (end, _, _) = run_script(alloc, &mut input, &mut out, rows, index, limits, &OpenGate);
     assert_eq!(rt; end, Ok(RunEnd::Done), "{text}");
     assert_eq!(rt; out.bytes(), text.as_bytes(), "{text}");
     Ok(())

@@ -1,7 +1,7 @@
 use Rattle.std.proofs.Common.{◌≡◌, ◌∷◌, [], ◌++◌, true, cond, List, ℕ, map, rules, ap, ◌∙◌}
-use Rattle.std.specs.List.{starts_with}
-use Rattle.std.proofs.Common.{nat_eq}
-use Rattle.fts_cache.specs.Words.{front, has_documents, with_documents}
+use Rattle.fts_cache.specs.Words.{has_documents, with_documents}
+use Rattle.fts_ilist.specs.Front.{front}
+use Rattle.fts_words.specs.Order.{begins_with}
 use Rattle.fts_cache.proofs.Prefixed.{taken}
 use Rattle.fts_cache.proofs.words.shown_with_prefix.Goals as goal
 
@@ -9,12 +9,12 @@ pub loop-word-preserved : goal.loop-word-preserved
 loop-word-preserved c =
     let es = c.args.words.now in
     let word = c.in-Some.word.now in
-    let passes : starts_with nat_eq word c.args.prefix.now ≡ true = search rules in
+    let passes : begins_with c.args.prefix.now word ≡ true = search rules in
     let parts : c.loop-word.rest ≡ word ∷ c.next.new.self = search rules in
     let done : List (List ℕ) = map (λ w. w.now) c.loop-word.found.items in
     let put : map (λ w. w.now) c.push_shown.new.words.items ≡ done ++ cond (has_documents es word) (word ∷ []) [] = search rules in (
       tt,
       tt,
-      ap (λ ws. ws ++ with_documents es (front c.args.prefix.now c.next.new.self)) put
+      ap (λ ws. ws ++ with_documents es (front (λ w. w) c.args.prefix.now c.next.new.self)) put
           ∙ taken es c.args.prefix.now c.loop-word.rest c.next.new.self word done _ parts passes c.loop-word.invariant.2,
     )

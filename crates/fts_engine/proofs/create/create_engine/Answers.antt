@@ -18,7 +18,15 @@ returns-in-Ok-false-clause-fresh g c =
     always (IsTrue g.D.Disk.tells → IsCreated (g.D.Disk.seen c.args.rows 0) → ⊥) c.make.result
     (λ told created. false≢true (sym c.in-Ok-false.field-0-test ∙ (c.in-Ok-false.ensures.begun told).1 created))
 
-pub returns-in-Ok-false-clause-stays : goal.returns-in-Ok-false-clause-stays
-returns-in-Ok-false-clause-stays g c =
+pub returns-in-Ok-false-clause-index : goal.returns-in-Ok-false-clause-index
+returns-in-Ok-false-clause-index g c = c.make.ensures.index
+
+pub returns-in-Ok-false-clause-stays_rows : goal.returns-in-Ok-false-clause-stays_rows
+returns-in-Ok-false-clause-stays_rows g c =
     always_err (λ e. IsTrue g.D.Disk.tells → IsCreated (g.D.Disk.seen c.args.rows 0) → Looks g.D.Disk c.args.rows e.1) c.make.result
     (λ e told created. absurd (false≢true (sym c.in-Ok-false.field-0-test ∙ (c.in-Ok-false.ensures.begun told).1 created)))
+
+pub returns-in-Ok-false-clause-stays_index : goal.returns-in-Ok-false-clause-stays_index
+returns-in-Ok-false-clause-stays_index g c =
+    always_err (λ e. IsTrue g.D.Disk.tells → IsTrue g.E.Disk.tells → IsCreated (g.D.Disk.seen c.args.rows 0) → Looks g.E.Disk c.args.index e.2) c.make.result
+    (λ e told told_index created. absurd (false≢true (sym c.in-Ok-false.field-0-test ∙ (c.in-Ok-false.ensures.begun told).1 created)))

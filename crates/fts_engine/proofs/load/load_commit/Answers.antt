@@ -1,4 +1,4 @@
-use Rattle.std.proofs.Common.{◌≡◌, ℕ, List, sym, ap, ◌∙◌, subst, arith}
+use Rattle.std.proofs.Common.{◌≡◌, ℕ, List, [], refl, get_or, sym, ap, ◌∙◌, subst, arith}
 use Rattle.std.specs.Prelude.{Err, length}
 use Rattle.fts_commits.specs.Commit.{Commit}
 use Rattle.fts_types.specs.declared.settings.Settings.{Settings}
@@ -7,8 +7,16 @@ use Rattle.fts_log.specs.Records.{records_magic}
 use Rattle.fts_log.proofs.Reading.{as_many}
 use Rattle.fts_rowcodec.specs.Payload.{IsWritten, commit_payload}
 use Rattle.fts_engine.specs.Kept.{kept_settings}
-use Rattle.fts_engine.proofs.Loading.{wrong_commit, wrong_accepted, one_more}
+use Rattle.fts_engine.proofs.Loading.{wrong_commit, wrong_long, wrong_accepted, one_more}
 use Rattle.fts_engine.proofs.load.load_commit.Goals as goal
+
+pub returns-then-size_of-gt-MOST_OF_A_COMMIT-clause-damaged : goal.returns-then-size_of-gt-MOST_OF_A_COMMIT-clause-damaged
+returns-then-size_of-gt-MOST_OF_A_COMMIT-clause-damaged g c at e told all holds loaded =
+    let records = c.args.records.now in
+    let told_place : c.place_of-at.result ≡ at = (let same = e in cc) in
+    wrong_long (records_magic records) all c.args.k at c.args.kept.now loaded (omega (arith, as_many all records holds, c.requires))
+    (sym told_place ∙ c.place_of-at.ensures told all holds) (get_or all c.args.k []) refl
+    (omega (arith, c.size_of.ensures told all holds, c.if-size_of-gt-MOST_OF_A_COMMIT.true))
 
 pub returns-in-Err-Bad-clause-damaged : goal.returns-in-Err-Bad-clause-damaged
 returns-in-Err-Bad-clause-damaged g c at e told all holds loaded =

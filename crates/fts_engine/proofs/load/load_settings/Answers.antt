@@ -3,8 +3,16 @@ use Rattle.std.specs.Prelude.{Err}
 use Rattle.fts_log.specs.Record.{gate_at}
 use Rattle.fts_log.specs.Records.{records_magic}
 use Rattle.fts_log.proofs.Reading.{as_many}
-use Rattle.fts_engine.proofs.Loading.{wrong_settings, settings_begin}
+use Rattle.fts_engine.proofs.Loading.{wrong_settings, wrong_long_settings, settings_begin}
 use Rattle.fts_engine.proofs.load.load_settings.Goals as goal
+
+pub returns-then-size_of-gt-MOST_OF_SETTINGS-clause-damaged : goal.returns-then-size_of-gt-MOST_OF_SETTINGS-clause-damaged
+returns-then-size_of-gt-MOST_OF_SETTINGS-clause-damaged g c at e told all holds =
+    let records = c.args.records.now in
+    let told_place : c.place_of-at.result ≡ at = (let same = e in cc) in
+    wrong_long_settings (records_magic records) all at (omega (arith, as_many all records holds, c.requires))
+    (sym told_place ∙ c.place_of-at.ensures told all holds)
+    (omega (arith, c.size_of.ensures told all holds, c.if-size_of-gt-MOST_OF_SETTINGS.true))
 
 pub returns-in-Ok-clause-loaded : goal.returns-in-Ok-clause-loaded
 returns-in-Ok-clause-loaded g c told all holds =

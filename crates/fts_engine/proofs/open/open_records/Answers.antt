@@ -1,24 +1,18 @@
-use Rattle.std.proofs.Common.{◌≡◌, ℕ, List, inr, ap, sym, subst, ◌∙◌, refl, arith}
+use Rattle.std.proofs.Common.{◌≡◌, ℕ, List, inr, ap, sym, subst, ◌∙◌, arith}
 use Rattle.std.proofs.lemmas.Result.{IfErr-weaker}
-use Rattle.fts_types.specs.declared.limits.Limits.{Limits}
-use Rattle.fts_types.specs.Limits.{standard_limits}
 use Rattle.fts_disk.specs.Device.{Files}
-use Rattle.fts_log.specs.Record.{IsLog, IsBrokenBehind, log_end}
+use Rattle.fts_log.specs.Record.{IsLog, IsBrokenBehind}
 use Rattle.fts_log.specs.Log.{StandsFor, device_of}
 use Rattle.fts_log.specs.Records.{records_device}
 use Rattle.fts_log.specs.Scan.{IsFoundIn}
 use Rattle.fts_log.proofs.Reading.{as_many}
 use Rattle.fts_steps.specs.State.{rows_magic, IsCreated}
-use Rattle.fts_engine.specs.Bounds.{AreWithin}
-use Rattle.std.specs.Prelude.{IsTrue, Err, None}
+use Rattle.std.specs.Prelude.{IsTrue, Err}
 use Rattle.fts_steps.specs.Fault.{IsFaultAt}
-use Rattle.fts_engine.specs.Opening.{IsDamaged, IsNoDatabase}
+use Rattle.fts_engine.specs.Opening.{IsDamaged, IsNoRows}
 use Rattle.fts_engine.specs.Loading.{IsWrongEntry}
-use Rattle.fts_engine.specs.declared.error.OpenError.TheVariants.{Damaged}
-use Rattle.fts_engine.proofs.Gates.{closed_not_created, none_torn, broken_no_database, wrong_damaged, torn_damaged}
-use Rattle.fts_steps.specs.Running.{opened}
-use Rattle.fts_engine.specs.Stands.{Keeps}
-use Rattle.fts_engine.proofs.Committing.{on_device}
+use Rattle.fts_engine.specs.declared.error.LogError.TheVariants.{Damaged}
+use Rattle.fts_engine.proofs.Gates.{closed_not_created, none_torn, broken_no_rows, wrong_damaged, torn_damaged}
 use Rattle.fts_engine.proofs.Loading.{loaded_all}
 use Rattle.fts_engine.proofs.open.open_records.Goals as goal
 
@@ -33,7 +27,7 @@ tell_damage-requires g c =
     record {
       fault = λ told. subst (λ (file : List ℕ). IsFaultAt c.in-Err.at file) (sym same)
           (none_torn (c.requires.ready told).0 c.in-Err.at file (omega (arith, as_many (c.requires.ready told).0 records (c.requires.ready told).1, c.count.ensures, c.if-count-eq0.true)) (broken told));
-      none = λ told. subst (λ (file : List ℕ). IsNoDatabase file) (sym same) (broken_no_database (c.requires.ready told).0 c.in-Err.at file (broken told));
+      none = λ told. subst (λ (file : List ℕ). IsNoRows file) (sym same) (broken_no_rows (c.requires.ready told).0 c.in-Err.at file (broken told));
     }
 
 pub returns-in-Ok-clause-not_created : goal.returns-in-Ok-clause-not_created
@@ -54,27 +48,13 @@ returns-in-Ok-into_log-clause-opened g c told =
     let loaded = c.in-Ok-load.ensures.loaded told all (c.requires.ready told).1 in
     let stands = c.in-Ok-into_log.ensures.whole told all holds in
     let whole = loaded_all all c.in-Ok-load.kept loaded in
-    let magic = c.in-Ok-into_log.ensures.kept.0 ∙ c.in-Ok-load.ensures.same.magic ∙ c.requires.magic in
-    let keeps : Keeps loaded.state (record { alloc = c.args.alloc; log = c.in-Ok-into_log.log; kept = c.set_limits.new.self; stopped = None }) =
     record {
+      state = loaded.state;
       sound = loaded.sound;
       settings = loaded.same ∙ sym c.set_limits.ensures.settings;
       rows = c.set_limits.ensures.rows ∙ loaded.rows;
-      within = subst (λ (l : Limits). AreWithin standard_limits l) (sym c.set_limits.ensures.limits) c.requires.within;
-      count = stands.count ∙ sym loaded.count;
-      «end» = stands.«end» ∙ ap (λ (magic : List ℕ). log_end magic all) magic ∙ ap (log_end rows_magic) (sym whole);
-      limit = c.in-Ok-into_log.ensures.kept.1 ∙ ap (λ (l : Limits). l.log_bytes) (sym c.set_limits.ensures.limits);
-      magic = magic;
-    } in
-    let entries = subst (λ (entries : List (List ℕ)). StandsFor entries c.in-Ok-into_log.log) (sym whole) stands in (
-      loaded.state,
-      record {
-        keeps = keeps;
-        stopped = refl;
-        logs = λ again going. record { entries = entries; sure = refl };
-        device = λ again. on_device (opened loaded.state) _ keeps entries;
-      },
-    )
+      entries = subst (λ (entries : List (List ℕ)). StandsFor entries c.in-Ok-into_log.log) (sym whole) stands;
+    }
 
 pub returns-in-Err-into_log-clause-damaged : goal.returns-in-Err-into_log-clause-damaged
 returns-in-Err-into_log-clause-damaged g c at e told =

@@ -1,8 +1,9 @@
 use Rattle.std.proofs.Common.{not, sym, ap, ◌∙◌, arith}
 use Rattle.std.specs.Vec.{vec_capacity}
 use Rattle.std.proofs.lemmas.List.Filters.{FiltersInPlace-more_no, FiltersInPlace-more_set}
-use Rattle.fts_lists.specs.Ids.{has}
-use Rattle.fts_lists.proofs.Passing.{same_at, tells_here, tells_on}
+use Rattle.fts_ids.specs.Ids.{has}
+use Rattle.fts_ids.proofs.Passing.{tells_here, tells_on}
+use Rattle.fts_lists.proofs.Passing.{same_at}
 use Rattle.fts_lists.proofs.sorted.take_out.Goals as goal
 use Rattle.fts_lists.proofs.sorted.take_out.Goals.{then-not-has, else-not-has}
 

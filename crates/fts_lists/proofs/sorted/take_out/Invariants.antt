@@ -1,7 +1,7 @@
 use Rattle.std.proofs.Common.{◌≡◌, ◌≤◌, ◌<◌, ℕ, not, length, get_or}
 use Rattle.std.specs.Vec.{vec_capacity}
 use Rattle.std.proofs.lemmas.List.Filters.{FiltersInPlace}
-use Rattle.fts_lists.specs.Ids.{has}
+use Rattle.fts_ids.specs.Ids.{has}
 use Rattle.fts_lists.proofs.sorted.take_out.Given as goal
 
 abbrev pub invariant-loop-at : goal.invariant-loop-at

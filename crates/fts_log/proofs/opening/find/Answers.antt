@@ -1,4 +1,4 @@
-use Rattle.std.proofs.Common.{◌∙◌, ap, take, inl, length, arith}
+use Rattle.std.proofs.Common.{◌∙◌, ap, take, length, arith}
 use Rattle.fts_disk.specs.Device.{Files}
 use Rattle.fts_log.proofs.Finding.{no_magic}
 use Rattle.fts_log.proofs.opening.find.Goals as goal

@@ -1,7 +1,7 @@
-use Rattle.fts_rowcodec.specs.Payload.{change_payload}
-use Rattle.fts_rowcodec.specs.Reading.{IsRowChange}
-use Rattle.fts_rowcodec.proofs.Lists.{Reads}
+use Rattle.std.proofs.Common.{◌≡◌, ◌-◌}
+use Rattle.fts_rowcodec.specs.Reading.{many_at, change_at}
+use Rattle.fts_rowcodec.proofs.Loop.{with_front}
 use Rattle.fts_rowcodec.proofs.commit.changes_at.Given as goal
 
 abbrev pub invariant-loop : goal.invariant-loop
-invariant-loop l = Reads change_payload (IsRowChange l.columns) l.count l.bytes l.counter l.changes.items l.rest
+invariant-loop l = with_front l.changes.items (many_at (change_at l.columns) (l.count - l.counter) l.rest) ≡ many_at (change_at l.columns) l.count l.bytes

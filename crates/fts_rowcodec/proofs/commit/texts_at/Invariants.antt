@@ -1,7 +1,7 @@
-use Rattle.fts_rowcodec.specs.Payload.{text_payload}
-use Rattle.fts_rowcodec.specs.Reading.{IsRowText}
-use Rattle.fts_rowcodec.proofs.Lists.{Reads}
+use Rattle.std.proofs.Common.{◌≡◌, ◌-◌}
+use Rattle.fts_rowcodec.specs.Reading.{many_at, text_at}
+use Rattle.fts_rowcodec.proofs.Loop.{with_front}
 use Rattle.fts_rowcodec.proofs.commit.texts_at.Given as goal
 
 abbrev pub invariant-loop : goal.invariant-loop
-invariant-loop l = Reads text_payload IsRowText l.count l.bytes l.counter l.texts l.rest
+invariant-loop l = with_front l.texts (many_at text_at (l.count - l.counter) l.rest) ≡ many_at text_at l.count l.bytes

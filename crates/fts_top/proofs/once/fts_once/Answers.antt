@@ -4,7 +4,7 @@ use Rattle.fts_types.specs.declared.settings.Settings.{Settings}
 use Rattle.fts_args.specs.Asked.{Asks}
 use Rattle.fts_args.specs.declared.command.Command.TheVariants.{Create, Run}
 use Rattle.fts_top.specs.declared.ends.CreateEnd.TheVariants.{NoMemory}
-use Rattle.fts_top.specs.Once.{Creates, sink_seen}
+use Rattle.fts_top.specs.Once.{Creates, sink_seen, devices_of, disks_of}
 use Rattle.fts_top.proofs.Asking.{not_asked, is_asked, one_settings}
 use Rattle.fts_top.proofs.once.fts_once.Goals as goal
 
@@ -30,8 +30,9 @@ returns-in-Ok-Some-Create-clause-creates g c settings asks = (
   record {
     end = c.create-end.result.0;
     told = c.from.ensures;
-    creates = subst (λ (s : Settings). Creates g.D.Disk c.create-end.result.0 s (c.create-end.new.out ≡ c.args.out.now)
-        (sink_seen g.O.Sink c.args.out.now) (sink_seen g.O.Sink c.create-end.new.out) c.args.rows c.create-end.result.1)
+    creates = subst (λ (s : Settings). Creates (disks_of g.D.Disk g.E.Disk) c.create-end.result.0 s (c.create-end.new.out ≡ c.args.out.now)
+        (sink_seen g.O.Sink c.args.out.now) (sink_seen g.O.Sink c.create-end.new.out)
+        (devices_of c.args.rows c.args.index) (devices_of c.create-end.result.1 c.create-end.result.2))
         (one_settings (map string_bytes c.args.words.now) c.in-Ok-Some-Create.settings settings (is_asked (Asks (map string_bytes c.args.words.now)) c.in-Ok-Some-Create.field-0 c.in-Ok-Some-Create.field-0-0 (Create c.in-Ok-Some-Create.settings) c.in-Ok-Some-Create.field-0-is c.in-Ok-Some-Create.field-0-0-is c.in-Ok-Some-Create.ensures.found) asks)
         c.create-end.ensures.creates;
     fault = c.create-end.ensures.disk;

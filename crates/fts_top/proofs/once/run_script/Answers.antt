@@ -1,57 +1,70 @@
-use Rattle.std.proofs.Common.{◌≡◌, List, ℕ, refl, subst, sym}
+use Rattle.std.proofs.Common.{◌≡◌, ◌+◌, List, ℕ, refl, ap, subst, sym, ◌∙◌}
 use Rattle.fts_faults.specs.Count.{CountsFault}
 use Rattle.fts_io.specs.Text.{lines_of}
-use Rattle.fts_steps.specs.State.{State, IsDatabase}
+use Rattle.fts_steps.specs.State.{State, IsRows, IsIndex}
 use Rattle.fts_steps.specs.Running.{opened}
-use Rattle.fts_engine.specs.Stands.{engine_device}
+use Rattle.fts_engine.specs.Stands.{engine_faults, rows_device, index_device}
 use Rattle.fts_engine.proofs.Single.{one_database}
 use Rattle.fts_sessions.specs.Direct.{direct_sight}
 use Rattle.fts_top.specs.declared.ends.RunEnd.TheVariants.{DiskFault}
 use Rattle.fts_top.specs.Run.{Outcome, sides}
-use Rattle.fts_top.specs.Once.{device_sight}
+use Rattle.fts_top.specs.Once.{devices_of, disks_of, disk_faults, device_sight}
 use Rattle.fts_top.proofs.Filing.{outcome_on}
 use Rattle.fts_top.proofs.Opening.{is_why}
 use Rattle.fts_top.proofs.once.run_script.Goals as goal
 
 pub returns-in-Ok-clause-executed : goal.returns-in-Ok-clause-executed
 returns-in-Ok-clause-executed g c =
-    let ghosts = g.D.Disk in
+    let both = disks_of g.D.Disk g.E.Disk in
+    let first = devices_of c.args.rows c.args.index in
     let left = g.I.Source.left c.args.input.now in
     let left' = g.I.Source.left c.run-end.new.input in
     let held = g.O.Sink.holds c.args.out.now in
     let held' = g.O.Sink.holds c.run-end.new.out in
+    let last = devices_of c.close-rows.result.0 c.close-rows.result.1 in
     record {
       found = λ tells.
-          let state = (c.in-Ok.ensures.opened tells).0 in (
+          let state = (c.in-Ok.ensures.opened tells.0).0 in
+          let stands = (c.in-Ok.ensures.opened tells.0).1 in (
             state,
-            subst (λ (f : ℕ → List ℕ). IsDatabase state (f 0)) (c.in-Ok.ensures.looks tells).seen
-                (((c.in-Ok.ensures.opened tells).1.device tells).reads refl),
+            record {
+              of_rows = subst (λ (f : ℕ → List ℕ). IsRows state (f 0)) (c.in-Ok.ensures.looks_rows tells.0).seen ((stands.on_rows tells.0).reads refl);
+              of_index = subst (λ (f : ℕ → List ℕ). IsIndex state (f 0)) (c.in-Ok.ensures.looks_index tells.1).seen (stands.on_index tells.1).reads;
+            },
           );
       outcome = λ tells_input tells_out tells start database.
-          let state = (c.in-Ok.ensures.opened tells).0 in
-          let stands = (c.in-Ok.ensures.opened tells).1 in
-          let same = one_database start state (ghosts.seen c.args.rows 0) database
-          (subst (λ (f : ℕ → List ℕ). IsDatabase state (f 0)) (c.in-Ok.ensures.looks tells).seen ((stands.device tells).reads refl)) in
-          let outcome = outcome_on direct_sight refl state.settings c.args.limits (λ running s stood. stood.device tells)
-          (opened state) (lines_of left) (sides left held (record { engine = c.in-Ok.engine })) (sides left' held' c.run-end.new.steps) c.args.rows
-          (c.in-Ok.ensures.looks tells).crash (sym stands.keeps.settings) c.in-Ok.ensures.limits (c.in-Ok.ensures.faults.calm (λ no. no)) refl c.run-end.result (c.run-end.ensures.runs tells_input tells_out (opened state) stands) in
-          let closed = subst (λ (d : _). Outcome (device_sight ghosts state.settings c.args.limits) c.run-end.result (opened state) (lines_of left)
-          (sides left held c.args.rows) (sides left' held' d)) (sym c.close.ensures) outcome in
-          subst (λ (s : State). Outcome (device_sight ghosts s.settings c.args.limits) c.run-end.result (opened s) (lines_of left)
-          (sides left held c.args.rows) (sides left' held' c.close.result)) (sym same) closed;
+          let state = (c.in-Ok.ensures.opened tells.0).0 in
+          let stands = (c.in-Ok.ensures.opened tells.0).1 in
+          let same = one_database start state (g.D.Disk.seen c.args.rows 0) database.of_rows
+          (subst (λ (f : ℕ → List ℕ). IsRows state (f 0)) (c.in-Ok.ensures.looks_rows tells.0).seen ((stands.on_rows tells.0).reads refl)) in
+          let outcome = outcome_on direct_sight refl state.settings c.args.limits (λ running s stood. (stood.on_rows tells.0, stood.on_index tells.1))
+          (opened state) (lines_of left) (sides left held (record { engine = c.in-Ok.engine })) (sides left' held' c.run-end.new.steps) first
+          (record { rows = (c.in-Ok.ensures.looks_rows tells.0).crash; index = (c.in-Ok.ensures.looks_index tells.1).crash })
+          (sym stands.keeps.settings) c.in-Ok.ensures.limits (c.in-Ok.ensures.faults.calm (λ no. no)) refl c.run-end.result
+          (c.run-end.ensures.runs tells_input tells_out (opened state) stands) in
+          let closed = subst (λ (d : _). Outcome (device_sight both state.settings c.args.limits) c.run-end.result (opened state) (lines_of left)
+          (sides left held first) (sides left' held' (devices_of d (index_device c.run-end.new.steps.engine)))) (sym c.close-rows.ensures.rows) outcome in
+          let closed' = subst (λ (e : _). Outcome (device_sight both state.settings c.args.limits) c.run-end.result (opened state) (lines_of left)
+          (sides left held first) (sides left' held' (devices_of c.close-rows.result.0 e))) (sym c.close-rows.ensures.index) closed in
+          subst (λ (s : State). Outcome (device_sight both s.settings c.args.limits) c.run-end.result (opened s) (lines_of left)
+          (sides left held first) (sides left' held' last)) (sym same) closed';
       whole = λ read tells. c.run-end.ensures.whole tells read;
       too_long = c.run-end.ensures.too_long;
       fault = λ read.
-          subst (λ (before : ℕ). CountsFault (c.run-end.result ≡ DiskFault) before (ghosts.faults c.close.result)) (c.in-Ok.ensures.faults.calm (λ no. no))
-          (subst (λ (d : _). CountsFault (c.run-end.result ≡ DiskFault) (ghosts.faults (engine_device c.in-Ok.engine)) (ghosts.faults d)) (sym c.close.ensures)
-          (c.run-end.ensures.disk read));
+          let same : disk_faults both last ≡ engine_faults c.run-end.new.steps.engine =
+          ap (λ (d : _). g.D.Disk.faults d + g.E.Disk.faults c.close-rows.result.1) c.close-rows.ensures.rows
+          ∙ ap (λ (e : _). g.D.Disk.faults (rows_device c.run-end.new.steps.engine) + g.E.Disk.faults e) c.close-rows.ensures.index in
+          subst (λ (before : ℕ). CountsFault (c.run-end.result ≡ DiskFault) before (disk_faults both last)) (c.in-Ok.ensures.faults.calm (λ no. no))
+          (subst (λ (after : ℕ). CountsFault (c.run-end.result ≡ DiskFault) (engine_faults c.in-Ok.engine) after) (sym same) (c.run-end.ensures.disk read));
     }
 
 pub returns-in-Err-clause-unopened : goal.returns-in-Err-clause-unopened
 returns-in-Err-clause-unopened g c = record {
   untouched = (refl, refl);
-  looks = λ tells. c.in-Err.ensures.looks tells;
-  why = λ tells. is_why c.in-Err.error (g.D.Disk.seen c.args.rows 0) (λ e. c.in-Err.ensures.not_created e tells)
-      (λ at_ e. c.in-Err.ensures.damaged at_ e tells);
+  rows = c.in-Err.ensures.looks_rows;
+  index = c.in-Err.ensures.looks_index;
+  why = λ tells. is_why c.in-Err.error (g.D.Disk.seen c.args.rows 0) (g.E.Disk.seen c.args.index 0) (λ e. c.in-Err.ensures.not_created e tells.0)
+      (λ file at_ e. let damaged = c.in-Err.ensures.damaged_rows file at_ e in (damaged.0, damaged.1 tells.0))
+      (λ file at_ e. let damaged = c.in-Err.ensures.damaged_index file at_ e in (damaged.0, damaged.1 tells.0 tells.1));
   fault = c.in-Err.ensures.faults;
 }

@@ -2,7 +2,7 @@ use Rattle.std.proofs.Common.{map, ap, subst, ◌∙◌}
 use Rattle.fts_aux.specs.Table.{Entries, nodes_in, IsListing}
 use Rattle.std.proofs.lemmas.Result.{IfOk-weaker}
 use Rattle.fts_aux.proofs.Seen.{listing_seen}
-use Rattle.fts_aux.proofs.Prefixed.{is_from}
+use Rattle.fts_ilist.proofs.Fronts.{is_from}
 use Rattle.std.proofs.Common.{filter}
 use Rattle.fts_aux.proofs.table.Table.with_prefix.Goals as goal
 

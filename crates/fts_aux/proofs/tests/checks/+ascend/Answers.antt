@@ -2,7 +2,8 @@ use Rattle.std.proofs.Common.{List, ℕ, drop, subst}
 use Rattle.std.specs.List.Sorted.{IsStrictlySortedBy}
 use Rattle.std.specs.Map.{keys_of}
 use Rattle.std.proofs.lemmas.List.{take_rest}
-use Rattle.fts_ilist.specs.Node.{Docs, byte_order}
+use Rattle.fts_words.specs.Order.{byte_order}
+use Rattle.fts_ilist.specs.Node.{Docs}
 use Rattle.fts_aux.proofs.Ascending.{StandsBefore, ascend_none, ascend_more}
 use Rattle.fts_aux.proofs.tests.checks.+ascend.Goals as goal
 

@@ -4,7 +4,7 @@ use Rattle.std.specs.BTreeSet.{contains}
 use Rattle.std.specs.Global.{Vec}
 use Rattle.std.specs.Map.{lookup}
 use Rattle.std.specs.Str.{bytes_eq}
-use Rattle.fts_ilist.specs.Node.{byte_order}
+use Rattle.fts_words.specs.Order.{byte_order}
 use Rattle.fts_cache.specs.declared.words.CachedWord.{CachedWord}
 use Rattle.fts_cache.specs.Words.{Entries, slot_in, number_in, Enters, IsUsedBut}
 use Rattle.fts_cache.proofs.Queues.{ok_holds}

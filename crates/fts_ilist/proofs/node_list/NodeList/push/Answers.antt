@@ -1,4 +1,4 @@
-use Rattle.std.proofs.Common.{◌≡◌, ◌+◌, ◌≤◌, ◌∷◌, ◌++◌, [], length, sym, ap, ◌∙◌, subst, arith, rules}
+use Rattle.std.proofs.Common.{◌≡◌, ◌+◌, ◌∷◌, ◌++◌, [], length, sym, ap, ◌∙◌, subst, arith, rules}
 use Rattle.std.specs.Vec.{vec_len}
 use Rattle.fts_ilist.specs.Packing.{node_size}
 use Rattle.fts_ilist.specs.NodeList.{AreRows, nodes_at}

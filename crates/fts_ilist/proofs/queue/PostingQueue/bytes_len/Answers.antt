@@ -1,4 +1,4 @@
-use Rattle.std.proofs.Common.{length, sym, ap, subst, ◌∙◌}
+use Rattle.std.proofs.Common.{length, sym, subst, ◌∙◌}
 use Rattle.fts_ilist.specs.Spelling.{list_bytes}
 use Rattle.fts_ilist.specs.Queue.{Queue, HoldsBytes}
 use Rattle.fts_ilist.proofs.Queues.{holds_bytes}

@@ -1,5 +1,5 @@
 use Rattle.std.proofs.Common.{ap, sym, ◌∙◌}
-use Rattle.fts_lists.specs.Ids.{has}
+use Rattle.fts_ids.specs.Ids.{has}
 use Rattle.fts_lists.proofs.Ascending.{has-ascending}
 use Rattle.fts_lists.proofs.ids.IdSet.contains.Goals as goal
 

@@ -1,5 +1,5 @@
 use Rattle.std.proofs.Common.{ap, sym, subst, ◌∙◌}
-use Rattle.fts_lists.specs.Ids.{has, AscendFrom}
+use Rattle.fts_ids.specs.Ids.{has, AscendFrom}
 use Rattle.fts_lists.proofs.Passing.{found_is_has}
 use Rattle.fts_lists.proofs.sorted.SortedIds.contains.Goals as goal
 

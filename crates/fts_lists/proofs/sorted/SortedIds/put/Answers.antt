@@ -1,11 +1,7 @@
 use Rattle.std.proofs.Common.{sym, subst, arith}
-use Rattle.fts_lists.specs.Ids.{AscendFrom}
+use Rattle.fts_ids.specs.Ids.{AscendFrom}
 use Rattle.fts_lists.proofs.Merging.{AscendFrom-with_ids}
-use Rattle.fts_lists.proofs.Passing.{ascend_from_increasing}
 use Rattle.fts_lists.proofs.sorted.SortedIds.put.Goals as goal
-
-pub put-requires-clause-ids : goal.put-requires-clause-ids
-put-requires-clause-ids c = ascend_from_increasing 0 c.args.ids.now c.requires.ascending (λ d lt. omega arith)
 
 pub invariant_of-self : goal.invariant_of-self
 invariant_of-self c =

@@ -1,6 +1,6 @@
 use Rattle.std.proofs.Common.{[], ◌∷◌, sym, subst, not, arith}
-use Rattle.fts_lists.specs.Ids.{has, AscendFrom}
-use Rattle.fts_lists.proofs.Ascending.{AscendFrom-filter}
+use Rattle.fts_ids.specs.Ids.{has, AscendFrom}
+use Rattle.fts_ids.proofs.Ascending.{AscendFrom-filter}
 use Rattle.fts_lists.proofs.sorted.SortedIds.remove.Goals as goal
 
 pub invariant_of-self : goal.invariant_of-self

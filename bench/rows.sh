@@ -1,0 +1,194 @@
+#!/bin/sh
+# Times the rows of a table, with one text of 31 bytes each and keys out of order, at 10,000, 100,000 and 1,000,000 of them: a
+# commit of one row, a look-up by key, one by id and the removal of a row, in nanoseconds, the mean of 1,000; and the process's
+# memory at most, in bytes a row of the million. bench/rows.sh [COMMIT ..]
+# It does so for the tree as it stands, and for each commit that is named, one after another in one run, and tells 0 for a removal
+# where there is none; it needs `rt` and `python3`, and proves fts_rows with the test that takes the times.
+top=$(CDPATH='' cd -- "$(dirname -- "$0")/.." && pwd) || exit 1
+folder=$(mktemp -d) || exit 1
+trap 'rm -rf "$folder"' EXIT
+
+# The test, whose last line fails and tells the times. It stands in place of the crate's own tests. $1 takes a row out.
+timed_test() {
+    cat <<TEST
+ghost use Rattle.std.specs.Prelude.{◌<◌, All, IfOk};
+ghost use Rattle.fts_commits.specs.Fits.{IsPlainInsert};
+
+use super::*;
+use fts_commits::Change;
+use fts_types::{Key, Limits, RowTexts};
+use std::alloc::{AllocError, Global};
+use std::process::Abort;
+use std::rt::Clock;
+use std::test::Fail;
+use std::time::Instant;
+
+fn key(turn: u64) -> Key {
+    turn.wrapping_mul(611_953) % 1_000_003
+}
+
+// The place of a step among so many, out of order.
+fn spread(step: u64, count: u64) -> u64
+    requires { 0 < count }
+{
+    step.wrapping_mul(7_919_777) % count
+}
+
+fn insert(key: Key, texts: RowTexts) -> Change
+    ensures { IsPlainInsert result }
+{
+    let doc = None;
+    Change::Insert { key, doc, texts }
+}
+
+fn inserts(alloc: Global, keys: &[Key]) -> Result<Vec<Change>, AllocError>
+    ensures { IfOk result (λ changes. All IsPlainInsert changes.items) }
+{
+    let mut changes = Vec::new(alloc);
+    for key in keys {
+        let mut texts = RowTexts::new(alloc);
+        texts.push(vec![in alloc; b'a'; 31]?)?;
+        changes.push(insert(*key, texts))?;
+    }
+    Ok(changes)
+}
+
+fn commit(rows: &mut Rows, changes: &[Change]) -> Result<(), PlanError>
+    requires inserts { All IsPlainInsert changes.now }
+{
+    let plan = rows.plan(changes)?;
+    rows.install(plan);
+    Ok(())
+}
+
+fn since<R: Clock>(rt: &R, start: Instant) -> Result<u128, Fail> {
+    Ok(start.elapsed(rt)?.as_nanos())
+}
+
+fn committed(rt: &(impl Abort + Clock), alloc: Global, rows: &mut Rows, turn: u64) -> Result<u128, Fail> {
+    let changes = inserts(alloc, &[key(turn)])?;
+    let start = Instant::now(rt)?;
+    let done = commit(rows, &changes);
+    let nanos = since(rt, start)?;
+    assert!(rt; done.is_ok());
+    Ok(nanos)
+}
+
+// A thousand rows more.
+fn grown(rt: &(impl Abort + Clock), alloc: Global, rows: &mut Rows, thousand: u64) -> Result<u128, Fail> {
+    let mut nanos = 0u128;
+    for step in 0..1000u64 {
+        let turn = thousand.wrapping_mul(1000).wrapping_add(step);
+        nanos = nanos.wrapping_add(committed(rt, alloc, rows, turn)?);
+    }
+    Ok(nanos / 1000)
+}
+
+fn by_key(rt: &(impl Abort + Clock), rows: &Rows, count: u64) -> Result<u128, Fail>
+    requires { 0 < count }
+{
+    let mut found = 0u64;
+    let start = Instant::now(rt)?;
+    for step in 0..1000u64 {
+        if rows.row(key(spread(step, count))).is_some() {
+            found = found.wrapping_add(1);
+        }
+    }
+    let nanos = since(rt, start)?;
+    assert!(rt; found > 800);
+    Ok(nanos / 1000)
+}
+
+fn by_id(rt: &(impl Abort + Clock), rows: &Rows, count: u64) -> Result<u128, Fail>
+    requires { 0 < count }
+{
+    let mut found = 0u64;
+    let start = Instant::now(rt)?;
+    for step in 0..1000u64 {
+        if rows.text_of(spread(step, count).wrapping_add(1)).is_some() {
+            found = found.wrapping_add(1);
+        }
+    }
+    let nanos = since(rt, start)?;
+    assert!(rt; found > 800);
+    Ok(nanos / 1000)
+}
+
+fn removed(rt: &(impl Abort + Clock), rows: &mut Rows, count: u64) -> Result<u128, Fail>
+    requires { 0 < count }
+{
+    let mut nanos = 0u128;
+    for step in 0..1000u64 {
+        let key = key(spread(step.wrapping_add(5000), count));
+        let start = Instant::now(rt)?;
+        $1
+        nanos = nanos.wrapping_add(since(rt, start)?);
+    }
+    Ok(nanos / 1000)
+}
+
+fn times_at(
+    rt: &(impl Abort + Clock),
+    rows: &mut Rows,
+    count: u64,
+    commit: u128,
+) -> Result<(u128, u128, u128, u128), Fail>
+    requires { 0 < count }
+{
+    let key = by_key(rt, rows, count)?;
+    let id = by_id(rt, rows, count)?;
+    let removal = removed(rt, rows, count)?;
+    Ok((commit, key, id, removal))
+}
+
+#[test]
+fn times(rt: HostRuntime) -> Result<(), Fail> {
+    let alloc = rt.alloc();
+    let mut rows = Rows::new(alloc, Limits::standard());
+    let mut times = Vec::new(alloc);
+    for thousand in 0..1000u64 {
+        let nanos = grown(&rt, alloc, &mut rows, thousand)?;
+        if thousand == 9 {
+            times.push(times_at(&rt, &mut rows, 10_000, nanos)?)?;
+        }
+        if thousand == 99 {
+            times.push(times_at(&rt, &mut rows, 100_000, nanos)?)?;
+        }
+        if thousand == 999 {
+            times.push(times_at(&rt, &mut rows, 1_000_000, nanos)?)?;
+        }
+    }
+    assert_eq!(rt; times.as_slice(), [(0, 0, 0, 0)].as_slice());
+    Ok(())
+}
+TEST
+}
+
+# Runs a command, and tells the most memory that it held, in bytes a row.
+measured() {
+    python3 -c 'import resource, subprocess, sys
+subprocess.run(sys.argv[1:])
+print(resource.getrusage(resource.RUSAGE_CHILDREN).ru_maxrss * 1024 // 1000000, "bytes a row")' "$@"
+}
+
+# Times the tree in this folder.
+run() {
+    cd "$1/crates/fts_rows" || exit 1
+    if grep -q 'pub fn remove(' src/rows.rt; then
+        timed_test 'let _row = rows.remove(key);' >src/tests.rt
+    else
+        timed_test 'let _key = key;' >src/tests.rt
+    fi
+    rt test 2>&1 | grep -E 'error|no proof|not proved' | head -20
+    measured ./out/fts_rows_tests tests::times 2>&1 | grep -E 'left|bytes a row'
+}
+
+git -C "$top" archive HEAD | (mkdir "$folder/now" && tar -x -C "$folder/now") || exit 1
+for commit in "$@"; do
+    git -C "$top" archive "$commit" | (mkdir "$folder/$commit" && tar -x -C "$folder/$commit") || exit 1
+    echo "$commit: nanoseconds a commit, by key, by id and a removal, at each number of rows:"
+    (run "$folder/$commit")
+done
+echo "now: nanoseconds a commit, by key, by id and a removal, at each number of rows:"
+(run "$folder/now")
+uptime

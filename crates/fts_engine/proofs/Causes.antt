@@ -1,0 +1,41 @@
+-- Why a database was not opened, by its two logs.
+use Rattle.std.proofs.Common.{◌≡◌, ℕ, ◌+◌, refl, ap, subst, sym, inl, inr, arith}
+use Rattle.fts_faults.specs.Count.{Rose, CountsFault}
+use Rattle.fts_engine.specs.Opening.{open_error_of}
+use Rattle.fts_engine.specs.declared.error.Device.{Device}
+use Rattle.fts_engine.specs.declared.error.OpenError.TheVariants as opening
+use Rattle.fts_engine.specs.declared.error.LogError.{LogError}
+use Rattle.fts_engine.specs.declared.error.LogError.TheVariants.{NoMemory, NotCreated, Damaged, DiskFault}
+
+-- damage of a device is that of its log
+pub of_damage : (device told : Device) (error : LogError) (file at : ℕ) → open_error_of device error ≡ opening.Damaged told file at
+    → (device ≡ told) × (file ≡ 0) × (error ≡ Damaged at)
+of_damage device told NoMemory file at is = absurd cc
+of_damage device told NotCreated file at is = absurd cc
+of_damage device told (Damaged place) file at is = ((let same = is in cc), (let same = is in cc), (let same = is in cc))
+of_damage device told DiskFault file at is = absurd cc
+
+pub of_not_created : (device : Device) (error : LogError) → open_error_of device error ≡ opening.NotCreated → error ≡ NotCreated
+of_not_created device NoMemory is = absurd cc
+of_not_created device NotCreated is = refl
+of_not_created device (Damaged place) is = absurd cc
+of_not_created device DiskFault is = absurd cc
+
+of_fault : (device : Device) (error : LogError) → open_error_of device error ≡ opening.DiskFault → error ≡ DiskFault
+of_fault device NoMemory is = absurd cc
+of_fault device NotCreated is = absurd cc
+of_fault device (Damaged place) is = absurd cc
+of_fault device DiskFault is = refl
+
+rose_behind : (a b b' : ℕ) → Rose b b' → Rose (a + b) (a + b')
+rose_behind a b b' (inl rose) = inl (omega (arith, rose))
+rose_behind a b b' (inr last) = inr (omega (arith, last))
+
+-- a fault of the second device, behind calls without one of the first
+pub counts_behind : (device : Device) (error : LogError) (a a' b b' : ℕ) → a' ≡ a → CountsFault (error ≡ DiskFault) b b'
+    → CountsFault (open_error_of device error ≡ opening.DiskFault) (a + b) (a' + b')
+counts_behind device error a a' b b' same counts = subst (λ (n : ℕ). CountsFault (open_error_of device error ≡ opening.DiskFault) (a + b) (n + b')) (sym same) (record {
+  rose = λ is. rose_behind a b b' (counts.rose (of_fault device error is));
+  calm = λ no. ap (λ (n : ℕ). a + n) (counts.calm (λ is. no (ap (open_error_of device) is)));
+  never_falls = omega (arith, counts.never_falls);
+})

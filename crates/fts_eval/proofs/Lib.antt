@@ -1,0 +1,8 @@
+pub mod Listing
+pub mod Lists
+pub mod Rows
+pub mod Parts
+pub mod Meaning
+pub mod Operands
+pub mod Building
+pub mod Answering

@@ -1,0 +1,14 @@
+use Rattle.std.proofs.Common.{◌≡◌, ℕ, filter, take, map}
+use Rattle.fts_ids.specs.Ids.{AscendFrom}
+use Rattle.fts_meaning.specs.Holds.{stand_together}
+use Rattle.fts_query.specs.Seen.{candidate_seen}
+use Rattle.fts_eval.specs.Says.{texts_at, docs_of}
+use Rattle.fts_eval.proofs.Rows.{TellTexts}
+use Rattle.fts_eval.proofs.tried.with_phrase.Given as goal
+
+abbrev pub invariant-loop-id : goal.invariant-loop-id
+invariant-loop-id l = record {
+  found : l.found.items ≡ filter (λ (id : ℕ). stand_together (texts_at (map candidate_seen l.texts) id) l.words) (take l.id-index l.ids);
+  ascend : AscendFrom 0 (docs_of l.rest);
+  tell : TellTexts l.rest l.texts l.ids l.id-index;
+}

@@ -1,0 +1,4 @@
+pub mod Given
+pub mod Following
+pub mod Near
+pub mod Noting

@@ -1,7 +1,0 @@
-use Rattle.std.proofs.Common.{◌≡◌, ◌++◌, take}
-use Rattle.std.specs.List.{flat_map}
-use Rattle.fts_rowcodec.specs.Payload.{column_payload}
-use Rattle.fts_rowcodec.proofs.encode.put_columns.Given as goal
-
-abbrev pub invariant-loop-place : goal.invariant-loop-place
-invariant-loop-place l = l.bytes.items ≡ l.fn.bytes.items ++ flat_map column_payload (take l.place l.names)

@@ -1,0 +1,17 @@
+use Rattle.fts_rowcodec.specs.Reading.{many_at, name_at}
+use Rattle.fts_rowcodec.proofs.Loop.{begins, goes_on, no_more, is_done}
+use Rattle.fts_rowcodec.proofs.settings.many_names.Goals as goal
+
+pub loop-init : goal.loop-init
+loop-init c = rw c.new-names.ensures (begins name_at c.args.count c.args.bytes.now)
+
+pub returns-in_default : goal.returns-in_default
+returns-in_default c = no_more name_at c.loop.names c.args.count c.loop.counter c.loop.rest.now (many_at name_at c.args.count c.args.bytes.now) c.loop-test.true c.in_default.ensures c.loop.invariant
+
+pub loop-preserved : goal.loop-preserved
+loop-preserved c =
+    rw (c.in_ok-push.ensures.ok, c.in_ok-from_slice.ensures.items)
+    (goes_on name_at c.loop.names c.args.count c.loop.counter c.loop.rest.now (many_at name_at c.args.count c.args.bytes.now) c.in-Some.name.now c.in-Some.after.now c.loop-test.true c.in-Some.ensures c.loop.invariant)
+
+pub returns : goal.returns
+returns c = is_done name_at c.loop.names c.args.count c.loop.counter c.loop.rest.now (many_at name_at c.args.count c.args.bytes.now) c.loop-test.false c.loop.invariant

@@ -1,0 +1,8 @@
+use Rattle.std.proofs.Common.{take}
+use Rattle.std.specs.List.{flat_map}
+use Rattle.fts_rowcodec.specs.Payload.{new_payload}
+use Rattle.fts_rowcodec.specs.Writing.{Puts}
+use Rattle.fts_rowcodec.proofs.writing.put_new_texts.Given as goal
+
+abbrev pub invariant-loop-place : goal.invariant-loop-place
+invariant-loop-place l = Puts (flat_map new_payload (take l.place l.texts)) l.fn.buf l.buf l.at

@@ -1,0 +1,13 @@
+use Rattle.std.proofs.Common.{[], refl, arith}
+use Rattle.fts_rowcodec.specs.Payload.{text_payload}
+use Rattle.fts_rowcodec.proofs.Puts.{next_room, next_put}
+use Rattle.fts_rowcodec.proofs.writing.put_texts.Goals as goal
+
+pub put_text-at-requires-clause-room : goal.put_text-at-requires-clause-room
+put_text-at-requires-clause-room c =
+    rw c.text.ensures (next_room text_payload c.args.texts.now [] c.args.buf.now c.loop-place.buf c.loop-place.place c.loop-place.at [] (omega arith) c.requires.room c.loop-place.invariant)
+
+pub loop-place-preserved : goal.loop-place-preserved
+loop-place-preserved c =
+    next_put text_payload c.args.texts.now [] c.args.buf.now c.loop-place.buf c.loop-place.place c.loop-place.at [] (omega arith) c.requires.room c.loop-place.invariant
+    c.put_text-at.new.buf _ c.put_text-at.result (rw (← c.text.ensures) c.put_text-at.ensures) refl

@@ -1,0 +1,53 @@
+//! What a stop in each call of a device leaves of a run.
+ghost use Rattle.std.specs.Prelude.{◌<◌, ◌≤◌, length};
+ghost use Rattle.fts_disk.specs.Memory.{mem_calls};
+
+use super::calling::{Outcome, RUN, SEARCH, TWO, call, call_on, created, disk_of};
+use crate::Status;
+use std::alloc::Global;
+use std::test::Fail;
+
+/// What a search then finds, by the number of commits.
+const FOUND: [&str; 3] = ["OK as of 0: none\n", "OK as of 1: 1\n", "OK as of 2: 1 2\n"];
+
+/// How many of the two INSERTs were answered before this call of the rows device.
+fn answered_before(call: usize) -> usize
+    ensures { result ≤ 1 }
+{
+    if call < 8 { 0 } else { 1 }
+}
+
+/// A search of what a stop left.
+fn search_after(alloc: Global, run: &Outcome, call: usize, choice: u64) -> Result<Outcome, Fail>
+    requires rows { call < length (mem_calls run.now.rows) }
+    requires index { 2 < length (mem_calls run.now.index) }
+{
+    let rows = run.rows.pick_image(call, choice)?;
+    let index = run.index.pick_image(2, choice)?;
+    Ok(call_on(alloc, RUN, SEARCH.as_bytes(), rows, index)?)
+}
+
+/// The rows device has four calls in the opening and four for each INSERT, and the index device has
+/// three in the opening.
+#[test]
+fn a_stop_leaves_each_commit_that_was_answered_and_perhaps_the_next(
+    rt: HostRuntime,
+) -> Result<(), Fail> {
+    let alloc = rt.alloc();
+    let made = created(alloc)?;
+    let run = call(alloc, RUN, TWO.as_bytes(), disk_of(alloc, made.file(0))?)?;
+    assert!(rt; run.rows.calls().len() == 12 && run.index.calls().len() == 3);
+    for call in 0..12 {
+        for choice in 0..16 {
+            let again = search_after(alloc, &run, call, choice)?;
+            let answered = answered_before(call);
+            let text = again.out.bytes();
+            assert!(rt; again.status == Status::Done, "in call {call} by {choice}");
+            assert!(rt;
+                text == FOUND[answered].as_bytes() || text == FOUND[answered + 1].as_bytes(),
+                "in call {call} by {choice}"
+            );
+        }
+    }
+    Ok(())
+}
