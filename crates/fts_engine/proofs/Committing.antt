@@ -13,7 +13,8 @@ use Rattle.fts_types.specs.Rules.{rules_of}
 use Rattle.fts_types.specs.Limits.{standard_limits}
 use Rattle.fts_commits.specs.Commit.{Commit, Rows, after_commit, replay, no_rows}
 use Rattle.fts_commits.specs.Fits.{CanCommit}
-use Rattle.fts_meaning.specs.Scan.{scan, one_word}
+use Rattle.fts_meaning.specs.Leaf.{Leaf}
+use Rattle.fts_meaning.specs.View.{View, view_of}
 use Rattle.fts_log.specs.Record.{IsLog, log_end}
 use Rattle.fts_log.specs.Crash.{IsBeforeOrAfter}
 use Rattle.fts_log.specs.Log as log
@@ -26,7 +27,7 @@ use Rattle.fts_rowcodec.specs.Payload.{commit_payload, settings_payload, IsWritt
 use Rattle.fts_steps.specs.State.{State, payloads, rows_magic, index_magic, end_after, with_commits, IsSound, IsRows}
 use Rattle.fts_steps.specs.Running.{Running}
 use Rattle.fts_steps.specs.Crash.{MayHold}
-use Rattle.fts_steps.specs.Step.{Answer, to_commit, to_find, committed, full, found, plain_answer, changes_of, is_disk_fault, MayAnswer}
+use Rattle.fts_steps.specs.Step.{Answer, to_commit, to_view, committed, full, viewed, plain_answer, changes_of, is_disk_fault, MayAnswer}
 use Rattle.fts_commits.specs.declared.refusal.Refusal.{Refusal}
 use Rattle.fts_rows.specs.declared.error.PlanError.{PlanError}
 use Rattle.fts_rows.specs.declared.error.PlanError.TheVariants.{NoMemory, Refused}
@@ -180,20 +181,19 @@ module _ {D E : Type 0} {disk : Ghosts D} {disk' : Ghosts E} (state : State) (en
   keeps_in state' is new settings kept limits same index =
       subst (λ (s : State). Keeps s new) (sym is) (keeps_still new settings kept limits (ap magic_of same) (ap limit_of same) (ap log.count_of same) (ap end_of same) index)
 
-module _ {D E : Type 0} {disk : Ghosts D} {disk' : Ghosts E} (running : Running) (engine : Engine D E disk disk') (keeps : Keeps running.state engine) (word : List ℕ) where
+module _ {D E : Type 0} {disk : Ghosts D} {disk' : Ghosts E} (running : Running) (engine : Engine D E disk disk') (keeps : Keeps running.state engine) where
   pub same_number : log.count_of engine.rows - 1 ≡ length running.state.commits
   same_number = let count = keeps.log.count in omega (arith)
 
-  pub is_found : (number : ℕ) (docs : List ℕ) → number ≡ length running.state.commits → docs ≡ scan (rules_of (kept_settings engine.kept)) (kept_rows engine.kept).list (one_word word)
-      → plain_answer (engine_limits engine) running (to_find word) ≡ found number docs
-  is_found number docs numbered same =
-      let commits = running.state.commits in
-      let settings : scan (rules_of running.state.settings) (replay commits).list (one_word word) ≡ scan (rules_of (kept_settings engine.kept)) (replay commits).list (one_word word) =
-      ap (λ (s : Settings). scan (rules_of s) (replay commits).list (one_word word)) keeps.settings in
-      let rows : scan (rules_of (kept_settings engine.kept)) (kept_rows engine.kept).list (one_word word) ≡ scan (rules_of (kept_settings engine.kept)) (replay commits).list (one_word word) =
-      ap (λ (rows : Rows). scan (rules_of (kept_settings engine.kept)) rows.list (one_word word)) keeps.rows in
-      let docs' : scan (rules_of running.state.settings) (replay commits).list (one_word word) ≡ docs = settings ∙ sym rows ∙ sym same in
-      ap (λ (n : ℕ). found n (scan (rules_of running.state.settings) (replay commits).list (one_word word))) (sym numbered) ∙ ap (found number) docs'
+  -- a view of what is kept is the state's
+  pub is_viewed : (asked : List Leaf) (number : ℕ) (view : View) → number ≡ length running.state.commits
+      → view ≡ view_of (rules_of (kept_settings engine.kept)) (kept_rows engine.kept).list number asked
+      → plain_answer (engine_limits engine) running (to_view asked) ≡ viewed view
+  is_viewed asked number view numbered same =
+      ap (λ (s : Settings). viewed (view_of (rules_of s) (replay running.state.commits).list (length running.state.commits) asked)) keeps.settings
+      ∙ ap (λ (rows : Rows). viewed (view_of (rules_of (kept_settings engine.kept)) rows.list (length running.state.commits) asked)) (sym keeps.rows)
+      ∙ ap (λ (n : ℕ). viewed (view_of (rules_of (kept_settings engine.kept)) (kept_rows engine.kept).list n asked)) (sym numbered)
+      ∙ ap viewed (sym same)
 
 -- a refusal by the rows adds nothing, and is no fault
 pub refusal_adds : (commit : Commit) (error : PlanError) (answer : Answer) → answer ≡ refusal_answer error → changes_of (to_commit commit) answer ≡ []

@@ -7,3 +7,4 @@ pub mod Gates
 pub mod Single
 pub mod Steps
 pub mod Causes
+pub mod Candidates

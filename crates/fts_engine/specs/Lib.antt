@@ -5,3 +5,4 @@ pub mod Refusing
 pub mod Stands
 pub mod Opening
 pub mod Loading
+pub mod Looking

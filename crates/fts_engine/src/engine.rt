@@ -6,16 +6,17 @@ ghost use Rattle.fts_log.specs.Framing.{inner};
 ghost use Rattle.fts_commits.specs.Fits.{CanCommit};
 ghost use Rattle.fts_rowcodec.specs.Payload.{IsWritten, commit_payload};
 ghost use Rattle.fts_steps.specs.State.{State};
-ghost use Rattle.fts_steps.specs.Step.{to_commit, to_find, is_disk_fault, Steps};
+ghost use Rattle.fts_steps.specs.Step.{to_commit, to_view, is_disk_fault, Steps};
 ghost use Rattle.fts_steps.specs.Answers.{commit_answer_of, view_answer_of};
 
 use crate::kept::Kept;
 use fts_commits::Change;
 use fts_disk::Disk;
 use fts_log::{AROUND_PAYLOAD, AppendError, BEFORE_PAYLOAD, Framed, Log};
+use fts_query::{Leaf, View};
 use fts_rowcodec::{commit_size, encode_commit_into};
 use fts_rows::PlanError;
-use fts_steps::{CommitError, View};
+use fts_steps::CommitError;
 use fts_types::Settings;
 use std::alloc::{AllocError, Global};
 
@@ -32,7 +33,9 @@ pub struct Engine<D: Disk, E: Disk> {
 
 impl<D: Disk, E: Disk> Engine<D, E> {
     ghost use Rattle.fts_disk.specs.Crash.{Only};
-    ghost use Rattle.fts_engine.specs.Stands.{Keeps, engine_sight, engine_settings};
+    ghost use Rattle.fts_query.specs.Seen.{leaves_seen};
+    ghost use Rattle.fts_steps.specs.Running.{Running};
+    ghost use Rattle.fts_engine.specs.Stands.{Keeps, Stands, engine_sight, engine_settings};
     ghost use Rattle.fts_engine.specs.Stands.{rows_log, index_log, rows_device, index_device};
 
     /// Makes a commit of these changes, and returns its number, from 1. The changes fit the table:
@@ -88,15 +91,14 @@ impl<D: Disk, E: Disk> Engine<D, E> {
         }
     }
 
-    /// Looks for the rows that have the word.
-    pub fn view(&self, word: &[u8]) -> Result<View, AllocError>
-        ensures { Steps engine_sight (to_find word.now) (view_answer_of result) self.now self.now }
+    /// What the rows have for the leaves of a query, at this moment. Want of memory is the only
+    /// refusal; it goes on after a fault of a commit.
+    pub fn view(&self, leaves: Vec<Leaf>) -> Result<View, AllocError>
+        ensures { Steps engine_sight (to_view (leaves_seen leaves.items)) (view_answer_of result)
+            self.now self.now }
     {
-        match self.kept.find(word) {
-            Ok(docs) => Ok(View {
-                number: self.commits(),
-                docs,
-            }),
+        match self.kept.view(self.alloc, self.commits(), leaves) {
+            Ok(view) => Ok(view),
             Err(AllocError) => Err(AllocError),
         }
     }
@@ -120,6 +122,8 @@ impl<D: Disk, E: Disk> Engine<D, E> {
         ensures some { 1 ≤ length result.now.columns }
         ensures few { length result.now.columns ≤ 8 }
         ensures settings { result.now ≡ engine_settings self.now }
+        ensures stand { (running : Running) → Stands running self.now
+            → running.state.settings ≡ result.now }
     {
         self.kept.settings()
     }

@@ -6,13 +6,16 @@ ghost use Rattle.fts_types.specs.Limits.{standard_limits};
 ghost use Rattle.fts_commits.specs.Commit.{Rows as RowList};
 ghost use Rattle.fts_rows.specs.Rows.{rows_of, limits_of};
 ghost use Rattle.fts_index.specs.Index.{Indexes};
+ghost use Rattle.fts_index.proofs.Props.{indexes_prop};
 ghost use Rattle.fts_engine.specs.Bounds.{AreWithin};
 ghost use Rattle.fts_engine.specs.Next.{WillHold};
 
+use crate::looking::candidates;
 use fts_commits::Change;
 use fts_index::{CommitPlan, Index};
+use fts_query::{Leaf, View};
 use fts_rows::{Plan, PlanError, Rows};
-use fts_types::{DocIds, Limits, Settings};
+use fts_types::{Limits, Settings};
 use std::alloc::{AllocError, Global};
 
 /// What is kept in memory of a database: its settings, its rows, and the index of their words.
@@ -23,7 +26,7 @@ pub struct Kept {
     index: Index,
     ghost right: { AreSettings settings },
     ghost within: { AreWithin standard_limits (limits_of rows) },
-    ghost indexed: { Indexes (rules_of settings) (rows_of rows) index },
+    ghost indexed: { Indexes (rules_of settings) (rows_of rows) index } by { indexes_prop (rules_of settings) (rows_of rows) index },
 }
 
 /// What a commit makes of the rows and the index. Its room is made.
@@ -38,7 +41,8 @@ impl Kept {
     ghost use Rattle.fts_types.specs.Rules.{rules_of};
     ghost use Rattle.fts_commits.specs.Commit.{Rows as RowList, after_commit, no_rows};
     ghost use Rattle.fts_commits.specs.Fits.{IsCommit};
-    ghost use Rattle.fts_meaning.specs.Scan.{scan, one_word};
+    ghost use Rattle.fts_meaning.specs.View.{view_of};
+    ghost use Rattle.fts_query.specs.Seen.{leaves_seen, view_seen};
     ghost use Rattle.fts_rows.specs.Refusal.{IsNoPlan};
     ghost use Rattle.fts_engine.specs.Kept.{kept_settings, kept_rows, kept_limits, WillKeep};
 
@@ -129,13 +133,19 @@ impl Kept {
         }
     }
 
-    /// The document ids of the rows that have the word.
-    pub fn find(&self, word: &[u8]) -> Result<DocIds, AllocError>
-        ensures { IfOk result (λ docs. docs
-            ≡ scan (rules_of (kept_settings self.now)) (kept_rows self.now).list
-            (one_word word.now)) }
+    /// What the rows have for these leaves, as the view of so many commits.
+    pub fn view(&self, alloc: Global, number: u64, leaves: Vec<Leaf>) -> Result<View, AllocError>
+        ensures { IfOk result (λ view. view_seen view
+            ≡ view_of (rules_of (kept_settings self.now)) (kept_rows self.now).list number
+            (leaves_seen leaves.items)) }
     {
-        self.index.find(word)
+        let gathered = self.index.gather(leaves)?;
+        let texts = candidates(alloc, &self.rows, gathered.looked_into.as_slice())?;
+        Ok(View {
+            number,
+            postings: gathered.postings,
+            texts,
+        })
     }
 }
 

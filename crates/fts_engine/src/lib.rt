@@ -3,10 +3,11 @@
 //! [`create_engine`] makes a database, and [`open_engine`] finds one:
 //! `let mut engine = open_engine(alloc, rows, index, Limits::standard())?`. Then
 //! `engine.commit(&[change])?` gives the commit's number once it is durable, and
-//! `engine.view(b"apple")?` the ids of the rows that have the word.
+//! `engine.view(leaves)?` what the rows have for the leaves of a query.
 //!
 //! A commit costs the bytes of its changes, a look-up for each key and word, two writes and two
-//! syncs; a view the word's documents; an opening each record once and the words of all rows.
+//! syncs; a view the documents of its leaves' words, and a look-up for each candidate of a phrase
+//! or a distance; an opening each record once and the words of all rows.
 #![tactic(auto)]
 
 mod create;
@@ -15,6 +16,7 @@ mod error;
 mod kept;
 mod laws;
 mod load;
+mod looking;
 mod open;
 
 pub use create::{CreateError, INDEX_MAGIC, LARGEST_LOG, ROWS_MAGIC, create_engine};

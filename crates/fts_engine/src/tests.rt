@@ -6,6 +6,7 @@ use super::*;
 use fts_commits::{Change, Refusal};
 use fts_disk::MemDisk;
 use fts_log::is_begun;
+use fts_query::{Leaf, View};
 use fts_steps::CommitError;
 use fts_types::{DocId, Key, Limits, Names, RowTexts, Settings};
 use std::alloc::{AllocError, Global};
@@ -141,17 +142,32 @@ const FOUND: [(&str, &[DocId]); 7] = [
     ("PIE", &[]),
 ];
 
-/// Whether a search for each word finds what it should after the first commit.
-fn finds_all(engine: &Engine<MemDisk, MemDisk>, found: &[(&str, &[DocId])]) -> bool {
+/// The view of a word.
+fn view_of(alloc: Global, engine: &Engine<MemDisk, MemDisk>, word: &[u8]) -> Result<View, Fail> {
+    let leaves = vec![in alloc; Leaf::Word(word.to_vec(alloc)?)]?;
+    Ok(engine.view(leaves)?)
+}
+
+/// Whether a view is of so many commits, and has these postings alone.
+fn is_view(view: &View, number: u64, want: &[DocId]) -> bool {
+    match view.postings.as_slice() {
+        [one] => view.number == number && one.ids.as_slice() == want && view.texts.is_empty(),
+        _ => false,
+    }
+}
+
+/// Whether a view of each word has what it should after the first commit.
+fn finds_all(
+    alloc: Global,
+    engine: &Engine<MemDisk, MemDisk>,
+    found: &[(&str, &[DocId])],
+) -> Result<bool, Fail> {
     for (word, want) in found {
-        let Ok(view) = engine.view(word.as_bytes()) else {
-            return false;
-        };
-        if view.number != 1 || view.docs.as_slice() != *want {
-            return false;
+        if !is_view(&view_of(alloc, engine, word.as_bytes())?, 1, want) {
+            return Ok(false);
         }
     }
-    true
+    Ok(true)
 }
 
 #[test]
@@ -160,9 +176,9 @@ fn a_commit_is_found_and_again_after_opening(rt: HostRuntime) -> Result<(), Fail
     let devices = create(alloc, empty_disks(alloc)?)?;
     let mut engine = open(alloc, devices, 2, 4_096)?;
     assert_eq!(rt; commit(&mut engine, &two_rows(alloc, 7, 3)?), Some(Ok(1)));
-    assert!(rt; finds_all(&engine, &FOUND));
+    assert!(rt; finds_all(alloc, &engine, &FOUND)?);
     let engine = open(alloc, engine.close(), 1, 0)?;
-    assert!(rt; finds_all(&engine, &FOUND) && engine.commits() == 1);
+    assert!(rt; finds_all(alloc, &engine, &FOUND)? && engine.commits() == 1);
     Ok(())
 }
 
@@ -173,7 +189,11 @@ fn a_thousand_changes_are_a_commit(rt: HostRuntime) -> Result<(), Fail> {
     let mut engine = open(alloc, devices, 1_000, LARGEST_LOG)?;
     assert_eq!(rt; commit(&mut engine, &many_rows(alloc, 1_000)?), Some(Ok(1)));
     let engine = open(alloc, engine.close(), 1_000, 0)?;
-    assert!(rt; engine.commits() == 1 && engine.view(b"cream")?.docs.as_slice().len() == 1_000);
+    assert!(rt; engine.commits() == 1);
+    match view_of(alloc, &engine, b"cream")?.postings.as_slice() {
+        [one] => assert!(rt; one.ids.as_slice().len() == 1_000),
+        _ => assert!(rt; false, "one leaf"),
+    }
     Ok(())
 }
 
@@ -191,7 +211,7 @@ fn a_word_is_found_whole(rt: HostRuntime) -> Result<(), Fail> {
     let devices = create(alloc, empty_disks(alloc)?)?;
     let mut engine = open(alloc, devices, 2, 4_096)?;
     assert_eq!(rt; commit(&mut engine, &quoted_row(alloc)?), Some(Ok(1)));
-    assert!(rt; finds_all(&engine, &FOUND_WHOLE));
+    assert!(rt; finds_all(alloc, &engine, &FOUND_WHOLE)?);
     engine.close();
     Ok(())
 }

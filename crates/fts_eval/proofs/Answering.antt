@@ -10,15 +10,16 @@ use Rattle.fts_meaning.specs.Tree.{Terms, group}
 use Rattle.fts_meaning.specs.Holds.{list_holds}
 use Rattle.fts_meaning.specs.Leaf.{Leaf, leaves}
 use Rattle.fts_meaning.specs.Scan.{scan}
-use Rattle.fts_meaning.specs.View.{Candidate, Postings, View, is_looked_into, candidate_of, ids_where, postings_of, StandsFor}
+use Rattle.fts_meaning.specs.View.{Candidate, Postings, View, is_looked_into, candidate_of, ids_where, postings_of, StandsFor, columns_at}
 use Rattle.fts_query.specs.declared.view.Candidate.{Candidate as Kept}
 use Rattle.fts_query.specs.Seen.{candidate_seen}
 use Rattle.fts_eval.specs.declared.part.Part.{Part}
 use Rattle.fts_eval.specs.declared.resolve.Parts.{Parts}
 use Rattle.fts_eval.specs.Says.{docs_of}
-use Rattle.fts_eval.specs.Means.{columns_at, Stands, Means, PartsMean, IsGroup, part_says}
-use Rattle.fts_eval.proofs.Meaning.{where_ascends, has_where, no_term, dropped_list}
+use Rattle.fts_eval.specs.Means.{Stands, Means, PartsMean, IsGroup, part_says}
+use Rattle.fts_eval.proofs.Meaning.{no_term, dropped_list}
 use Rattle.fts_eval.proofs.Building.{group_means}
+use Rattle.fts_query.proofs.Chosen.{where_ascends, has_where}
 
 -- ---- ids that ascend, one by one
 

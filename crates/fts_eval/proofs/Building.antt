@@ -11,7 +11,7 @@ use Rattle.fts_meaning.specs.Tree as tree
 use Rattle.fts_meaning.specs.Tree.{Terms, group, none, more}
 use Rattle.fts_meaning.specs.Holds.{stays, some_stays, term_holds, none_excluded, each_required, has_required, some_optional, is_required, is_optional, is_excluded, sign_of_term}
 use Rattle.fts_meaning.specs.Leaf.{Leaf, leaf_of, operands, operands_of}
-use Rattle.fts_meaning.specs.View.{Candidate, Postings, is_looked_into, candidate_of, postings_of}
+use Rattle.fts_meaning.specs.View.{Candidate, Postings, is_looked_into, candidate_of, postings_of, columns_at}
 use Rattle.fts_query.specs.declared.query.Term.{Term}
 use Rattle.fts_query.specs.declared.view.Postings.{Postings as Kept}
 use Rattle.fts_query.specs.View.{term_view, terms_view}
@@ -19,7 +19,7 @@ use Rattle.fts_query.specs.Seen.{postings_seen}
 use Rattle.fts_eval.specs.declared.part.Part.{Part}
 use Rattle.fts_eval.specs.declared.resolve.Parts.{Parts}
 use Rattle.fts_eval.specs.Says.{is_chosen, says, each_says, some_says}
-use Rattle.fts_eval.specs.Means.{columns_at, Stands, Means, Continues, PartsMean, Adds, IsGroup, MeansOperand, are_some, has_parts}
+use Rattle.fts_eval.specs.Means.{Stands, Means, Continues, PartsMean, Adds, IsGroup, MeansOperand, are_some, has_parts}
 use Rattle.fts_eval.proofs.Listing.{leaves_from, split}
 use Rattle.fts_eval.proofs.Operands.{leaf_means}
 use Rattle.fts_eval.proofs.Parts.{says-Group}

@@ -1,5 +1,4 @@
 pub mod Listing
-pub mod Lists
 pub mod Rows
 pub mod Parts
 pub mod Meaning

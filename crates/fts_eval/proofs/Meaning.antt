@@ -8,46 +8,12 @@ use Rattle.fts_words.specs.Indexed.{Rules, is_indexable, placed_words}
 use Rattle.fts_types.specs.Row.{Row}
 use Rattle.fts_meaning.specs.Tree.{Operand, word, prefix, phrase, distance, Term, Terms, leaf, group, none, more}
 use Rattle.fts_meaning.specs.Holds.{operand_holds, stays, some_stays, term_holds, none_excluded, each_required, has_required, some_optional, list_holds, is_required, is_optional, sign_of_term}
-use Rattle.fts_meaning.specs.View.{candidate_of, ids_where}
-use Rattle.fts_eval.specs.Says.{texts_at}
-use Rattle.fts_eval.specs.Means.{columns_at}
+use Rattle.fts_meaning.specs.View.{candidate_of, ids_where, texts_at, columns_at}
 
 docs : List Row → List ℕ
 docs rows = map (λ (row : Row). row.doc) rows
 
 -- ---- rows with some ids
-
--- ids of chosen rows ascend
-pub where_ascends : (test : Row → Bool) (rows : List Row) (n : ℕ) → AscendFrom n (map (λ (row : Row). row.doc) rows) → AscendFrom n (ids_where test rows)
-where_ascends test [] n up = tt
-where_ascends test (row ∷ rows) n up =
-    let rest : AscendFrom (row.doc + 1) (ids_where test rows) = where_ascends test rows (row.doc + 1) up.1 in
-    let le = up.0 in
-    ⊎_elim
-    (λ (passes : test row ≡ true). rw passes (up.0, rest))
-    (λ (fails : test row ≡ false). rw fails (AscendFrom-sooner (row.doc + 1) n (ids_where test rows) rest (omega (arith, le))))
-    (cases_Bool (test row))
-
--- an id is among those of chosen rows where its row is chosen; the row of no columns is not
-pub has_where : (test : List (List ℕ) → Bool) → test [] ≡ false → (rows : List Row) (n : ℕ) → AscendFrom n (map (λ (row : Row). row.doc) rows) → (id : ℕ) → has (ids_where (λ (row : Row). test row.texts) rows) id ≡ test (columns_at rows id)
-has_where test nothing [] n up id = sym nothing
-has_where test nothing (row ∷ rows) n up id =
-    let rest : has (ids_where (λ (r : Row). test r.texts) rows) id ≡ test (columns_at rows id) = has_where test nothing rows (row.doc + 1) up.1 id in
-    ⊎_elim
-    (λ (same : id ≡ row.doc).
-    let it : nat_eq id row.doc ≡ true = eq-eqb id row.doc same in
-    let later : has (ids_where (λ (r : Row). test r.texts) rows) id ≡ false = has_below (row.doc + 1) id (ids_where (λ (r : Row). test r.texts) rows) (where_ascends (λ (r : Row). test r.texts) rows (row.doc + 1) up.1) (omega (arith, same)) in
-    ⊎_elim
-    (λ (passes : test row.texts ≡ true). rw (passes, it) (sym passes))
-    (λ (fails : test row.texts ≡ false). rw (fails, it) (later ∙ sym fails))
-    (cases_Bool (test row.texts)))
-    (λ (differs : id ≡ row.doc → ⊥).
-    let apart : nat_eq id row.doc ≡ false = ne_eqb id row.doc differs in
-    ⊎_elim
-    (λ (passes : test row.texts ≡ true). rw (passes, apart) rest)
-    (λ (fails : test row.texts ≡ false). rw (fails, apart) rest)
-    (cases_Bool (test row.texts)))
-    (cases_eq id row.doc)
 
 -- rows that are looked into have their texts among the candidates
 module _ (looked : Row → Bool) where

@@ -10,12 +10,12 @@ use Rattle.fts_meaning.specs.declared.sign.Sign.{Sign}
 use Rattle.fts_meaning.specs.Tree.{Operand, word, prefix, phrase, distance, leaf}
 use Rattle.fts_meaning.specs.Holds.{operand_holds, stays, stand_together, lie_near}
 use Rattle.fts_meaning.specs.Leaf.{Leaf, no_leaf, of_word, of_prefix, of_words, words_leaf, leaf_of}
-use Rattle.fts_meaning.specs.View.{Candidate, Postings, is_candidate, needs_texts, is_looked_into, candidate_of, postings_of}
+use Rattle.fts_meaning.specs.View.{Candidate, Postings, is_candidate, needs_texts, is_looked_into, candidate_of, postings_of, texts_at, columns_at}
 use Rattle.fts_meaning.proofs.Candidates.{candidate}
 use Rattle.fts_eval.specs.declared.part.Part.{Part}
-use Rattle.fts_eval.specs.Says.{texts_at}
-use Rattle.fts_eval.specs.Means.{columns_at, Stands, Means, MeansOperand, operand_says, phrase_says, distance_says, is_dropped}
-use Rattle.fts_eval.proofs.Meaning.{has_where, texts_kept}
+use Rattle.fts_eval.specs.Means.{Stands, Means, MeansOperand, operand_says, phrase_says, distance_says, is_dropped}
+use Rattle.fts_eval.proofs.Meaning.{texts_kept}
+use Rattle.fts_query.proofs.Chosen.{has_where}
 
 or_first : (a b : Bool) → a ≡ true → (a || b) ≡ true
 or_first true b e = refl

@@ -7,8 +7,9 @@ use Rattle.fts_ids.proofs.Ascending.{AscendFrom-sooner, has-filter}
 use Rattle.fts_ids.proofs.Passing.{at_rises}
 use Rattle.fts_query.specs.declared.view.Candidate.{Candidate as Kept}
 use Rattle.fts_query.specs.Seen.{candidate_seen}
-use Rattle.fts_eval.specs.Says.{texts_at, docs_of}
-use Rattle.fts_eval.proofs.Lists.{and_comm}
+use Rattle.fts_eval.specs.Says.{docs_of}
+use Rattle.fts_ids.proofs.Taken.{and_comm}
+use Rattle.fts_meaning.specs.View.{texts_at}
 
 pub texts_skip : (c : Kept) (cs : List Kept) (id : ℕ) → (c.doc ≡ id → ⊥) → texts_at (map candidate_seen (c ∷ cs)) id ≡ texts_at (map candidate_seen cs) id
 texts_skip c cs id ne = rw (ne_eqb id c.doc (λ e. ne (sym e))) refl

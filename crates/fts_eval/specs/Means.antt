@@ -11,14 +11,10 @@ use Rattle.fts_meaning.specs.Tree.{Operand, word, prefix, phrase, distance, Term
 use Rattle.fts_meaning.specs.Holds.{stays, some_stays, term_holds, none_excluded, each_required, has_required}
 use Rattle.fts_meaning.specs.Holds.{some_optional, stand_together, lie_near}
 use Rattle.fts_meaning.specs.Leaf.{Leaf, no_leaf, of_word, of_prefix, of_words}
-use Rattle.fts_meaning.specs.View.{Candidate, Postings, is_looked_into, candidate_of, postings_of}
+use Rattle.fts_meaning.specs.View.{Candidate, Postings, is_looked_into, candidate_of, postings_of, texts_at, columns_at}
 use Rattle.fts_eval.specs.declared.part.Part.{Part, Group}
 use Rattle.fts_eval.specs.declared.resolve.Parts.{Parts}
-use Rattle.fts_eval.specs.Says.{texts_at, says, each_says, some_says}
-
--- the texts of the row with an id, none where there is no such row
-abbrev pub columns_at : List Row → ℕ → List (List ℕ)
-columns_at rows id = texts_at (map candidate_of rows) id
+use Rattle.fts_eval.specs.Says.{says, each_says, some_says}
 
 -- the postings begin with those of some leaves of a query, whose view has these texts
 pub record Stands (rules : Rules) (rows : List Row) (before leaves after : List Leaf) (texts : List Candidate)

@@ -4,14 +4,9 @@ use Rattle.std.specs.List.{list_any, list_all}
 use Rattle.fts_ids.specs.Ids.{has}
 use Rattle.fts_query.specs.declared.view.Candidate.{Candidate as Kept}
 use Rattle.fts_meaning.specs.Holds.{stand_together, lie_near}
-use Rattle.fts_meaning.specs.View.{Candidate}
+use Rattle.fts_meaning.specs.View.{Candidate, texts_at}
 use Rattle.fts_eval.specs.declared.part.Part.{Part, Ids, Phrase, Distance, Group', Row_of-Part, end_of-Part}
 use Rattle.fts_eval.specs.declared.part.Part.{more_of-Part}
-
--- the texts of the row with an id; none where there is no such row
-abbrev pub texts_at : List Candidate → ℕ → List (List ℕ)
-texts_at [] id = []
-texts_at (c ∷ cs) id = if nat_eq id c.doc then c.texts else texts_at cs id
 
 -- the ids of rows whose texts are looked into
 abbrev pub docs_of : List Kept → List ℕ

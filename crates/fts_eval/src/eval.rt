@@ -6,31 +6,12 @@ ghost use Rattle.fts_eval.specs.Found.{ids_of};
 ghost use Rattle.fts_eval.specs.declared.part.Part.{Part as AnyPart};
 ghost use Rattle.fts_eval.specs.Says.{docs_of, says, each_says, some_says};
 
-use crate::found::{Found, any_of, into_list, united};
+use crate::found::{Found, any_listed, any_of, into_list};
 use crate::part::{Part, fewest};
 use crate::tried::{with_distance, with_phrase};
-use fts_ids::{IdList, common, without};
+use fts_ids::{IdList, both, first_alone};
 use fts_query::Candidate;
 use std::alloc::{AllocError, Global};
-
-/// The ids that both lists have. It walks over the shorter one.
-fn both(alloc: Global, ids: &IdList, others: &IdList) -> Result<IdList, AllocError>
-    ensures { IfOk result (λ all. (id : ℕ) → has all id ≡ (has ids.now id && has others.now id)) }
-{
-    let (ids, others) = (ids.as_slice(), others.as_slice());
-    if others.len() < ids.len() {
-        return Ok(IdList::new(common(alloc, others, ids)?));
-    }
-    Ok(IdList::new(common(alloc, ids, others)?))
-}
-
-/// The ids of the first list that the other one has not.
-fn first_alone(alloc: Global, ids: &IdList, others: &IdList) -> Result<IdList, AllocError>
-    ensures { IfOk result (λ all. (id : ℕ)
-        → has all id ≡ (has ids.now id && not (has others.now id))) }
-{
-    Ok(IdList::new(without(alloc, ids.as_slice(), others.as_slice())?))
-}
 
 /// The ids for which a part asks.
 #[cycle(finding)]
@@ -157,7 +138,7 @@ fn any_kept(
     for part in parts {
         lists.push(Found::Own(kept(alloc, texts, ids, part)?))?;
     }
-    united(alloc, lists.as_slice())
+    any_listed(alloc, lists.as_slice())
 }
 
 /// Of some ids those for which a part asks.

@@ -1,10 +1,9 @@
-ghost use Rattle.std.specs.Prelude.{◌≡◌, ℕ, IfOk, All};
+ghost use Rattle.std.specs.Prelude.{◌≡◌, ℕ, IfOk};
 ghost use Rattle.std.specs.List.{list_any};
-ghost use Rattle.fts_ids.specs.Ids.{has, Ascend};
+ghost use Rattle.fts_ids.specs.Ids.{has};
 ghost use Rattle.fts_eval.specs.Found.{ids_of, some_has};
 
-use fts_ids::{IdList, union_all};
-use fts_types::DocId;
+use fts_ids::{IdList, united};
 use std::alloc::{AllocError, Global};
 
 /// Ids that were found: the view's own, or others.
@@ -26,25 +25,23 @@ impl Found<'_> {
     }
 }
 
-/// The ids of each of the lists.
-fn slices<'a>(alloc: Global, lists: &'a [Found<'a>]) -> Result<Vec<&'a [DocId]>, AllocError>
-    ensures ascend { IfOk result (λ all. All (λ list. Ascend list.now) all.items) }
-    ensures each { IfOk result (λ all. (id : ℕ)
-        → list_any (λ list. has list.now id) all.items ≡ some_has lists.now id) }
+/// Each of the lists.
+fn lists_of<'a>(alloc: Global, found: &'a [Found<'a>]) -> Result<Vec<&'a IdList>, AllocError>
+    ensures { IfOk result (λ all. (id : ℕ)
+        → list_any (λ list. has list.now id) all.items ≡ some_has found.now id) }
 {
     let mut all = Vec::new(alloc);
-    for list in lists {
-        all.push(list.as_list().as_slice())?;
+    for list in found {
+        all.push(list.as_list())?;
     }
     Ok(all)
 }
 
 /// The ids that one of the lists has.
-pub(crate) fn united(alloc: Global, lists: &[Found<'_>]) -> Result<IdList, AllocError>
-    ensures { IfOk result (λ all. (id : ℕ) → has all id ≡ some_has lists.now id) }
+pub(crate) fn any_listed(alloc: Global, found: &[Found<'_>]) -> Result<IdList, AllocError>
+    ensures { IfOk result (λ all. (id : ℕ) → has all id ≡ some_has found.now id) }
 {
-    let slices = slices(alloc, lists)?;
-    Ok(IdList::new(union_all(alloc, &slices)?))
+    united(alloc, &lists_of(alloc, found)?)
 }
 
 /// The ids that one of the lists has. Where there is one list alone, it is not copied.
@@ -52,7 +49,7 @@ pub(crate) fn any_of<'a>(alloc: Global, mut lists: Vec<Found<'a>>) -> Result<Fou
     ensures { IfOk result (λ all. (id : ℕ) → has (ids_of all) id ≡ some_has lists.entry.items id) }
 {
     if lists.len() != 1 {
-        return Ok(Found::Own(united(alloc, lists.as_slice())?));
+        return Ok(Found::Own(any_listed(alloc, lists.as_slice())?));
     }
     match lists.pop() {
         Some(list) => Ok(list),

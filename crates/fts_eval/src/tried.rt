@@ -3,7 +3,8 @@ ghost use Rattle.std.specs.Option.{option_map_or};
 ghost use Rattle.fts_ids.specs.Ids.{has, Ascend};
 ghost use Rattle.fts_meaning.specs.Holds.{stand_together, lie_near};
 ghost use Rattle.fts_query.specs.Seen.{candidate_seen};
-ghost use Rattle.fts_eval.specs.Says.{texts_at, docs_of};
+ghost use Rattle.fts_eval.specs.Says.{docs_of};
+ghost use Rattle.fts_meaning.specs.View.{texts_at};
 
 use fts_ids::IdList;
 use fts_phrase::{distance_holds, phrase_holds};

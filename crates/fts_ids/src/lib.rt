@@ -7,11 +7,13 @@
 #![tactic(auto)]
 
 mod id_list;
+mod lists;
 mod pairs;
 mod unions;
 mod walk;
 
 pub use id_list::IdList;
+pub use lists::{both, first_alone, united};
 pub use pairs::{common, without};
 pub use unions::{union, union_all};
 pub use walk::IdWalk;

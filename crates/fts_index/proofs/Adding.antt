@@ -14,7 +14,7 @@ use Rattle.fts_index.specs.declared.index.CommitPlan.{CommitPlan}
 use Rattle.fts_index.specs.Words.{row_postings, rows_postings}
 use Rattle.fts_index.specs.Births.{AreBirths}
 use Rattle.fts_index.specs.Index.{IdsAscendFrom, Indexes, WillIndex}
-use Rattle.fts_index.proofs.Births.{last_after, documents_end, same_postings}
+use Rattle.fts_index.proofs.Births.{rows_join, last_after, documents_end, same_postings}
 
 -- from a cache some documents were added, and these are left
 pub record IsAdding (old : CacheState) (all : List Document) (now : CacheState) (left : List Document) : Type 0 where
@@ -32,6 +32,7 @@ all_added rules rows births largest old new plan left none h holds will are =
     let end : new.cache.last ≡ last_after old.cache.last all = ap (last_after new.cache.last) (sym none) ∙ h.last in
     let limit : last_after old.cache.last all ≤ largest = documents_end rules old.cache.last rows.largest largest births all holds.last are.ids will.words in
     record {
+      ascend = rows_join 0 rows.largest largest rows.list births holds.ascend are.ids;
       last = omega (arith, end, limit);
       postings = λ w. sym (append-nil (postings_of new.cache w))
           ∙ ap (λ (ds : List Document). postings_of new.cache w ++ flat_map (document_postings w) ds) (sym none)

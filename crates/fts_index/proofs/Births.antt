@@ -25,6 +25,12 @@ birth_at last largest (b ∷ bs) (suc i) birth ids rows lt e =
     let later = birth_at b.doc largest bs i birth ids.1 (All-tail CanIndex (row_of b) (map row_of bs) rows) (omega (arith, lt)) e in
     (omega (arith, ids.0, later.0), later.1)
 
+-- rows behind rows
+pub rows_join : (low middle high : ℕ) (rows more : List Row) → RowsAscend low middle rows → RowsAscend middle high more → RowsAscend low high (rows ++ more)
+rows_join low middle high [] [] up more = omega (arith, up, more)
+rows_join low middle high [] (row ∷ rows) up more = (omega (arith, up, more.0), more.1)
+rows_join low middle high (row ∷ rows) more up up' = (up.0, rows_join row.doc middle high rows more up.1 up')
+
 -- the id of the last document, and `last` where there is none
 abbrev pub last_after : ℕ → List Document → ℕ
 last_after last [] = last

@@ -10,13 +10,9 @@ use Rattle.fts_words.specs.Indexed.{Rules, indexed_words, word_of}
 use Rattle.fts_ilist.specs.Spelling.{Posting}
 use Rattle.fts_types.specs.Row.{Row}
 use Rattle.fts_meaning.specs.Holds.{some_indexed}
-use Rattle.fts_meaning.specs.Scan.{scan, one_word}
-use Rattle.fts_meaning.proofs.OneWord.{one_word_found}
+use Rattle.fts_meaning.specs.View.{has_word, ids_where}
 use Rattle.fts_index.specs.Words.{posting_at, row_postings, rows_postings}
-
--- the ids of postings
-abbrev pub ids_of : List Posting → List ℕ
-ids_of ps = map (λ p. p.id) ps
+use Rattle.fts_index.specs.Gathered.{ids_of}
 
 symmetric : (v w : List ℕ) → bytes_eq v w ≡ bytes_eq w v
 symmetric v w =
@@ -45,17 +41,11 @@ kept_or_not : (row : Row) (rows : List Row) (has : Bool) → cond has (row.doc �
 kept_or_not row rows true = refl
 kept_or_not row rows false = refl
 
-abbrev has_word : Rules → List ℕ → Row → Bool
-has_word rules word row = some_indexed rules row.texts (λ found. bytes_eq found word)
-
-rows_having : (rules : Rules) (word : List ℕ) (rows : List Row) → ids_of (rows_postings rules word rows) ≡ map (λ (r : Row). r.doc) (filter (has_word rules word) rows)
+-- the ids that rows put into a word's list are those of the rows that have it
+pub rows_having : (rules : Rules) (word : List ℕ) (rows : List Row) → ids_of (rows_postings rules word rows) ≡ ids_where (λ (row : Row). has_word rules row.texts word) rows
 rows_having rules word [] = refl
 rows_having rules word (row ∷ rows) =
     map-append (λ (p : Posting). p.id) (row_postings rules word row) (rows_postings rules word rows)
     ∙ ap (λ (ids : List ℕ). ids ++ ids_of (rows_postings rules word rows)) (found_among row.doc row.texts word (indexed_words rules row.texts))
-    ∙ ap (λ (ids : List ℕ). cond (has_word rules word row) (row.doc ∷ []) [] ++ ids) (rows_having rules word rows)
-    ∙ kept_or_not row (filter (has_word rules word) rows) (has_word rules word row)
-
--- the ids that rows put into a word's list are those of the scan for it
-pub found_rows : (rules : Rules) (word : List ℕ) (rows : List Row) → ids_of (rows_postings rules word rows) ≡ scan rules rows (one_word word)
-found_rows rules word rows = rows_having rules word rows ∙ sym (one_word_found rules rows word)
+    ∙ ap (λ (ids : List ℕ). cond (has_word rules row.texts word) (row.doc ∷ []) [] ++ ids) (rows_having rules word rows)
+    ∙ kept_or_not row (filter (λ (r : Row). has_word rules r.texts word) rows) (has_word rules row.texts word)

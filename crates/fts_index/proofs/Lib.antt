@@ -6,3 +6,5 @@ mod Runs
 pub mod Found
 pub mod Births
 pub mod Adding
+pub mod Gathering
+pub mod Props

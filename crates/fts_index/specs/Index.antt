@@ -4,13 +4,15 @@ use Rattle.fts_cache.specs.Document.{Document}
 use Rattle.fts_cache.specs.Cache.{postings_of, HasRoom}
 use Rattle.fts_types.specs.Row.{Row}
 use Rattle.fts_commits.specs.Commit.{Rows}
+use Rattle.fts_commits.specs.Turn.{RowsAscend}
 use Rattle.fts_index.specs.Words.{rows_postings}
 use Rattle.fts_index.specs.Document.{HaveWordsOf}
 use Rattle.fts_index.specs.declared.index.Index.{Index}
 use Rattle.fts_index.specs.declared.index.CommitPlan.{CommitPlan}
 
--- the index has exactly the words of the rows
+-- the index has exactly the words of the rows, whose ids ascend
 pub record Indexes (rules : Rules) (rows : Rows) (index : Index) : Type 0 where
+  pub ascend : RowsAscend 0 rows.largest rows.list
   pub last : index.cache.last ≤ rows.largest
   pub postings : (word : List ℕ) → postings_of index.cache word ≡ rows_postings rules word rows.list
 

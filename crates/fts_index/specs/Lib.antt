@@ -3,3 +3,4 @@ pub mod Occurrences
 pub mod Document
 pub mod Births
 pub mod Index
+pub mod Gathered

@@ -5,8 +5,10 @@ ghost use Rattle.fts_index.specs.Births.{AreBirths};
 ghost use Rattle.fts_index.specs.Document.{HaveWordsOf};
 
 use crate::document::document_words;
+use crate::gather::{Gathered, needed, told};
 use fts_cache::{Cache, DocWords};
-use fts_types::{DocIds, Row, Settings};
+use fts_query::Leaf;
+use fts_types::{Row, Settings};
 use std::alloc::{AllocError, Global};
 
 /// The words of a table's rows, each with its documents and their positions.
@@ -43,7 +45,8 @@ impl Index {
     ghost use Rattle.fts_words.specs.Indexed.{Rules};
     ghost use Rattle.fts_types.specs.Row.{Row as TableRow};
     ghost use Rattle.fts_commits.specs.Commit.{Rows, no_rows};
-    ghost use Rattle.fts_meaning.specs.Scan.{scan, one_word};
+    ghost use Rattle.fts_query.specs.Seen.{leaves_seen};
+    ghost use Rattle.fts_index.specs.Gathered.{IsGathered};
     ghost use Rattle.fts_index.specs.Index.{Indexes, FitsIndex, WillIndex};
 
     /// An index of no rows. What it holds later lies in this allocator.
@@ -88,15 +91,18 @@ impl Index {
         }
     }
 
-    /// The ascending ids of the rows that have the word. It costs the word's own documents.
-    pub fn find(&self, word: &[u8]) -> Result<DocIds, AllocError>
-        ensures { IfOk result (λ docs. (rules : Rules) (rows : Rows) → Indexes rules rows self.now
-            → docs ≡ scan rules rows.list (one_word word.now)) }
+    /// What the index tells of these leaves. It costs the documents of their words, and of all words
+    /// that begin so.
+    pub fn gather(&self, leaves: Vec<Leaf>) -> Result<Gathered, AllocError>
+        ensures { IfOk result (λ gathered. (rules : Rules) (rows : Rows)
+            → Indexes rules rows self.now
+            → IsGathered rules rows.list (leaves_seen leaves.items) gathered) }
     {
-        let mut docs = Vec::new(self.alloc);
-        for document in self.cache.postings(word) {
-            docs.push(document.id())?;
-        }
-        Ok(DocIds::new(docs))
+        let postings = told(self.alloc, &self.cache, leaves)?;
+        let looked_into = needed(self.alloc, &postings)?;
+        Ok(Gathered {
+            postings,
+            looked_into,
+        })
     }
 }

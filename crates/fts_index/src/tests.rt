@@ -6,7 +6,8 @@ ghost use Rattle.fts_index.specs.Births.{CanIndex, AreBirths};
 ghost use Rattle.fts_index.specs.Index.{Indexes};
 
 use crate::Index;
-use fts_types::{Names, Row, RowTexts, Settings};
+use fts_query::Leaf;
+use fts_types::{Names, Row, RowTexts, Settings, Texts};
 use std::alloc::Global;
 use std::process::Abort;
 use std::sync::Arc;
@@ -91,27 +92,72 @@ fn filled(rt: &impl Abort, alloc: Global) -> Result<Index, Fail> {
     Ok(index)
 }
 
-// The rows that have the word are these.
-fn finds(rt: &impl Abort, index: &Index, word: &[u8], expected: &[u64]) -> Result<(), Fail> {
-    assert_eq!(rt; index.find(word)?.as_slice(), expected);
+// What the leaf asks for is these rows.
+fn finds(
+    rt: &impl Abort,
+    alloc: Global,
+    index: &Index,
+    leaf: Leaf,
+    expected: &[u64],
+) -> Result<(), Fail> {
+    let gathered = index.gather(vec![in alloc; leaf]?)?;
+    match gathered.postings.as_slice() {
+        [one] => assert_eq!(rt; one.ids.as_slice(), expected),
+        _ => assert!(rt; false, "one leaf"),
+    }
     Ok(())
+}
+
+fn finds_word(
+    rt: &impl Abort,
+    alloc: Global,
+    index: &Index,
+    word: &[u8],
+    expected: &[u64],
+) -> Result<(), Fail> {
+    finds(rt, alloc, index, Leaf::Word(word.to_vec(alloc)?), expected)
+}
+
+fn finds_prefix(
+    rt: &impl Abort,
+    alloc: Global,
+    index: &Index,
+    word: &[u8],
+    expected: &[u64],
+) -> Result<(), Fail> {
+    finds(
+        rt,
+        alloc,
+        index,
+        Leaf::Prefix(word.to_vec(alloc)?),
+        expected,
+    )
+}
+
+// The leaf of a phrase or a distance of these words.
+fn words(alloc: Global, all: &[&[u8]]) -> Result<Leaf, Fail> {
+    let mut texts = Texts::new(alloc);
+    for word in all {
+        texts.push(word.to_vec(alloc)?)?;
+    }
+    Ok(Leaf::Words(texts))
 }
 
 #[test]
 fn rows_are_found_by_their_words(rt: HostRuntime) -> Result<(), Fail> {
     let index = filled(&rt, rt.alloc())?;
-    finds(&rt, &index, b"pear", &[3, 4, 900])?;
-    finds(&rt, &index, b"apple", &[3, 4])?;
-    finds(&rt, &index, b"pie", &[4])?;
+    finds_word(&rt, rt.alloc(), &index, b"pear", &[3, 4, 900])?;
+    finds_word(&rt, rt.alloc(), &index, b"apple", &[3, 4])?;
+    finds_word(&rt, rt.alloc(), &index, b"pie", &[4])?;
     Ok(())
 }
 
 #[test]
 fn an_apostrophe_joins_a_word(rt: HostRuntime) -> Result<(), Fail> {
     let index = filled(&rt, rt.alloc())?;
-    finds(&rt, &index, b"aaa'bbb", &[3])?;
-    finds(&rt, &index, b"aaa", &[])?;
-    finds(&rt, &index, b"bbb", &[])?;
+    finds_word(&rt, rt.alloc(), &index, b"aaa'bbb", &[3])?;
+    finds_word(&rt, rt.alloc(), &index, b"aaa", &[])?;
+    finds_word(&rt, rt.alloc(), &index, b"bbb", &[])?;
     Ok(())
 }
 
@@ -119,8 +165,68 @@ fn an_apostrophe_joins_a_word(rt: HostRuntime) -> Result<(), Fail> {
 fn words_that_are_not_indexed_find_nothing(rt: HostRuntime) -> Result<(), Fail> {
     let index = filled(&rt, rt.alloc())?;
     // A stopword, a short word, and a word that no row has.
-    finds(&rt, &index, b"the", &[])?;
-    finds(&rt, &index, b"ab", &[])?;
-    finds(&rt, &index, b"plum", &[])?;
+    finds_word(&rt, rt.alloc(), &index, b"the", &[])?;
+    finds_word(&rt, rt.alloc(), &index, b"ab", &[])?;
+    finds_word(&rt, rt.alloc(), &index, b"plum", &[])?;
+    Ok(())
+}
+
+#[test]
+fn rows_are_found_by_the_begin_of_a_word(rt: HostRuntime) -> Result<(), Fail> {
+    let alloc = rt.alloc();
+    let index = filled(&rt, alloc)?;
+    finds_prefix(&rt, alloc, &index, b"p", &[3, 4, 900])?;
+    finds_prefix(&rt, alloc, &index, b"pi", &[4])?;
+    finds_prefix(&rt, alloc, &index, b"a", &[3, 4])?;
+    finds_prefix(&rt, alloc, &index, b"pear", &[3, 4, 900])?;
+    finds_prefix(&rt, alloc, &index, b"pears", &[])?;
+    Ok(())
+}
+
+#[test]
+fn rows_are_found_that_have_each_word(rt: HostRuntime) -> Result<(), Fail> {
+    let alloc = rt.alloc();
+    let index = filled(&rt, alloc)?;
+    finds(
+        &rt,
+        alloc,
+        &index,
+        words(alloc, &[b"pear", b"apple"])?,
+        &[3, 4],
+    )?;
+    finds(
+        &rt,
+        alloc,
+        &index,
+        words(alloc, &[b"apple", b"pear", b"pie"])?,
+        &[4],
+    )?;
+    finds(&rt, alloc, &index, words(alloc, &[b"pear", b"plum"])?, &[])?;
+    finds(&rt, alloc, &index, words(alloc, &[])?, &[])?;
+    finds(&rt, alloc, &index, Leaf::Nothing, &[])?;
+    Ok(())
+}
+
+// One list for each leaf, also for one that is asked twice, and the texts for phrases alone.
+#[test]
+fn leaves_are_told_in_their_order(rt: HostRuntime) -> Result<(), Fail> {
+    let alloc = rt.alloc();
+    let index = filled(&rt, alloc)?;
+    let mut leaves = vec![in alloc; Leaf::Word(b"pear".to_vec(alloc)?), Leaf::Nothing]?;
+    leaves.push(words(alloc, &[b"apple", b"pie"])?)?;
+    leaves.push(Leaf::Word(b"pear".to_vec(alloc)?))?;
+    leaves.push(words(alloc, &[b"aaa'bbb"])?)?;
+    let gathered = index.gather(leaves)?;
+    match gathered.postings.as_slice() {
+        [a, b, c, d, e] => {
+            assert_eq!(rt; a.ids.as_slice(), [3, 4, 900].as_slice());
+            assert!(rt; b.ids.as_slice().is_empty());
+            assert_eq!(rt; c.ids.as_slice(), [4].as_slice());
+            assert_eq!(rt; d.ids.as_slice(), [3, 4, 900].as_slice());
+            assert_eq!(rt; e.ids.as_slice(), [3].as_slice());
+        }
+        _ => assert!(rt; false, "five leaves"),
+    }
+    assert_eq!(rt; gathered.looked_into.as_slice(), [3, 4].as_slice());
     Ok(())
 }

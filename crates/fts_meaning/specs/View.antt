@@ -1,4 +1,4 @@
-use Rattle.std.specs.Prelude.{◌≡◌, ℕ, Bool, true, false, ◌&&◌, List, map, filter}
+use Rattle.std.specs.Prelude.{◌≡◌, ℕ, Bool, true, false, ◌&&◌, if◌then◌else◌, nat_eq, List, [], ◌∷◌, map, filter}
 use Rattle.std.specs.List.{list_any, list_all}
 use Rattle.std.specs.Str.{bytes_eq}
 use Rattle.fts_types.specs.Row.{Row}
@@ -14,12 +14,17 @@ use Rattle.fts_meaning.specs.Leaf.{Leaf, no_leaf, of_word, of_prefix, of_words, 
 abbrev pub has_word : Rules → List (List ℕ) → List ℕ → Bool
 has_word rules columns w = some_indexed rules columns (λ found. bytes_eq found w)
 
+-- the row has each of the words; where there is none, no row has them
+abbrev pub has_words : Rules → List (List ℕ) → List (List ℕ) → Bool
+has_words rules columns [] = false
+has_words rules columns (w ∷ ws) = list_all (has_word rules columns) (w ∷ ws)
+
 -- the row is a candidate of the leaf: it has the word, a word that begins so, or each of the words
 abbrev pub is_candidate : Rules → List (List ℕ) → Leaf → Bool
 is_candidate rules columns no_leaf = false
 is_candidate rules columns (of_word w) = has_word rules columns w
 is_candidate rules columns (of_prefix w) = some_indexed rules columns (begins_with w)
-is_candidate rules columns (of_words words) = list_all (has_word rules columns) words
+is_candidate rules columns (of_words words) = has_words rules columns words
 
 -- whether the texts of a leaf's candidates are looked into: that a row has the words doesn't say that they stand
 -- together or lie near each other
@@ -73,3 +78,12 @@ view_of rules rows number asked = record {
 -- the view stands for these rows under these settings and this query
 abbrev pub StandsFor : Rules → List Row → Terms → View → Type 0
 StandsFor rules rows terms view = view ≡ view_of rules rows view.number (leaves rules terms)
+
+-- the texts of the candidate with an id; none where there is no such candidate
+abbrev pub texts_at : List Candidate → ℕ → List (List ℕ)
+texts_at [] id = []
+texts_at (c ∷ cs) id = if nat_eq id c.doc then c.texts else texts_at cs id
+
+-- the texts of the row with an id; none where there is no such row
+abbrev pub columns_at : List Row → ℕ → List (List ℕ)
+columns_at rows id = texts_at (map candidate_of rows) id

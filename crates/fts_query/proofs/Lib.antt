@@ -8,3 +8,4 @@ pub mod FaultLemmas
 pub mod Building
 pub mod Taking
 pub mod Exact
+pub mod Chosen

@@ -1,8 +1,9 @@
 use Rattle.std.specs.Prelude.{ℕ, Result, Ok, Err}
 use Rattle.fts_steps.specs.declared.commit.CommitError.{CommitError}
 use Rattle.fts_steps.specs.declared.commit.CommitError.TheVariants.{NoMemory, Refused, LogFull, DiskFault, Stopped}
-use Rattle.fts_steps.specs.declared.view.View.{View}
-use Rattle.fts_steps.specs.Step.{Answer, committed, refused, full, found, disk_fault, stopped, no_memory}
+use Rattle.fts_query.specs.declared.view.View.{View}
+use Rattle.fts_query.specs.Seen.{view_seen}
+use Rattle.fts_steps.specs.Step.{Answer, committed, refused, full, viewed, disk_fault, stopped, no_memory}
 
 -- the answer that a commit's result is
 abbrev pub commit_answer_of : Result ℕ CommitError → Answer
@@ -15,5 +16,5 @@ commit_answer_of (Err (Stopped faults)) = stopped faults
 
 -- the answer that a view's result is
 abbrev pub view_answer_of : {E : Type 0} → Result View E → Answer
-view_answer_of (Ok view) = found view.number view.docs
+view_answer_of (Ok view) = viewed (view_seen view)
 view_answer_of (Err error) = no_memory

@@ -6,7 +6,10 @@ use Rattle.fts_types.specs.declared.settings.Settings.{Settings}
 use Rattle.fts_types.specs.Rules.{rules_of}
 use Rattle.fts_commits.specs.Commit.{Commit, Rows, after_commit, replay}
 use Rattle.fts_commits.specs.declared.refusal.Refusal.{Refusal}
-use Rattle.fts_meaning.specs.Scan.{scan, one_word}
+use Rattle.fts_meaning.specs.Tree.{Terms}
+use Rattle.fts_meaning.specs.Scan.{scan}
+use Rattle.fts_meaning.specs.Leaf.{Leaf}
+use Rattle.fts_meaning.specs.View.{View, view_of}
 use Rattle.fts_disk.specs.Crash.{Images}
 use Rattle.fts_disk.specs.Moments.{LeavesOnly}
 use Rattle.fts_disk.specs.declared.disk.Disk.{Ghosts}
@@ -14,16 +17,19 @@ use Rattle.fts_steps.specs.State.{State, end_after}
 use Rattle.fts_steps.specs.Running.{Running, What, made, failed, Entry, grown}
 use Rattle.fts_steps.specs.Crash.{IsBetween, HoldsIndex}
 
--- what a step is asked: to make a commit, or to look for the rows that have a word
+-- what a step is asked: to make a commit, to tell what the rows have for leaves, or to find the rows in which a query
+-- holds
 pub data Ask : Type 0 where
   to_commit : Commit → Ask
-  to_find : List ℕ → Ask
+  to_view : List Leaf → Ask
+  to_find : Terms → Ask
 
 -- what it answers; a disk fault tells the sum of the counts of faults, and so does each refusal that follows from it
 pub data Answer : Type 0 where
   committed : ℕ → Answer
   refused : Refusal → Answer
   full : ℕ → Answer
+  viewed : View → Answer
   found : ℕ → List ℕ → Answer
   disk_fault : ℕ → Answer
   stopped : ℕ → Answer
@@ -41,6 +47,10 @@ commit_answer limits state commit (Ok rows) =
     if nat_lt limits.log_bytes (end_after state commit) then full (end_after state commit) else committed
     (length state.commits + 1)
 
+-- the view of a database for leaves
+abbrev pub state_view : State → List Leaf → View
+state_view state asked = view_of (rules_of state.settings) (replay state.commits).list (length state.commits) asked
+
 -- after a fault nothing is written any more
 abbrev pub unless_stopped : Option ℕ → Answer → Answer
 unless_stopped None answer = answer
@@ -50,8 +60,9 @@ unless_stopped (Some faults) answer = stopped faults
 abbrev pub plain_answer : Limits → Running → Ask → Answer
 plain_answer limits running (to_commit commit) = unless_stopped running.stopped
     (commit_answer limits running.state commit (after_commit limits commit (replay running.state.commits)))
-plain_answer limits running (to_find word) = found (length running.state.commits)
-    (scan (rules_of running.state.settings) (replay running.state.commits).list (one_word word))
+plain_answer limits running (to_view asked) = viewed (state_view running.state asked)
+plain_answer limits running (to_find terms) = found (length running.state.commits)
+    (scan (rules_of running.state.settings) (replay running.state.commits).list terms)
 
 -- the answers that a step may give: its plain one, want of memory, and a disk fault where it would have committed
 abbrev pub MayAnswer : Limits → Running → Ask → Answer → Type 0
@@ -61,6 +72,7 @@ MayAnswer limits running ask (disk_fault faults) =
 MayAnswer limits running ask (committed number) = plain_answer limits running ask ≡ committed number
 MayAnswer limits running ask (refused why) = plain_answer limits running ask ≡ refused why
 MayAnswer limits running ask (full end) = plain_answer limits running ask ≡ full end
+MayAnswer limits running ask (viewed view) = plain_answer limits running ask ≡ viewed view
 MayAnswer limits running ask (found number docs) = plain_answer limits running ask ≡ found number docs
 MayAnswer limits running ask (stopped faults) = plain_answer limits running ask ≡ stopped faults
 

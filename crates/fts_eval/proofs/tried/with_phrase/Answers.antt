@@ -2,11 +2,11 @@ use Rattle.std.proofs.Common.{◌≡◌, ◌<◌, ℕ, Bool, List, get_or, lengt
 use Rattle.fts_ids.proofs.Passing.{chosen_yes, chosen_no}
 use Rattle.fts_meaning.specs.Holds.{stand_together}
 use Rattle.fts_query.specs.Seen.{candidate_seen}
-use Rattle.fts_eval.specs.Says.{texts_at}
-use Rattle.fts_eval.proofs.Lists.{chosen_ascends_all}
+use Rattle.fts_ids.proofs.Taken.{chosen_ascends_all}
 use Rattle.fts_eval.proofs.Rows.{TellTexts, tell_on, tell_sooner, chosen_has_all}
 use Rattle.fts_eval.proofs.tried.with_phrase.Goals as goal
 use Rattle.fts_eval.proofs.tried.with_phrase.Goals.{then-row_has_phrase+in_ok-push, else-row_has_phrase}
+use Rattle.fts_meaning.specs.View.{texts_at}
 
 pub loop-id-preserved : goal.loop-id-preserved
 loop-id-preserved c =

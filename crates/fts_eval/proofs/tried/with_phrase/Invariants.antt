@@ -2,9 +2,10 @@ use Rattle.std.proofs.Common.{◌≡◌, ℕ, filter, take, map}
 use Rattle.fts_ids.specs.Ids.{AscendFrom}
 use Rattle.fts_meaning.specs.Holds.{stand_together}
 use Rattle.fts_query.specs.Seen.{candidate_seen}
-use Rattle.fts_eval.specs.Says.{texts_at, docs_of}
+use Rattle.fts_eval.specs.Says.{docs_of}
 use Rattle.fts_eval.proofs.Rows.{TellTexts}
 use Rattle.fts_eval.proofs.tried.with_phrase.Given as goal
+use Rattle.fts_meaning.specs.View.{texts_at}
 
 abbrev pub invariant-loop-id : goal.invariant-loop-id
 invariant-loop-id l = record {

@@ -2,11 +2,11 @@ use Rattle.std.proofs.Common.{◌≡◌, ◌<◌, ℕ, Bool, List, get_or, lengt
 use Rattle.fts_ids.proofs.Passing.{chosen_yes, chosen_no}
 use Rattle.fts_meaning.specs.Holds.{lie_near}
 use Rattle.fts_query.specs.Seen.{candidate_seen}
-use Rattle.fts_eval.specs.Says.{texts_at}
-use Rattle.fts_eval.proofs.Lists.{chosen_ascends_all}
+use Rattle.fts_ids.proofs.Taken.{chosen_ascends_all}
 use Rattle.fts_eval.proofs.Rows.{TellTexts, tell_on, tell_sooner, chosen_has_all}
 use Rattle.fts_eval.proofs.tried.within_distance.Goals as goal
 use Rattle.fts_eval.proofs.tried.within_distance.Goals.{then-row_has_distance+in_ok-push, else-row_has_distance}
+use Rattle.fts_meaning.specs.View.{texts_at}
 
 pub loop-id-preserved : goal.loop-id-preserved
 loop-id-preserved c =
