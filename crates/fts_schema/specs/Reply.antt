@@ -3,7 +3,8 @@ use Rattle.fts_commits.specs.Refusal.{refusal_text}
 use Rattle.fts_schema.specs.declared.reply.Reply.{Reply}
 use Rattle.fts_schema.specs.declared.reply.Reply.TheVariants.{Committed, Found, Refused, NoSuchTable, NoSuchColumn}
 use Rattle.fts_schema.specs.declared.reply.Reply.TheVariants.{WrongColumns, LogFull, Nothing, Syntax, QuerySyntax}
-use Rattle.fts_schema.specs.declared.reply.Reply.TheVariants.{LineTooLong, NoMemory, DiskFault, Stopped}
+use Rattle.fts_schema.specs.declared.reply.Reply.TheVariants.{QueryTooLong, QueryTooDeep, LineTooLong, NoMemory}
+use Rattle.fts_schema.specs.declared.reply.Reply.TheVariants.{DiskFault, Stopped}
 
 -- each document id in decimal, a space before it
 abbrev pub ids_text : List ℕ → List ℕ
@@ -27,6 +28,8 @@ text_of (LogFull end) = codes "ERROR log full at " ++ (decimal end ++ 10 ∷ [])
 text_of Nothing = []
 text_of (Syntax at) = codes "ERROR syntax at " ++ (decimal at ++ 10 ∷ [])
 text_of (QuerySyntax at) = codes "ERROR query syntax at " ++ (decimal at ++ 10 ∷ [])
+text_of (QueryTooLong size) = codes "ERROR query too long " ++ (decimal size ++ 10 ∷ [])
+text_of (QueryTooDeep at) = codes "ERROR query too deep at " ++ (decimal at ++ 10 ∷ [])
 text_of LineTooLong = codes "ERROR line too long" ++ 10 ∷ []
 text_of NoMemory = codes "ERROR no memory" ++ 10 ∷ []
 text_of DiskFault = codes "ERROR disk fault" ++ 10 ∷ []

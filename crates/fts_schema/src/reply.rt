@@ -30,6 +30,11 @@ pub enum Reply {
     WrongColumns,
     /// The search's text is no query, which shows at byte `at` of the text, from 1.
     QuerySyntax { at: u64 },
+    /// The search's text has `length` bytes, which is more than a query may have.
+    QueryTooLong { length: u64 },
+    /// In the search's text more brackets are open than may be, which shows at byte `at` of the
+    /// text, from 1.
+    QueryTooDeep { at: u64 },
     /// The line has more bytes than a line may have.
     LineTooLong,
     /// Memory ran out for the line, which changed nothing.
@@ -62,6 +67,8 @@ pub fn fixed_text(reply: &Reply) -> Option<&'static str>
         Reply::NoSuchTable { .. } => None,
         Reply::NoSuchColumn { .. } => None,
         Reply::QuerySyntax { .. } => None,
+        Reply::QueryTooLong { .. } => None,
+        Reply::QueryTooDeep { .. } => None,
         Reply::Stopped { .. } => None,
     }
 }
@@ -96,6 +103,10 @@ fn written_text(alloc: Global, reply: &Reply) -> Result<Vec<u8>, AllocError>
         Reply::LogFull { end } => bytes_of(format!(in alloc; "ERROR log full at {end}\n")),
         Reply::Syntax { at } => bytes_of(format!(in alloc; "ERROR syntax at {at}\n")),
         Reply::QuerySyntax { at } => bytes_of(format!(in alloc; "ERROR query syntax at {at}\n")),
+        Reply::QueryTooLong { length } => bytes_of(format!(in alloc;
+            "ERROR query too long {length}\n"
+        )),
+        Reply::QueryTooDeep { at } => bytes_of(format!(in alloc; "ERROR query too deep at {at}\n")),
         Reply::Stopped { faults } => bytes_of(stopped_text(alloc, *faults)),
         Reply::Nothing => unreachable!(),
         Reply::WrongColumns => unreachable!(),

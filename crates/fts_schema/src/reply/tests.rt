@@ -28,6 +28,14 @@ fn numbers_are_told(rt: HostRuntime) -> Result<(), Fail> {
         (Reply::LogFull { end: 4096 }, "ERROR log full at 4096\n"),
         (Reply::Syntax { at: 1 }, "ERROR syntax at 1\n"),
         (Reply::QuerySyntax { at: 1 }, "ERROR query syntax at 1\n"),
+        (
+            Reply::QueryTooLong { length: 4_097 },
+            "ERROR query too long 4097\n",
+        ),
+        (
+            Reply::QueryTooDeep { at: 33 },
+            "ERROR query too deep at 33\n",
+        ),
         (Reply::LineTooLong, "ERROR line too long\n"),
         (Reply::Nothing, ""),
         (Reply::WrongColumns, "ERROR columns and values do not fit\n"),
