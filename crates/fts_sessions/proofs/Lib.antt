@@ -1,5 +1,6 @@
 pub mod Naming
 pub mod Executing
 pub mod Values
-pub mod Queries
+pub mod OneSearch
+pub mod Searching
 pub mod Single

@@ -1,4 +1,4 @@
-use Rattle.std.specs.Prelude.{◌≡◌, ◌⊎◌, false, List, [], IsTrue}
+use Rattle.std.specs.Prelude.{◌≡◌, ◌⊎◌, ℕ, false, List, [], IsTrue}
 use Rattle.fts_faults.specs.Count.{CountsFault}
 use Rattle.fts_io.specs.Text.{Line}
 use Rattle.fts_types.specs.declared.settings.Settings.{Settings}
@@ -7,8 +7,9 @@ use Rattle.fts_schema.specs.declared.reply.Reply.TheVariants.{NoMemory, DiskFaul
 use Rattle.fts_steps.specs.Running.{Running}
 use Rattle.fts_steps.specs.Crash.{IsBetween, HoldsIndex}
 use Rattle.fts_steps.specs.Step.{Ask, Answer, Call, Sight, Leaves, Steps, Follows, AreAlone, after_all}
-use Rattle.fts_sessions.specs.Request.{Request, IsRequest}
-use Rattle.fts_sessions.specs.Conversation.{Next, asks, ends, Converses, reply_to}
+use Rattle.fts_sessions.specs.Query.{Search, IsSearch}
+use Rattle.fts_sessions.specs.Request.{Request, IsRequest, searches}
+use Rattle.fts_sessions.specs.Conversation.{Next, asks, ends, Converses, begins, reply_to}
 
 -- the line's steps and its reply are those of the request that it is; or memory ran out before the first step
 abbrev pub Says : Settings → Line → List Call → Reply → Type 0
@@ -39,7 +40,14 @@ pub record Makes {S : Type 0} (sight : Sight S) (ask : Ask) (old : S) (reply : R
   pub made : Steps sight ask answer old new
   pub told : reply_to answer ≡ reply
 
--- a statement is done: it makes its one step, or ends without one; or memory ran out before
+-- a request is done: it makes its one step, or ends without one; or memory ran out before
 abbrev pub Does : {S : Type 0} → Sight S → Next → S → Reply → S → Type 0
 Does sight (asks ask) old reply new = Makes sight ask old reply new ⊎ ((reply ≡ NoMemory) × (new ≡ old))
 Does sight (ends told) old reply new = ((reply ≡ told) ⊎ (reply ≡ NoMemory)) × (new ≡ old)
+
+-- a search is done: it is done as what its query's text asks for; or memory ran out before
+abbrev pub Searches : {S : Type 0} → Sight S → List ℕ → List (List ℕ) → List ℕ → S → Reply → S → Type 0
+Searches sight table names query old reply new =
+    ((search : Search) × IsSearch query search
+    × Does sight (begins (sight.settings old) (searches table names search)) old reply new)
+    ⊎ ((reply ≡ NoMemory) × (new ≡ old))

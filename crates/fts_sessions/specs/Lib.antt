@@ -1,8 +1,9 @@
-pub mod Request
 pub mod Table
 pub mod Query
+pub mod Request
 pub mod Texts
 pub mod Conversation
+pub mod Read
 pub mod Execute
 pub mod Direct
 pub mod Calm

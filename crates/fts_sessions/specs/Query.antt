@@ -1,14 +1,20 @@
--- The word that a query is.
-use Rattle.std.specs.Prelude.{ℕ, Bool, false, ◌&&◌, ◌==◌, if◌then◌else◌, List, [], ◌∷◌, length, Option, Some, None}
-use Rattle.fts_words.specs.declared.span.Span.{Span}
-use Rattle.fts_words.specs.Byte.{lowered}
-use Rattle.fts_words.specs.RawWords.{raw_words}
+-- What the text of a query asks for.
+use Rattle.std.specs.Prelude.{◌≡◌, ℕ, ◌+◌, ◌<◌, ◌≤◌, List, length}
+use Rattle.fts_meaning.specs.Tree.{Terms}
+use Rattle.fts_meaning.specs.Token.{IsTreeOf}
+use Rattle.fts_meaning.specs.Fault.{FaultsAt, IsShallow, IsTooDeepAt}
 
--- whether the first of these words of a text is all of its bytes
-abbrev pub is_all : ℕ → List Span → Bool
-is_all size [] = false
-is_all size (word ∷ words) = (word.from == 0) && (word.to == size)
+-- the rows in which its terms hold; or nothing, since it has too many bytes, or since a byte is at fault or a bracket
+-- stands too deep, which is told with its place, from 1
+pub data Search : Type 0 where
+  looks_for : Terms → Search
+  too_long : ℕ → Search
+  syntax_at : ℕ → Search
+  too_deep_at : ℕ → Search
 
--- the word that a query is, with its letters lowered, if one raw word is the whole of it
-abbrev pub query_word : List ℕ → Option (List ℕ)
-query_word query = if is_all (length query) (raw_words query) then Some (lowered query) else None
+-- which search a text is. The cases exclude one another
+abbrev pub IsSearch : List ℕ → Search → Type 0
+IsSearch text (looks_for terms) = (length text ≤ 4096) × IsTreeOf text terms × IsShallow text
+IsSearch text (too_long n) = (4096 < length text) × (n ≡ length text)
+IsSearch text (syntax_at at) = (length text ≤ 4096) × ((place : ℕ) × (at ≡ place + 1) × FaultsAt text place)
+IsSearch text (too_deep_at at) = (length text ≤ 4096) × ((place : ℕ) × (at ≡ place + 1) × IsTooDeepAt text place)

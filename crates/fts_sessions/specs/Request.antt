@@ -1,25 +1,32 @@
-use Rattle.std.specs.Prelude.{ℕ}
+use Rattle.std.specs.Prelude.{ℕ, List}
 use Rattle.fts_io.specs.Text.{Line, whole, too_long}
 use Rattle.fts_sql.specs.Line.{IsBlank}
 use Rattle.fts_sql.specs.Statement.{IsStatement}
 use Rattle.fts_sql.specs.Fault.{IsFaultAt}
-use Rattle.fts_sql.specs.declared.statement.Statement.{Statement}
+use Rattle.fts_sql.specs.declared.value.Value.{Value}
+use Rattle.fts_sql.specs.declared.statement.Statement.TheVariants.{Insert, Match}
+use Rattle.fts_sessions.specs.Query.{Search, IsSearch}
 
--- what a line asks for: a statement, nothing since it is blank, nothing that is a statement, which shows at a place, or
--- nothing that is read since the line is too long
+-- what a line asks for: an INSERT of values into columns of a table; a search of columns of a table, by what the text
+-- of its query asks for; nothing since it is blank; nothing that is a statement, which shows at a place; or nothing
+-- that is read since the line is too long
 pub data Request : Type 0 where
-  makes : Statement → Request
+  inserts : List ℕ → List (List ℕ) → List Value → Request
+  searches : List ℕ → List (List ℕ) → Search → Request
   blank : Request
   unknown : ℕ → Request
   unread : Request
 
 -- which request a line is
 abbrev pub IsRequest : Line → Request → Type 0
-IsRequest (whole bytes) (makes statement) = IsStatement bytes statement
+IsRequest (whole bytes) (inserts table names values) = IsStatement bytes (Insert table names values)
+IsRequest (whole bytes) (searches table names search) =
+    (query : List ℕ) × IsStatement bytes (Match table names query) × IsSearch query search
 IsRequest (whole bytes) blank = IsBlank bytes
 IsRequest (whole bytes) (unknown at) = IsFaultAt bytes at
 IsRequest (whole bytes) unread = ⊥
-IsRequest too_long (makes statement) = ⊥
+IsRequest too_long (inserts table names values) = ⊥
+IsRequest too_long (searches table names search) = ⊥
 IsRequest too_long blank = ⊥
 IsRequest too_long (unknown at) = ⊥
 IsRequest too_long unread = Unit {0}

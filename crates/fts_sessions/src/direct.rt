@@ -2,7 +2,8 @@ use crate::EngineSteps;
 use fts_commits::Change;
 use fts_disk::Disk;
 use fts_engine::Engine;
-use fts_steps::{CommitError, View};
+use fts_query::{Leaf, View};
+use fts_steps::CommitError;
 use fts_types::Settings;
 use std::alloc::AllocError;
 
@@ -21,8 +22,8 @@ impl<D: Disk, E: Disk> EngineSteps for Direct<D, E> {
         self.engine.commit(changes)
     }
 
-    fn view(&mut self, word: &[u8]) -> Result<View, AllocError> {
-        self.engine.view(word)
+    fn view(&mut self, leaves: Vec<Leaf>) -> Result<View, AllocError> {
+        self.engine.view(leaves)
     }
 
     fn settings(&self) -> &Settings {

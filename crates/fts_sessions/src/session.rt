@@ -3,21 +3,25 @@ ghost use Rattle.fts_io.specs.Text.{whole};
 ghost use Rattle.fts_commits.specs.Fits.{CanCommit};
 ghost use Rattle.fts_steps.specs.Step.{to_commit, to_find};
 ghost use Rattle.fts_steps.specs.Answers.{commit_answer_of};
-ghost use Rattle.fts_sql.specs.declared.statement.Statement.TheVariants.{Insert, Match};
-ghost use Rattle.fts_sessions.specs.Execute.{Executes, Makes, Does};
+ghost use Rattle.fts_query.specs.View.{tree_of};
+ghost use Rattle.fts_sessions.specs.Request.{inserts};
+ghost use Rattle.fts_sessions.specs.Read.{next_of};
+ghost use Rattle.fts_sessions.specs.Execute.{Executes, Makes, Does, Searches};
 ghost use Rattle.fts_sessions.specs.Texts.{AreFit};
-ghost use Rattle.fts_sessions.specs.Conversation.{begins, reply_to};
+ghost use Rattle.fts_sessions.specs.Conversation.{asks, begins, match_begins, reply_to};
 ghost use Rattle.fts_sessions.specs.Conversation.{unknown_name as the_unknown_name};
 
 use crate::EngineSteps;
 use crate::insert::change_of;
 use crate::names::{are_text_columns, first_unknown, is_same};
-use crate::query::query_word;
-use fts_commits::Change;
+use crate::query::query_of;
+use fts_commits::{Change, ids_ascend};
+use fts_eval::{answer, leaves};
 use fts_io::{Gate, Point};
+use fts_query::Query;
 use fts_schema::Reply;
 use fts_sql::{ParseError, Statement, Values, parse_statement};
-use fts_steps::{CommitError, View};
+use fts_steps::CommitError;
 use fts_types::{Names, Text};
 use std::alloc::{AllocError, Global};
 
@@ -98,7 +102,7 @@ fn insert<S: EngineSteps>(
 ) -> Reply
     requires { AreFit values.now }
     ensures { Does S.sight
-        (begins (S.sight.settings steps.old) (Insert table names.now values.now))
+        (begins (S.sight.settings steps.old) (inserts table names.now values.now))
         steps.old result steps.new }
 {
     let columns = &steps.settings().columns;
@@ -159,8 +163,8 @@ fn unknown_name(
     }
 }
 
-// The step of a search, and what tells its answer. One that does not fit the table, or whose query
-// isn't one word, makes no step.
+// A search. Its query is read first, since that says which request the line is; a query that is
+// refused is told only where the names fit.
 fn search<S: EngineSteps, G: Gate>(
     alloc: Global,
     steps: &mut S,
@@ -170,8 +174,27 @@ fn search<S: EngineSteps, G: Gate>(
     names: &Names,
     query: &[u8],
 ) -> Reply
+    ensures { Searches S.sight table names.now query.now steps.old result steps.new }
+{
+    match query_of(alloc, query) {
+        Ok(query) => search_for(alloc, steps, gate, number, table, names, query),
+        Err(AllocError) => Reply::NoMemory,
+    }
+}
+
+// The step of a search for a query that was read, and what tells its answer. One that does not fit
+// the table, or whose query is refused, makes no step.
+fn search_for<S: EngineSteps, G: Gate>(
+    alloc: Global,
+    steps: &mut S,
+    gate: &G,
+    number: u32,
+    table: Text,
+    names: &Names,
+    query: Result<Query, Reply>,
+) -> Reply
     ensures { Does S.sight
-        (begins (S.sight.settings steps.old) (Match table names.now query.now))
+        (match_begins (S.sight.settings steps.old) table names.now (next_of query))
         steps.old result steps.new }
 {
     let columns = &steps.settings().columns;
@@ -183,21 +206,39 @@ fn search<S: EngineSteps, G: Gate>(
     if !are_text_columns(columns, names) {
         return Reply::WrongColumns;
     }
-    match query_word(alloc, query) {
-        Ok(Some(word)) => look_for(steps, gate, number, word.as_slice()),
-        Ok(None) => Reply::QuerySyntax { at: 1 },
-        Err(AllocError) => Reply::NoMemory,
+    match query {
+        Ok(query) => look_for(alloc, steps, gate, number, &query),
+        Err(reply) => reply,
     }
 }
 
-// The step of a search for one word, and what tells its answer.
-fn look_for<S: EngineSteps, G: Gate>(steps: &mut S, gate: &G, number: u32, word: &[u8]) -> Reply
-    ensures { Makes S.sight (to_find word.now) steps.old result steps.new }
+// The step of a search, and what tells its answer: a view of the query's leaves, and what the query
+// finds in it.
+fn look_for<S: EngineSteps, G: Gate>(
+    alloc: Global,
+    steps: &mut S,
+    gate: &G,
+    number: u32,
+    query: &Query,
+) -> Reply
+    ensures { Does S.sight (asks (to_find (tree_of query.now))) steps.old result steps.new }
 {
-    let view = steps.view(word);
+    // the answer rests on this law of the rows
+    ids_ascend();
+    let leaves = match leaves(alloc, steps.settings(), query) {
+        Ok(leaves) => leaves,
+        Err(AllocError) => return Reply::NoMemory,
+    };
+    let view = steps.view(leaves);
     gate.pass(Point::Evaluate, number);
     match view {
-        Ok(View { number, docs }) => Reply::Found { number, docs },
+        Ok(view) => match answer(alloc, &view, query) {
+            Ok(docs) => Reply::Found {
+                number: view.number,
+                docs,
+            },
+            Err(AllocError) => Reply::NoMemory,
+        },
         Err(AllocError) => Reply::NoMemory,
     }
 }

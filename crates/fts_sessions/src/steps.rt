@@ -1,10 +1,13 @@
 ghost use Rattle.std.specs.Prelude.{◌≡◌, ◌≤◌, length};
 ghost use Rattle.fts_commits.specs.Fits.{CanCommit};
-ghost use Rattle.fts_steps.specs.Step.{to_commit, to_find, Sight, Steps};
+ghost use Rattle.fts_query.specs.Seen.{leaves_seen};
+ghost use Rattle.fts_steps.specs.Running.{Running};
+ghost use Rattle.fts_steps.specs.Step.{to_commit, to_view, Sight, Steps};
 ghost use Rattle.fts_steps.specs.Answers.{commit_answer_of, view_answer_of};
 
 use fts_commits::Change;
-use fts_steps::{CommitError, View};
+use fts_query::{Leaf, View};
+use fts_steps::CommitError;
 use fts_types::Settings;
 use std::alloc::AllocError;
 
@@ -20,13 +23,16 @@ pub trait EngineSteps {
         ensures { Steps sight (to_commit changes.now) (commit_answer_of result)
             self.old self.new };
 
-    /// Looks for the rows that have the word.
-    fn view(&mut self, word: &[u8]) -> Result<View, AllocError>
-        ensures { Steps sight (to_find word.now) (view_answer_of result) self.old self.new };
+    /// Tells what the rows have for the leaves of a query.
+    fn view(&mut self, leaves: Vec<Leaf>) -> Result<View, AllocError>
+        ensures { Steps sight (to_view (leaves_seen leaves.items)) (view_answer_of result)
+            self.old self.new };
 
     /// The settings with which the database was created.
     fn settings(&self) -> &Settings
         ensures some { 1 ≤ length result.now.columns }
         ensures few { length result.now.columns ≤ 8 }
-        ensures settings { result.now ≡ sight.settings self.now };
+        ensures settings { result.now ≡ sight.settings self.now }
+        ensures told { (running : Running) → sight.stands running self.now
+            → running.state.settings ≡ result.now };
 }

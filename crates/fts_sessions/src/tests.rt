@@ -5,6 +5,7 @@ ghost use Rattle.fts_engine.specs.Stands.{Stands};
 
 use crate::insert::change_of;
 use crate::names::{are_insert_columns, are_text_columns, first_unknown, is_same};
+use crate::query::query_of;
 use crate::{Direct, Session};
 use fts_commits::Change;
 use fts_disk::MemDisk;
@@ -231,7 +232,7 @@ fn reply_of(alloc: Global, line: &str) -> Result<Vec<u8>, Fail> {
     Ok(reply_text(alloc, &reply)?)
 }
 
-const REPLIES: [(&str, &str); 14] = [
+const REPLIES: [(&str, &str); 18] = [
     (
         "INSERT INTO docs (id, title, body) VALUES (7, 'a', 'b')",
         "OK commit 1\n",
@@ -274,7 +275,23 @@ const REPLIES: [(&str, &str); 14] = [
     ),
     (
         "SELECT FTS_DOC_ID FROM docs WHERE MATCH (title, body) AGAINST ('a b' IN BOOLEAN MODE)",
-        "ERROR query syntax at 1\n",
+        "OK as of 0: none\n",
+    ),
+    (
+        "SELECT FTS_DOC_ID FROM docs WHERE MATCH (title, body) AGAINST ('a +' IN BOOLEAN MODE)",
+        "ERROR query syntax at 3\n",
+    ),
+    (
+        "SELECT FTS_DOC_ID FROM docs WHERE MATCH (title) AGAINST ('a +' IN BOOLEAN MODE)",
+        "ERROR columns and values do not fit\n",
+    ),
+    (
+        "SELECT FTS_DOC_ID FROM docs WHERE MATCH (title, Text) AGAINST ('a +' IN BOOLEAN MODE)",
+        "ERROR no such column Text\n",
+    ),
+    (
+        "SELECT FTS_DOC_ID FROM doc WHERE MATCH (Text) AGAINST ('a +' IN BOOLEAN MODE)",
+        "ERROR no such table doc\n",
     ),
     ("SELEC", "ERROR syntax at 1\n"),
     ("  ", ""),
@@ -287,5 +304,98 @@ fn each_line_has_its_reply(rt: HostRuntime) -> Result<(), Fail> {
         let reply = reply_of(rt.alloc(), line)?;
         assert_eq!(rt; reply.as_slice(), want.as_bytes(), "of {line}");
     }
+    Ok(())
+}
+
+/// Lines that fill the table with three rows.
+const ROWS: [&str; 3] = [
+    "INSERT INTO docs (id, title, body) VALUES (7, 'apple', 'apple of the pie')",
+    "INSERT INTO docs (id, title, body) VALUES (8, 'theory', 'apple pie')",
+    "INSERT INTO docs (id, title, body) VALUES (9, 'pie', 'the theory')",
+];
+
+/// The text of the reply to a search, behind these lines.
+fn found_by(alloc: Global, query: &str) -> Result<Vec<u8>, Fail> {
+    let mut steps = Direct {
+        engine: engine(alloc)?,
+    };
+    let mut session = Session::new(alloc, 1);
+    for line in ROWS {
+        let _ = session.execute(&mut steps, &OpenGate, line.as_bytes());
+    }
+    let line = format!(in alloc;
+        "SELECT FTS_DOC_ID FROM docs WHERE MATCH (title, body) AGAINST ('{query}' IN BOOLEAN MODE)"
+    )?;
+    let reply = session.execute(&mut steps, &OpenGate, line.as_bytes());
+    Ok(reply_text(alloc, &reply)?)
+}
+
+const QUERIES: [(&str, &str); 10] = [
+    ("apple", "OK as of 3: 1 2\n"),
+    ("apple theory", "OK as of 3: 1 2 3\n"),
+    ("+apple +theory", "OK as of 3: 2\n"),
+    ("-apple pie", "OK as of 3: 3\n"),
+    ("theo*", "OK as of 3: 2 3\n"),
+    ("\"apple pie\"", "OK as of 3: 2\n"),
+    ("\"apple pie\" @3", "OK as of 3: 1 2\n"),
+    ("+(theory -apple) +pie", "OK as of 3: 3\n"),
+    ("the", "OK as of 3: none\n"),
+    ("apple)", "ERROR query syntax at 6\n"),
+];
+
+#[test]
+fn each_query_finds_its_rows(rt: HostRuntime) -> Result<(), Fail> {
+    for (query, want) in QUERIES {
+        let reply = found_by(rt.alloc(), query)?;
+        assert_eq!(rt; reply.as_slice(), want.as_bytes(), "of {query}");
+    }
+    Ok(())
+}
+
+/// The text of the reply that refuses a query; none for one that is taken.
+fn refusal_of(alloc: Global, query: &str) -> Result<Vec<u8>, Fail> {
+    match query_of(alloc, query.as_bytes())? {
+        Ok(_) => Ok(Vec::new(alloc)),
+        Err(reply) => Ok(reply_text(alloc, &reply)?),
+    }
+}
+
+const REFUSALS: [(&str, &str); 5] = [
+    ("", ""),
+    ("+apple -(\"a pie\" the*)", ""),
+    ("+ apple", "ERROR query syntax at 1\n"),
+    (
+        "((((((((((((((((((((((((((((((((apple))))))))))))))))))))))))))))))))",
+        "",
+    ),
+    (
+        "(((((((((((((((((((((((((((((((((apple)))))))))))))))))))))))))))))))))",
+        "ERROR query too deep at 33\n",
+    ),
+];
+
+#[test]
+fn a_query_is_read_or_refused(rt: HostRuntime) -> Result<(), Fail> {
+    for (query, want) in REFUSALS {
+        let reply = refusal_of(rt.alloc(), query)?;
+        assert_eq!(rt; reply.as_slice(), want.as_bytes(), "of {query}");
+    }
+    Ok(())
+}
+
+#[test]
+fn a_query_has_at_most_4096_bytes(rt: HostRuntime) -> Result<(), Fail> {
+    let mut query = String::new(rt.alloc());
+    for _ in 0..4_096 {
+        query.push('x')?;
+    }
+    let taken = refusal_of(rt.alloc(), query.as_str())?;
+    query.push('x')?;
+    let refused = refusal_of(rt.alloc(), query.as_str())?;
+    assert_eq!(rt; taken.as_slice(), b"".as_slice());
+    assert_eq!(rt;
+        refused.as_slice(),
+        b"ERROR query too long 4097\n".as_slice()
+    );
     Ok(())
 }

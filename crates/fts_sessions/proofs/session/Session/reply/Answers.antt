@@ -2,7 +2,8 @@ use Rattle.std.proofs.Common.{ap, refl}
 use Rattle.std.specs.Prelude.{Ok, Err}
 use Rattle.fts_schema.specs.declared.reply.Reply.TheVariants.{NoMemory}
 use Rattle.fts_sql.specs.declared.statement.Statement.TheVariants.{Insert, Match}
-use Rattle.fts_sessions.proofs.Executing.{done, unknown_line, blank_line, gives_up}
+use Rattle.fts_sessions.specs.Request.{inserts}
+use Rattle.fts_sessions.proofs.Executing.{done, searched, unknown_line, blank_line, gives_up}
 use Rattle.fts_sessions.proofs.Values.{line_fit}
 use Rattle.fts_sessions.proofs.session.Session.reply.Goals as goal
 
@@ -14,14 +15,14 @@ insert-requires g c =
 
 pub returns-in-Ok-Some-Insert : goal.returns-in-Ok-Some-Insert
 returns-in-Ok-Some-Insert g c =
-    done g.S.EngineSteps.sight c.args.line.now (Insert c.in-Ok-Some-Insert.table c.in-Ok-Some-Insert.columns c.in-Ok-Some-Insert.values)
+    done g.S.EngineSteps.sight c.args.line.now (inserts c.in-Ok-Some-Insert.table c.in-Ok-Some-Insert.columns c.in-Ok-Some-Insert.values)
     (c.in-Ok-Some-Insert.ensures.statement (Insert c.in-Ok-Some-Insert.table c.in-Ok-Some-Insert.columns c.in-Ok-Some-Insert.values)
     (let a = c.in-Ok-Some-Insert.field-0-is in let b = c.in-Ok-Some-Insert.field-0-0-is in cc))
     c.args.steps.now c.insert.new.steps c.insert.result c.insert.ensures
 
 pub returns-in-Ok-Some-Match : goal.returns-in-Ok-Some-Match
 returns-in-Ok-Some-Match g c =
-    done g.S.EngineSteps.sight c.args.line.now (Match c.in-Ok-Some-Match.table c.in-Ok-Some-Match.columns c.in-Ok-Some-Match.query)
+    searched g.S.EngineSteps.sight c.args.line.now c.in-Ok-Some-Match.table c.in-Ok-Some-Match.columns c.in-Ok-Some-Match.query
     (c.in-Ok-Some-Match.ensures.statement (Match c.in-Ok-Some-Match.table c.in-Ok-Some-Match.columns c.in-Ok-Some-Match.query)
     (let a = c.in-Ok-Some-Match.field-0-is in let b = c.in-Ok-Some-Match.field-0-0-is in cc))
     c.args.steps.now c.search.new.steps c.search.result

@@ -1,0 +1,96 @@
+-- A view of a query's leaves, and what the query finds in it, are the step that finds the rows in which it holds.
+use Rattle.std.proofs.Common.{◌≡◌, ℕ, ◌+◌, ◌<◌, List, [], ◌∷◌, length, refl, ap, subst, sym, ◌∙◌, map, filter, arith}
+use Rattle.std.proofs.lemmas.Bool.{false≢true}
+use Rattle.std.specs.Prelude.{Bool, true, false, IsTrue}
+use Rattle.std.specs.List.{AllPairs}
+use Rattle.fts_faults.specs.Count.{CountsFault}
+use Rattle.fts_ids.specs.Ids.{Ascend}
+use Rattle.fts_types.specs.declared.settings.Settings.{Settings}
+use Rattle.fts_types.specs.Rules.{rules_of}
+use Rattle.fts_types.specs.Row.{Row}
+use Rattle.fts_words.specs.Indexed.{Rules}
+use Rattle.fts_commits.specs.Commit.{Commit, replay}
+use Rattle.fts_meaning.specs.Tree.{Terms}
+use Rattle.fts_meaning.specs.Leaf.{Leaf, leaves}
+use Rattle.fts_meaning.specs.Scan.{scan}
+use Rattle.fts_meaning.specs.View.{View, StandsFor, view_of}
+use Rattle.fts_eval.proofs.Answering.{ascend_from_increasing}
+use Rattle.fts_steps.specs.State.{State}
+use Rattle.fts_steps.specs.Running.{Running, What, made, failed, Entry, with_what, grown}
+use Rattle.fts_steps.specs.Step.{Answer, viewed, found, disk_fault, no_memory, is_disk_fault, to_view, to_find, state_view, MayAnswer, Sight, Steps}
+
+-- what was added keeps the settings
+with_settings : (running : Running) (what : What) → (with_what running what).state.settings ≡ running.state.settings
+with_settings running (made commit) = refl
+with_settings running (failed faults doubt) = refl
+
+grown_settings : (running : Running) (entries : List Entry) → (grown running entries).state.settings ≡ running.state.settings
+grown_settings running [] = refl
+grown_settings running (entry ∷ entries) = grown_settings (with_what running entry.what) entries ∙ with_settings running entry.what
+
+-- the ids of a database's rows ascend
+all_pass : (rows : List Row) → filter (λ (row : Row). true) rows ≡ rows
+all_pass [] = refl
+all_pass (row ∷ rows) = ap (λ (more : List Row). row ∷ more) (all_pass rows)
+
+-- what the law of commits says of their rows
+abbrev pub IdsAscend : Type 0
+IdsAscend = (commits : List Commit) (test : Row → Bool) → AllPairs (λ (a b : ℕ). a < b) (map (λ (row : Row). row.doc) (filter test (replay commits).list))
+
+rows_ascend : IdsAscend → (commits : List Commit) → Ascend (map (λ (row : Row). row.doc) (replay commits).list)
+rows_ascend law commits =
+    let rows = (replay commits).list in
+    subst (λ (some : List Row). Ascend (map (λ (row : Row). row.doc) some)) (all_pass rows)
+    (ascend_from_increasing 0 (map (λ (row : Row). row.doc) (filter (λ (row : Row). true) rows))
+    (λ k less. law commits (λ (row : Row). true) k (k + 1) 0 (omega arith) less) (λ less. omega arith))
+
+-- what an answer says of its view
+abbrev pub Answers : View → Terms → List ℕ → Type 0
+Answers view terms docs = (rules : Rules) (rows : List Row) → Ascend (map (λ (row : Row). row.doc) rows) → StandsFor rules rows terms view → docs ≡ scan rules rows terms
+
+viewed_number : (a b : View) → viewed a ≡ viewed b → a ≡ b
+viewed_number a b same = cc
+
+-- a database's view stands for its rows, and so the query finds the rows in which it holds
+finds_rows : IdsAscend → (state : State) (terms : Terms) (view : View) (docs : List ℕ) → viewed (state_view state (leaves (rules_of state.settings) terms)) ≡ viewed view → Answers view terms docs
+    → found (length state.commits) (scan (rules_of state.settings) (replay state.commits).list terms) ≡ found view.number docs
+finds_rows law state terms view docs told answers =
+    let rules = rules_of state.settings in
+    let rows = (replay state.commits).list in
+    let same : view_of rules rows (length state.commits) (leaves rules terms) ≡ view = viewed_number _ _ told in
+    let number : length state.commits ≡ view.number = ap (λ (v : View). v.number) same in
+    let stands : StandsFor rules rows terms view = sym same ∙ ap (λ (n : ℕ). view_of rules rows n (leaves rules terms)) number in
+    ap (λ (n : ℕ). found n (scan rules rows terms)) number ∙ ap (found view.number) (sym (answers rules rows (rows_ascend law state.commits) stands))
+
+module _ {S : Type 0} (sight : Sight S) (asked : List Leaf) (terms : Terms) (old new : S) where
+  -- a view's step is that of a search that may answer so
+  as_search : (told answer : Answer) (step : Steps sight (to_view asked) told old new) → is_disk_fault told ≡ false → is_disk_fault answer ≡ false
+      → ((running : Running) → sight.stands running old → MayAnswer (sight.limits old) (grown running step.more) (to_find terms) answer) → Steps sight (to_find terms) answer old new
+  as_search told answer step calm calm' may = record {
+    more = step.more;
+    alone = step.alone;
+    may = may;
+    stands = step.stands;
+    crash = step.crash;
+    index = step.index;
+    settings = step.settings;
+    limits = step.limits;
+    faults = subst (λ (b : Bool). CountsFault (IsTrue b) (sight.faults old) (sight.faults new)) (calm ∙ sym calm') step.faults;
+    sum = λ n is. absurd (false≢true (sym calm' ∙ ap is_disk_fault is));
+  }
+
+  -- want of memory for the view, and for what is found in it
+  pub starved : (told : Answer) → is_disk_fault told ≡ false → Steps sight (to_view asked) told old new → Steps sight (to_find terms) no_memory old new
+  starved told calm step = as_search told no_memory step calm refl (λ running stands. tt)
+
+  -- what is found in it
+  pub finds : IdsAscend → (settings : Settings) (view : View) (docs : List ℕ) → asked ≡ leaves (rules_of settings) terms
+      → ((running : Running) → sight.stands running old → running.state.settings ≡ settings) → Answers view terms docs
+      → Steps sight (to_view asked) (viewed view) old new → Steps sight (to_find terms) (found view.number docs) old new
+  finds law settings view docs are told answers step =
+      as_search (viewed view) (found view.number docs) step refl refl
+      (λ running stands.
+      let state = (grown running step.more).state in
+      let same : settings ≡ state.settings = sym (grown_settings running step.more ∙ told running stands) in
+      let asks : asked ≡ leaves (rules_of state.settings) terms = are ∙ ap (λ (s : Settings). leaves (rules_of s) terms) same in
+      finds_rows law state terms view docs (ap (λ (all : List Leaf). viewed (state_view state all)) (sym asks) ∙ step.may running stands) answers)
