@@ -12,7 +12,7 @@ use Rattle.fts_disk.proofs.Runs.{leaves_weaker}
 use Rattle.fts_steps.specs.State.{State, with_commits, IsRows}
 use Rattle.fts_steps.specs.Running.{Running, What, made, failed, Entry, with_what, grown}
 use Rattle.fts_steps.specs.Crash.{IsBetween, HoldsIndex}
-use Rattle.fts_steps.specs.Step.{Ask, to_commit, to_find, Answer, committed, refused, full, found, disk_fault, stopped, no_memory, unless_stopped, MayAnswer}
+use Rattle.fts_steps.specs.Step.{Ask, to_commit, to_view, to_find, Answer, committed, refused, full, viewed, found, disk_fault, stopped, no_memory, unless_stopped, MayAnswer}
 use Rattle.fts_steps.specs.Step.{Call, Below, Sight, Leaves, after, after_call, after_all, entries_of, Follows, AreAlone}
 use Rattle.fts_top.specs.Run.{IsSure, MayCrash, MayCrashIndex}
 
@@ -102,10 +102,12 @@ adds_step limits running (to_commit commit) (disk_fault faults) sure may =
     (commit ∷ [], sym (behind_sure running commit (sure (goes running.stopped _ _ may))))
 adds_step limits running (to_commit commit) (refused why) sure may = adds_none running
 adds_step limits running (to_commit commit) (full end_) sure may = adds_none running
+adds_step limits running (to_commit commit) (viewed view) sure may = adds_none running
 adds_step limits running (to_commit commit) (found number docs) sure may = adds_none running
 adds_step limits running (to_commit commit) (stopped faults) sure may = adds_none running
 adds_step limits running (to_commit commit) no_memory sure may = adds_none running
-adds_step limits running (to_find word) answer sure may = adds_none running
+adds_step limits running (to_view leaves) answer sure may = adds_none running
+adds_step limits running (to_find terms) answer sure may = adds_none running
 
 adds_call : (limits : Limits) (running : Running) (call : Call) → IsSure running → call.more ≡ [] → MayAnswer limits (grown running call.more) call.ask call.answer
     → Adds running (after_call running call)

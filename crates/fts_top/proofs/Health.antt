@@ -111,6 +111,8 @@ fault_met (reply.NoSuchTable name) is = absurd cc
 fault_met (reply.NoSuchColumn name) is = absurd cc
 fault_met reply.WrongColumns is = absurd cc
 fault_met (reply.QuerySyntax at_) is = absurd cc
+fault_met (reply.QueryTooLong size) is = absurd cc
+fault_met (reply.QueryTooDeep at_) is = absurd cc
 fault_met reply.LineTooLong is = absurd cc
 fault_met (reply.Stopped faults) is = absurd cc
 

@@ -7,9 +7,9 @@ use Rattle.fts_schema.specs.declared.reply.Reply.{Reply}
 use Rattle.fts_schema.specs.declared.reply.Reply.TheVariants.{DiskFault}
 use Rattle.fts_schema.specs.Reply.{text_of}
 use Rattle.fts_steps.specs.Running.{Running, Entry, grown}
-use Rattle.fts_steps.specs.Step.{Ask, to_commit, to_find, Answer, committed, refused, full, found, disk_fault, stopped, no_memory}
+use Rattle.fts_steps.specs.Step.{Ask, to_commit, to_view, to_find, Answer, committed, refused, full, viewed, found, disk_fault, stopped, no_memory}
 use Rattle.fts_steps.specs.Step.{Call, after, after_call, after_all, Follows, AreAlone}
-use Rattle.fts_sessions.specs.Request.{Request, makes, blank, unknown, unread}
+use Rattle.fts_sessions.specs.Request.{Request}
 use Rattle.fts_sessions.specs.Conversation.{Converses, reply_to, ends}
 use Rattle.fts_sessions.specs.Execute.{Says}
 use Rattle.fts_top.specs.Talk.{Talks, texts_of}
@@ -61,11 +61,13 @@ step_still : (running : Running) (ask : Ask) (answer : Answer) → (reply_to ans
 step_still running (to_commit commit) (committed number) calm = refl
 step_still running (to_commit commit) (refused why) calm = refl
 step_still running (to_commit commit) (full end_) calm = refl
+step_still running (to_commit commit) (viewed view) calm = refl
 step_still running (to_commit commit) (found number docs) calm = refl
 step_still running (to_commit commit) (disk_fault faults) calm = absurd (calm refl)
 step_still running (to_commit commit) (stopped faults) calm = refl
 step_still running (to_commit commit) no_memory calm = refl
-step_still running (to_find word) answer calm = refl
+step_still running (to_view leaves) answer calm = refl
+step_still running (to_find terms) answer calm = refl
 
 told_still : (running : Running) (call : Call) (reply : Reply) → call.more ≡ [] → ends (reply_to call.answer) ≡ ends reply → (reply ≡ DiskFault → ⊥)
     → (after_call running call).stopped ≡ running.stopped
@@ -76,11 +78,8 @@ told_still running call reply alone told calm =
 request_still : (settings : Settings) (request : Request) (calls : List Call) (reply : Reply) (running : Running) → Converses settings request [] calls reply → AreAlone calls
     → (reply ≡ DiskFault → ⊥) → (after_all running calls).stopped ≡ running.stopped
 request_still settings request [] reply running converses alone calm = refl
-request_still settings (makes s) (call ∷ []) reply running converses alone calm = told_still running call reply alone.0 converses.1 calm
-request_still settings (makes s) (call ∷ (second ∷ calls)) reply running converses alone calm = absurd (let e = converses.1.0 in cc)
-request_still settings blank (call ∷ calls) reply running converses alone calm = absurd (let e = converses.0 in cc)
-request_still settings (unknown at_) (call ∷ calls) reply running converses alone calm = absurd (let e = converses.0 in cc)
-request_still settings unread (call ∷ calls) reply running converses alone calm = absurd (let e = converses.0 in cc)
+request_still settings request (call ∷ []) reply running converses alone calm = told_still running call reply alone.0 converses.1 calm
+request_still settings request (call ∷ (second ∷ calls)) reply running converses alone calm = absurd (let e = converses.1.0 in cc)
 
 -- a line that met no fault stops nothing
 pub line_still : (settings : Settings) (line : Line) (calls : List Call) (reply : Reply) (running : Running) → Says settings line calls reply → AreAlone calls

@@ -71,6 +71,8 @@ pub fn health_of(reply: &Reply) -> Health
         Reply::NoSuchColumn { .. } => Health::Sound,
         Reply::WrongColumns => Health::Sound,
         Reply::QuerySyntax { .. } => Health::Sound,
+        Reply::QueryTooLong { .. } => Health::Sound,
+        Reply::QueryTooDeep { .. } => Health::Sound,
         Reply::LineTooLong => Health::Sound,
         Reply::Stopped { .. } => Health::Sound,
     }

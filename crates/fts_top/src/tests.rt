@@ -5,6 +5,7 @@ mod damage;
 mod faults;
 mod large;
 mod limits;
+mod queries;
 mod runs;
 mod statements;
 mod status;

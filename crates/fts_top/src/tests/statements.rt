@@ -44,8 +44,8 @@ const FAULTS: [(&str, &str); 6] = [
         "ERROR syntax at 46\n",
     ),
     (
-        "SELECT FTS_DOC_ID FROM docs WHERE MATCH (body) AGAINST ('+pie' IN BOOLEAN MODE)",
-        "ERROR query syntax at 1\n",
+        "SELECT FTS_DOC_ID FROM docs WHERE MATCH (body) AGAINST ('pie+' IN BOOLEAN MODE)",
+        "ERROR query syntax at 4\n",
     ),
 ];
 
@@ -59,7 +59,7 @@ fn a_fault_is_told_at_its_place(rt: HostRuntime) -> Result<(), Fail> {
 }
 
 /// Statements that don't fit the table, and their replies.
-const MISFITS: [(&str, &str); 9] = [
+const MISFITS: [(&str, &str); 12] = [
     (
         "INSERT INTO books (nope) VALUES (1)",
         "ERROR no such table books\n",
@@ -94,6 +94,18 @@ const MISFITS: [(&str, &str); 9] = [
     ),
     (
         "SELECT FTS_DOC_ID FROM docs WHERE MATCH (id) AGAINST ('x' IN BOOLEAN MODE)",
+        "ERROR columns and values do not fit\n",
+    ),
+    (
+        "SELECT FTS_DOC_ID FROM books WHERE MATCH (nope) AGAINST ('+' IN BOOLEAN MODE)",
+        "ERROR no such table books\n",
+    ),
+    (
+        "SELECT FTS_DOC_ID FROM docs WHERE MATCH (nope) AGAINST ('+' IN BOOLEAN MODE)",
+        "ERROR no such column nope\n",
+    ),
+    (
+        "SELECT FTS_DOC_ID FROM docs WHERE MATCH (id) AGAINST ('+' IN BOOLEAN MODE)",
         "ERROR columns and values do not fit\n",
     ),
 ];
