@@ -142,32 +142,41 @@ const FOUND: [(&str, &[DocId]); 7] = [
     ("PIE", &[]),
 ];
 
-/// The view of a word.
-fn view_of(alloc: Global, engine: &Engine<MemDisk, MemDisk>, word: &[u8]) -> Result<View, Fail> {
-    let leaves = vec![in alloc; Leaf::Word(word.to_vec(alloc)?)]?;
-    Ok(engine.view(leaves)?)
+/// The view of a word, if there is memory for it.
+fn view_of(alloc: Global, engine: &Engine<MemDisk, MemDisk>, word: &[u8]) -> Option<View> {
+    let word = word.to_vec(alloc).ok()?;
+    let leaves = vec![in alloc; Leaf::Word(word)].ok()?;
+    engine.view(leaves).ok()
 }
 
-/// Whether a view is of so many commits, and has these postings alone.
-fn is_view(view: &View, number: u64, want: &[DocId]) -> bool {
+/// Whether a view is of one commit, and has these postings alone.
+fn is_view(view: &View, want: &[DocId]) -> bool {
     match view.postings.as_slice() {
-        [one] => view.number == number && one.ids.as_slice() == want && view.texts.is_empty(),
+        [one] => view.number == 1 && one.ids.as_slice() == want && view.texts.is_empty(),
         _ => false,
     }
 }
 
 /// Whether a view of each word has what it should after the first commit.
-fn finds_all(
-    alloc: Global,
-    engine: &Engine<MemDisk, MemDisk>,
-    found: &[(&str, &[DocId])],
-) -> Result<bool, Fail> {
+fn finds_all(alloc: Global, engine: &Engine<MemDisk, MemDisk>, found: &[(&str, &[DocId])]) -> bool {
     for (word, want) in found {
-        if !is_view(&view_of(alloc, engine, word.as_bytes())?, 1, want) {
-            return Ok(false);
+        match view_of(alloc, engine, word.as_bytes()) {
+            Some(view) if is_view(&view, want) => {}
+            _ => return false,
         }
     }
-    Ok(true)
+    true
+}
+
+/// Whether a view of the word has so many postings.
+fn finds_many(alloc: Global, engine: &Engine<MemDisk, MemDisk>, word: &[u8], count: usize) -> bool {
+    match view_of(alloc, engine, word) {
+        None => false,
+        Some(view) => match view.postings.as_slice() {
+            [one] => one.ids.as_slice().len() == count,
+            _ => false,
+        },
+    }
 }
 
 #[test]
@@ -176,9 +185,9 @@ fn a_commit_is_found_and_again_after_opening(rt: HostRuntime) -> Result<(), Fail
     let devices = create(alloc, empty_disks(alloc)?)?;
     let mut engine = open(alloc, devices, 2, 4_096)?;
     assert_eq!(rt; commit(&mut engine, &two_rows(alloc, 7, 3)?), Some(Ok(1)));
-    assert!(rt; finds_all(alloc, &engine, &FOUND)?);
+    assert!(rt; finds_all(alloc, &engine, &FOUND));
     let engine = open(alloc, engine.close(), 1, 0)?;
-    assert!(rt; finds_all(alloc, &engine, &FOUND)? && engine.commits() == 1);
+    assert!(rt; finds_all(alloc, &engine, &FOUND) && engine.commits() == 1);
     Ok(())
 }
 
@@ -189,11 +198,7 @@ fn a_thousand_changes_are_a_commit(rt: HostRuntime) -> Result<(), Fail> {
     let mut engine = open(alloc, devices, 1_000, LARGEST_LOG)?;
     assert_eq!(rt; commit(&mut engine, &many_rows(alloc, 1_000)?), Some(Ok(1)));
     let engine = open(alloc, engine.close(), 1_000, 0)?;
-    assert!(rt; engine.commits() == 1);
-    match view_of(alloc, &engine, b"cream")?.postings.as_slice() {
-        [one] => assert!(rt; one.ids.as_slice().len() == 1_000),
-        _ => assert!(rt; false, "one leaf"),
-    }
+    assert!(rt; engine.commits() == 1 && finds_many(alloc, &engine, b"cream", 1_000));
     Ok(())
 }
 
@@ -211,7 +216,7 @@ fn a_word_is_found_whole(rt: HostRuntime) -> Result<(), Fail> {
     let devices = create(alloc, empty_disks(alloc)?)?;
     let mut engine = open(alloc, devices, 2, 4_096)?;
     assert_eq!(rt; commit(&mut engine, &quoted_row(alloc)?), Some(Ok(1)));
-    assert!(rt; finds_all(alloc, &engine, &FOUND_WHOLE)?);
+    assert!(rt; finds_all(alloc, &engine, &FOUND_WHOLE));
     engine.close();
     Ok(())
 }

@@ -71,6 +71,8 @@ shuffle_both true b x t = refl
 shuffle_both false b true t = refl
 shuffle_both false true false t = refl
 shuffle_both false false false t = refl
+
+pub begun : (old ids held : List ℕ) (count : ℕ) → old ≡ take count held → count + length ids ≡ length held → IsMerging old ids held count (length ids) (length held)
 begun old ids held count e long =
     let none : drop (length held) held ≡ [] = drop_all (length held) held (omega arith) in
     let old_long : length old ≡ count = ap length e ∙ length-take-le count held (omega (arith, long)) in

@@ -1,5 +1,5 @@
 -- The text of a query is one search.
-use Rattle.std.proofs.Common.{◌≡◌, ℕ, ◌+◌, List, refl, ap, sym, ◌∙◌, ⊎_elim, arith}
+use Rattle.std.proofs.Common.{◌≡◌, ℕ, ◌+◌, List, ap, sym, ◌∙◌, ⊎_elim, arith}
 use Rattle.std.proofs.lemmas.Bool.{cases_order}
 use Rattle.fts_meaning.specs.Plain.{plain}
 use Rattle.fts_meaning.specs.Fault.{IsFirst, IsFaulty, IsTooDeep}

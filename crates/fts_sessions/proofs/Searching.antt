@@ -17,7 +17,7 @@ use Rattle.fts_meaning.specs.View.{View, StandsFor, view_of}
 use Rattle.fts_eval.proofs.Answering.{ascend_from_increasing}
 use Rattle.fts_steps.specs.State.{State}
 use Rattle.fts_steps.specs.Running.{Running, What, made, failed, Entry, with_what, grown}
-use Rattle.fts_steps.specs.Step.{Answer, viewed, found, disk_fault, no_memory, is_disk_fault, to_view, to_find, state_view, MayAnswer, Sight, Steps}
+use Rattle.fts_steps.specs.Step.{Answer, viewed, found, no_memory, is_disk_fault, to_view, to_find, state_view, MayAnswer, Sight, Steps}
 
 -- what was added keeps the settings
 with_settings : (running : Running) (what : What) → (with_what running what).state.settings ≡ running.state.settings
