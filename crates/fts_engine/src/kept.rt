@@ -26,7 +26,7 @@ pub struct Kept {
     index: Index,
     ghost right: { AreSettings settings },
     ghost within: { AreWithin standard_limits (limits_of rows) },
-    ghost indexed: { Indexes (rules_of settings) (rows_of rows) index } by { indexes_prop (rules_of settings) (rows_of rows) index },
+    ghost indexed: { Indexes (rules_of settings) (rows_of rows) index } by { indexes_prop _ _ _ },
 }
 
 /// What a commit makes of the rows and the index. Its room is made.

@@ -12,7 +12,8 @@ use std::alloc::{AllocError, Global};
 /// It walks over the shorter one.
 pub fn both(alloc: Global, ids: &IdList, others: &IdList) -> Result<IdList, AllocError>
     ensures ascend { IfOk result Ascend }
-    ensures each { IfOk result (λ all. (id : ℕ) → has all id ≡ (has ids.now id && has others.now id)) }
+    ensures each { IfOk result (λ all. (id : ℕ)
+        → has all id ≡ (has ids.now id && has others.now id)) }
 {
     let (ids, others) = (ids.as_slice(), others.as_slice());
     if others.len() < ids.len() {

@@ -91,8 +91,8 @@ impl Index {
         }
     }
 
-    /// What the index tells of these leaves. It costs the documents of their words, and of all words
-    /// that begin so.
+    /// What the index tells of these leaves. It costs the documents of their words; for a prefix,
+    /// those of each word that begins so.
     pub fn gather(&self, leaves: Vec<Leaf>) -> Result<Gathered, AllocError>
         ensures { IfOk result (λ gathered. (rules : Rules) (rows : Rows)
             → Indexes rules rows self.now
