@@ -19,7 +19,7 @@ use Rattle.fts_meaning.specs.Tree.{Operand, word, prefix, phrase, distance}
 use Rattle.fts_meaning.specs.Holds.{starts_with_words, stands_in, are_near_in, operand_holds}
 use Rattle.fts_meaning.specs.Leaf.{Leaf, words_leaf, leaf_of}
 use Rattle.fts_meaning.specs.View.{has_word, is_candidate, needs_texts, is_looked_into, view_of}
-use Rattle.fts_meaning.proofs.OneWord.{indexable}
+use Rattle.fts_meaning.proofs.Indexable.{indexable}
 
 -- ---- tests of lists
 

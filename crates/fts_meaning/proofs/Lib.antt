@@ -2,5 +2,5 @@ pub mod Reading
 pub mod Places
 pub mod Pairing
 mod WorkedRows
-pub mod OneWord
 pub mod Candidates
+pub mod Indexable
