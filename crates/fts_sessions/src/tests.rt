@@ -307,26 +307,41 @@ fn each_line_has_its_reply(rt: HostRuntime) -> Result<(), Fail> {
     Ok(())
 }
 
-/// Lines that fill the table with three rows.
-const ROWS: [&str; 3] = [
-    "INSERT INTO docs (id, title, body) VALUES (7, 'apple', 'apple of the pie')",
-    "INSERT INTO docs (id, title, body) VALUES (8, 'theory', 'apple pie')",
-    "INSERT INTO docs (id, title, body) VALUES (9, 'pie', 'the theory')",
-];
+/// Executes a line, and gives its reply.
+fn executed(alloc: Global, steps: &mut Direct<MemDisk, MemDisk>, line: &str) -> Reply {
+    Session::new(alloc, 1).execute(steps, &OpenGate, line.as_bytes())
+}
 
-/// The text of the reply to a search, behind these lines.
-fn found_by(alloc: Global, query: &str) -> Result<Vec<u8>, Fail> {
+/// An engine over three rows.
+fn filled(alloc: Global) -> Result<Direct<MemDisk, MemDisk>, AllocError> {
     let mut steps = Direct {
         engine: engine(alloc)?,
     };
-    let mut session = Session::new(alloc, 1);
-    for line in ROWS {
-        let _ = session.execute(&mut steps, &OpenGate, line.as_bytes());
-    }
+    executed(
+        alloc,
+        &mut steps,
+        "INSERT INTO docs (id, title, body) VALUES (7, 'apple', 'apple of the pie')",
+    );
+    executed(
+        alloc,
+        &mut steps,
+        "INSERT INTO docs (id, title, body) VALUES (8, 'theory', 'apple pie')",
+    );
+    executed(
+        alloc,
+        &mut steps,
+        "INSERT INTO docs (id, title, body) VALUES (9, 'pie', 'the theory')",
+    );
+    Ok(steps)
+}
+
+/// The text of the reply to a search of these rows.
+fn found_by(alloc: Global, query: &str) -> Result<Vec<u8>, Fail> {
+    let mut steps = filled(alloc)?;
     let line = format!(in alloc;
         "SELECT FTS_DOC_ID FROM docs WHERE MATCH (title, body) AGAINST ('{query}' IN BOOLEAN MODE)"
     )?;
-    let reply = session.execute(&mut steps, &OpenGate, line.as_bytes());
+    let reply = executed(alloc, &mut steps, &line);
     Ok(reply_text(alloc, &reply)?)
 }
 
