@@ -16,6 +16,6 @@ SELECT FTS_DOC_ID FROM docs WHERE MATCH (body) AGAINST ('rock_and_roll' IN BOOLE
 SELECT FTS_DOC_ID FROM docs WHERE MATCH (body) AGAINST ('the' IN BOOLEAN MODE)
 SELECT FTS_DOC_ID FROM docs WHERE MATCH (body) AGAINST ('at' IN BOOLEAN MODE)
 
--- A query is one word for now.
+-- The words of a query are those of its text.
 SELECT FTS_DOC_ID FROM docs WHERE MATCH (body) AGAINST ('dogs''' IN BOOLEAN MODE)
-SELECT FTS_DOC_ID FROM docs WHERE MATCH (body) AGAINST ('dogs dinner' IN BOOLEAN MODE)
+SELECT FTS_DOC_ID FROM docs WHERE MATCH (body) AGAINST ('+dogs +dinner' IN BOOLEAN MODE)

@@ -31,6 +31,10 @@ const IN_PIES: Searches = &[
     ("+(theory (+apple +pie))", "OK as of 3: 1 2 3\n"),
     ("-(apple)", "OK as of 3: none\n"),
     ("()", "OK as of 3: none\n"),
+    ("pie +apple", "OK as of 3: 1 2\n"),
+    ("apple +apple", "OK as of 3: 1 2\n"),
+    ("+apple -apple", "OK as of 3: none\n"),
+    ("plum*", "OK as of 3: none\n"),
 ];
 
 /// Phrases.
@@ -40,6 +44,10 @@ const IN_PIES_TOO: Searches = &[
     ("\"the theory\"", "OK as of 3: 3\n"),
     ("+apple -\"apple pie\"", "OK as of 3: 2\n"),
     ("\"\"", "OK as of 3: none\n"),
+    ("+\"the of\" apple", "OK as of 3: none\n"),
+    ("apple -\"the\"", "OK as of 3: 1 2\n"),
+    ("-\"the\"", "OK as of 3: none\n"),
+    ("\"a b\" @3", "OK as of 3: none\n"),
 ];
 
 const NEAR: [&str; 3] = ["apple the pie", "apple of the pie", "apple apple"];
@@ -163,5 +171,70 @@ fn a_query_has_4096_bytes(rt: HostRuntime) -> Result<(), Fail> {
         let line = search_for(rt.alloc(), "body", &query)?;
         rows = answers(&rt, rt.alloc(), rows, line.as_bytes(), reply)?;
     }
+    Ok(())
+}
+
+/// A query of so many words that no row has, and one behind them.
+fn many_words(alloc: Global, count: usize) -> Result<String, AllocError> {
+    let mut query = repeated(alloc, "plum ", count)?;
+    query.push_str("apple")?;
+    Ok(query)
+}
+
+#[test]
+fn a_query_of_500_words_is_answered(rt: HostRuntime) -> Result<(), Fail> {
+    let rows = with_apple(rt.alloc())?;
+    let query = many_words(rt.alloc(), 500)?;
+    let line = search_for(rt.alloc(), "body", &query)?;
+    answers(&rt, rt.alloc(), rows, line.as_bytes(), "OK as of 1: 1\n")?;
+    Ok(())
+}
+
+#[test]
+fn a_prefix_is_as_long_as_a_word(rt: HostRuntime) -> Result<(), Fail> {
+    let word = repeated(rt.alloc(), "x", 84)?;
+    let rows = filled(rt.alloc(), CREATE, &[&word])?;
+    let query = format!(in rt.alloc(); "{word}*")?;
+    let line = search_for(rt.alloc(), "body", &query)?;
+    answers(&rt, rt.alloc(), rows, line.as_bytes(), "OK as of 1: 1\n")?;
+    Ok(())
+}
+
+/// A script of so many INSERTs of one text, and of a search.
+fn many_rows(alloc: Global, count: u64) -> Result<String, AllocError> {
+    let mut script = String::new(alloc);
+    for key in 0..count {
+        let line = format!(in alloc; "INSERT INTO docs (id, body) VALUES ({key}, 'apple pie')\n")?;
+        script.push_str(&line)?;
+    }
+    script.push_str(&search_for(alloc, "body", "+apple -\"pie apple\"")?)?;
+    Ok(script)
+}
+
+/// The replies to it, where each row is found.
+fn all_found(alloc: Global, count: u64) -> Result<String, AllocError> {
+    let mut text = String::new(alloc);
+    for number in 1..=count {
+        text.push_str(&format!(in alloc; "OK commit {number}\n")?)?;
+    }
+    text.push_str(&format!(in alloc; "OK as of {count}:")?)?;
+    for doc in 1..=count {
+        text.push_str(&format!(in alloc; " {doc}")?)?;
+    }
+    text.push('\n')?;
+    Ok(text)
+}
+
+#[test]
+fn a_thousand_rows_are_found(rt: HostRuntime) -> Result<(), Fail> {
+    let script = many_rows(rt.alloc(), 1_000)?;
+    let text = all_found(rt.alloc(), 1_000)?;
+    answers(
+        &rt,
+        rt.alloc(),
+        created(rt.alloc())?,
+        script.as_bytes(),
+        &text,
+    )?;
     Ok(())
 }
