@@ -729,6 +729,22 @@ def script_helps(room):
 
 
 @case
+def examples_print_their_output(room):
+    folder = os.path.join(TOP, "examples")
+    names = sorted(it[:-4] for it in os.listdir(folder) if it.endswith(".sql"))
+    for name in names:
+        with open(os.path.join(folder, name + ".sql"), "rb") as it:
+            script = it.read()
+        with open(os.path.join(folder, name + ".out"), "rb") as it:
+            wanted = it.read()
+        head = script.decode().splitlines()[0]
+        words = head.partition(" create ")[2].split() or ["--columns", "body"]
+        same(room.run(name, "create", *words), (0, b"OK created\n", []), f"create for {name}")
+        same(room.run(name, "run", script=script), (0, wanted, []), name)
+    return ", ".join(names)
+
+
+@case
 def folders_of_the_readme_are_ignored(room):
     ran = subprocess.run(["git", "check-ignore", "shop/rows.log", "larder/rows.log"], cwd=TOP, capture_output=True, text=True)
     same(ran.stdout.split(), ["shop/rows.log", "larder/rows.log"], "what git ignores")

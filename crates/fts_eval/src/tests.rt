@@ -283,32 +283,53 @@ fn depth(open: u64, piece: &str) -> u64 {
     open
 }
 
-const WORDS: [Line<'static>; 8] = [
-    (2, "apple pie", "the theory"),
-    (3, "pie apple", ""),
-    (5, "the apple", "pie"),
-    (6, "theory of the apple pie", "zebra"),
-    (9, "pie of the apple", "pie"),
-    (10, "", "pies"),
-    (11, "apple", "the of"),
-    (20, "theory apple", "the theory apple"),
-];
+/// One of some texts, by the upper bits of a number.
+fn text_of(number: u64) -> &'static str {
+    match (number >> 33) % 12 {
+        0 => "apple pie",
+        1 => "pie apple",
+        2 => "the apple",
+        3 => "theory of the apple pie",
+        4 => "pie of the apple",
+        5 => "pies",
+        6 => "the of",
+        7 => "theory apple theory",
+        8 => "zebra, the theory",
+        9 => "apple of pie; the pie",
+        10 => "pie",
+        _ => "",
+    }
+}
 
-/// An answer is what the scan finds.
-fn is_scan(rt: &impl Abort, alloc: Global, text: &[u8]) -> Result<(), Fail> {
-    let query = parse(alloc, text)?;
-    let ids = answered(alloc, &WORDS, &query)?;
-    let want = scanned(alloc, &WORDS, &query)?;
-    assert_eq!(rt; ids.as_slice(), want.as_slice(), "{text:?}");
+/// Eight rows of some texts.
+fn random_rows(alloc: Global, seed: u64) -> Result<Vec<Line<'static>>, AllocError> {
+    let mut rows = Vec::new(alloc);
+    let mut number = seed;
+    for doc in [2, 3, 5, 6, 9, 10, 11, 20] {
+        let second = next(number);
+        rows.push((doc, text_of(number), text_of(second)))?;
+        number = next(second);
+    }
+    Ok(rows)
+}
+
+/// An answer over random rows is what the scan finds.
+fn is_scan(rt: &impl Abort, alloc: Global, seed: u64) -> Result<(), Fail> {
+    let text = random_query(alloc, seed)?;
+    let query = parse(alloc, &text)?;
+    let rows = random_rows(alloc, next(seed))?;
+    let ids = answered(alloc, &rows, &query)?;
+    let want = scanned(alloc, &rows, &query)?;
+    assert_eq!(rt; ids.as_slice(), want.as_slice(), "{text:?} with {seed}");
     Ok(())
 }
 
 #[test]
 fn random_queries_find_what_the_scan_finds(rt: HostRuntime) -> Result<(), Fail> {
     let mut seed = 1;
-    for _ in 0..400 {
+    for _ in 0..1_000 {
         seed = next(seed);
-        is_scan(&rt, rt.alloc(), random_query(rt.alloc(), seed)?.as_slice())?;
+        is_scan(&rt, rt.alloc(), seed)?;
     }
     Ok(())
 }

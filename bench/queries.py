@@ -1,0 +1,188 @@
+#!/usr/bin/env python3
+"""Times searches of each kind, beside SQLite's FTS5 in the same run: bench/queries.py [ROWS] [--svg FILE]
+
+ROWS mails of 200 words each (100,000 by default), the common words often, as in prose. Each kind is asked 40 times. fts reads
+a search from a pipe and prints the ids; FTS5, in this process, counts the rows and prints none. Both find the same rows.
+It needs Python 3 with its sqlite3, and works below TMPDIR. With --svg it draws the times as bars.
+"""
+import argparse
+import os
+import random
+import sqlite3
+import subprocess
+import sys
+import tempfile
+import threading
+import time
+
+TOP = os.path.dirname(os.path.dirname(os.path.realpath(__file__)))
+WORDS = 50_000
+ASKED = 40
+MATCH = "SELECT FTS_DOC_ID FROM docs WHERE MATCH (body) AGAINST ('%s' IN BOOLEAN MODE)\n"
+
+
+def word_of(rank):
+    text = ""
+    while rank > 0 or len(text) < 4:
+        text += "bcdfghjklmnprstvwyz"[rank % 19] + "aeiou"[rank // 19 % 5]
+        rank //= 95
+    return text
+
+
+def texts_of(rows):
+    """Texts in which each doubling of a word's rank is as likely as any other."""
+    draw = random.Random(1)
+    vocabulary = [word_of(rank) for rank in range(1, WORDS + 1)]
+    weights = [1 / rank for rank in range(1, WORDS + 1)]
+    for rank in range(1, WORDS):
+        weights[rank] += weights[rank - 1]
+    return [draw.choices(vocabulary, cum_weights=weights, k=200) for _ in range(rows)]
+
+
+def kinds_of(texts):
+    """For each kind of search its queries, in both languages."""
+    draw = random.Random(2)
+
+    def some(low, high):
+        return word_of(draw.randrange(low, high))
+
+    def frequent():
+        return some(1, 60)
+
+    def middle():
+        return some(300, 1_500)
+
+    def rare():
+        return some(5_000, 40_000)
+
+    def together(count):
+        text = draw.choice(texts)
+        place = draw.randrange(len(text) - count)
+        return text[place : place + count]
+
+    def pair(mine, theirs, *makers):
+        made = [make() for make in makers]
+        return mine.format(*made), theirs.format(*made)
+
+    def phrase(count, mine, theirs):
+        words = " ".join(together(count))
+        return mine.format(words), theirs.format(words)
+
+    return {
+        "a rare word": lambda: pair("{}", "{}", rare),
+        "a word of the middle": lambda: pair("{}", "{}", middle),
+        "a frequent word": lambda: pair("{}", "{}", frequent),
+        "+a +b, both frequent": lambda: pair("+{} +{}", "{} AND {}", frequent, frequent),
+        "+a +b, frequent and rare": lambda: pair("+{} +{}", "{} AND {}", frequent, rare),
+        "+a -b, middle and frequent": lambda: pair("+{} -{}", "{} NOT {}", middle, frequent),
+        "+(a b) -c, of the middle": lambda: pair(
+            "+({} {}) -{}", "({} OR {}) NOT {}", middle, middle, middle
+        ),
+        "a prefix of 4 letters": lambda: pair("{}*", "{}*", lambda: middle()[:4]),
+        "a prefix of 2 letters": lambda: pair("{}*", "{}*", lambda: rare()[:2]),
+        "a phrase of 2 words": lambda: phrase(2, '"{}"', '"{}"'),
+        "a phrase of 3 words": lambda: phrase(3, '"{}"', '"{}"'),
+        "2 words at a distance of 5": lambda: phrase(2, '"{}" @5', "NEAR({}, 4)"),
+    }
+
+
+class Fts:
+    def __init__(self, program, folder):
+        subprocess.run([program, folder, "create", "--columns", "body"], check=True, stdout=subprocess.DEVNULL)
+        pipes = {"stdin": subprocess.PIPE, "stdout": subprocess.PIPE}
+        self.process = subprocess.Popen([program, folder, "run"], **pipes)
+
+    def ask(self, lines):
+        """The replies to lines, and the microseconds that one took."""
+        data = "".join(lines).encode()
+
+        def write():
+            self.process.stdin.write(data)
+            self.process.stdin.flush()
+
+        begun = time.perf_counter()
+        writer = threading.Thread(target=write)
+        writer.start()
+        replies = [self.process.stdout.readline() for _ in lines]
+        took = time.perf_counter() - begun
+        writer.join()
+        return replies, took / len(lines) * 1e6
+
+
+def found_by(reply):
+    ids = reply.decode().partition(": ")[2].split()
+    return 0 if ids == ["none"] else len(ids)
+
+
+def fts5_of(folder, texts):
+    base = sqlite3.connect(os.path.join(folder, "fts5"))
+    base.execute("CREATE VIRTUAL TABLE docs USING fts5(body)")
+    rows = ((row + 1, " ".join(text)) for row, text in enumerate(texts))
+    base.executemany("INSERT INTO docs (rowid, body) VALUES (?, ?)", rows)
+    base.commit()
+    return base
+
+
+def count_by(base, queries):
+    """How many rows queries find, and the microseconds that one took."""
+    begun = time.perf_counter()
+    counts = [base.execute("SELECT count(*) FROM docs WHERE docs MATCH ?", (it,)).fetchone()[0] for it in queries]
+    return counts, (time.perf_counter() - begun) / len(queries) * 1e6
+
+
+def measured(program, texts, folder):
+    fts = Fts(program, os.path.join(folder, "db"))
+    inserts = (f"INSERT INTO docs (id, body) VALUES ({row + 1}, '{' '.join(text)}')\n" for row, text in enumerate(texts))
+    _, insert = fts.ask(list(inserts))
+    print(f"an INSERT: {insert:.0f} us", file=sys.stderr)
+    base = fts5_of(folder, texts)
+    for kind, make in kinds_of(texts).items():
+        mine, theirs = zip(*(make() for _ in range(ASKED)))
+        lines = [MATCH % it for it in mine]
+        runs = [(fts.ask(lines), count_by(base, theirs)) for _ in range(3)]
+        found = [found_by(it) for it in runs[0][0][0]]
+        if found != runs[0][1][0]:
+            sys.exit(f"{kind}: fts finds {found}, FTS5 {runs[0][1][0]}")
+        yield kind, sum(found) // ASKED, min(it[0][1] for it in runs), min(it[1][1] for it in runs)
+    fts.process.stdin.close()
+    fts.process.wait()
+
+
+def svg_of(rows):
+    """The times as bars, by their logarithms from 1 microsecond on."""
+    from math import log10
+
+    lines = [f'<svg xmlns="http://www.w3.org/2000/svg" width="760" height="{40 * len(rows) + 50}" font-family="sans-serif" font-size="12">']
+    for place, (kind, _, mine, theirs) in enumerate(rows):
+        top = 40 * place + 30
+        lines.append(f'<text x="200" y="{top + 20}" text-anchor="end">{kind}</text>')
+        for name, took, shift, colour in (("fts", mine, 0, "#2b6cb0"), ("FTS5", theirs, 15, "#a0aec0")):
+            width = max(1, 100 * log10(max(took, 1)))
+            lines.append(f'<rect x="210" y="{top + shift}" width="{width:.0f}" height="13" fill="{colour}"/>')
+            lines.append(f'<text x="{216 + width:.0f}" y="{top + shift + 11}">{name} {took:,.0f} µs</text>')
+    lines.append(f'<text x="210" y="20">time of a search; a bar grows by the same length for each tenfold time</text></svg>')
+    return "\n".join(lines) + "\n"
+
+
+def main():
+    parser = argparse.ArgumentParser(description="Times searches of each kind beside FTS5.")
+    parser.add_argument("rows", nargs="?", type=int, default=100_000)
+    parser.add_argument("--svg", metavar="FILE", help="draw the times as bars")
+    parser.add_argument("--program", default=os.path.join(TOP, "crates/fts/out/fts"))
+    words = parser.parse_args()
+    texts = texts_of(words.rows)
+    rows = []
+    print("| Search | Rows found | fts | FTS5 | FTS5 takes |\n|---|---|---|---|---|")
+    with tempfile.TemporaryDirectory() as folder:
+        for row in measured(words.program, texts, folder):
+            kind, found, mine, theirs = row
+            print(f"| {kind} | {found:,} | {mine:,.0f} µs | {theirs:,.0f} µs | {theirs / mine:.1f} times |", flush=True)
+            rows.append(row)
+    print(f"load: {os.getloadavg()[0]:.1f} on {os.cpu_count()} processors", file=sys.stderr)
+    if words.svg:
+        with open(words.svg, "w", encoding="utf-8") as it:
+            it.write(svg_of(rows))
+
+
+if __name__ == "__main__":
+    main()
