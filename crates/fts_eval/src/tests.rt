@@ -324,12 +324,32 @@ fn is_scan(rt: &impl Abort, alloc: Global, seed: u64) -> Result<(), Fail> {
     Ok(())
 }
 
-#[test]
-fn random_queries_find_what_the_scan_finds(rt: HostRuntime) -> Result<(), Fail> {
-    let mut seed = 1;
-    for _ in 0..1_000 {
+/// 2,500 random queries from a seed on find what the scan finds.
+fn find_what_the_scan_finds(rt: &impl Abort, alloc: Global, seed: u64) -> Result<(), Fail> {
+    let mut seed = seed;
+    for _ in 0..2_500 {
         seed = next(seed);
-        is_scan(&rt, rt.alloc(), seed)?;
+        is_scan(rt, alloc, seed)?;
     }
     Ok(())
+}
+
+#[test]
+fn random_queries_find_what_the_scan_finds(rt: HostRuntime) -> Result<(), Fail> {
+    find_what_the_scan_finds(&rt, rt.alloc(), 1)
+}
+
+#[test]
+fn more_random_queries_do(rt: HostRuntime) -> Result<(), Fail> {
+    find_what_the_scan_finds(&rt, rt.alloc(), 2)
+}
+
+#[test]
+fn a_third_part_of_them_does(rt: HostRuntime) -> Result<(), Fail> {
+    find_what_the_scan_finds(&rt, rt.alloc(), 3)
+}
+
+#[test]
+fn a_fourth_part_of_them_does(rt: HostRuntime) -> Result<(), Fail> {
+    find_what_the_scan_finds(&rt, rt.alloc(), 4)
 }
