@@ -1,5 +1,5 @@
 -- A view of a query's leaves, and what the query finds in it, are the step that finds the rows in which it holds.
-use Rattle.std.proofs.Common.{◌≡◌, ℕ, ◌+◌, ◌<◌, List, [], ◌∷◌, length, refl, ap, subst, sym, ◌∙◌, map, filter, arith}
+use Rattle.std.proofs.Common.{◌≡◌, ℕ, ◌+◌, ◌<◌, List, [], ◌∷◌, length, refl, ap, subst, sym, ◌∙◌, map, filter, inl, inr, arith}
 use Rattle.std.proofs.lemmas.Bool.{false≢true}
 use Rattle.std.specs.Prelude.{Bool, true, false, IsTrue}
 use Rattle.std.specs.List.{AllPairs}
@@ -8,12 +8,14 @@ use Rattle.fts_ids.specs.Ids.{Ascend}
 use Rattle.fts_types.specs.declared.settings.Settings.{Settings}
 use Rattle.fts_types.specs.Rules.{rules_of}
 use Rattle.fts_types.specs.Row.{Row}
-use Rattle.fts_words.specs.Indexed.{Rules}
 use Rattle.fts_commits.specs.Commit.{Commit, replay}
 use Rattle.fts_meaning.specs.Tree.{Terms}
 use Rattle.fts_meaning.specs.Leaf.{Leaf, leaves}
 use Rattle.fts_meaning.specs.Scan.{scan}
 use Rattle.fts_meaning.specs.View.{View, StandsFor, view_of}
+use Rattle.fts_schema.specs.declared.reply.Reply.{Reply}
+use Rattle.fts_sessions.specs.Found.{IsFoundIn, TellsFound}
+use Rattle.fts_sessions.specs.Execute.{Makes}
 use Rattle.fts_eval.proofs.Answering.{ascend_from_increasing}
 use Rattle.fts_steps.specs.State.{State}
 use Rattle.fts_steps.specs.Running.{Running, What, made, failed, Entry, with_what, grown}
@@ -44,20 +46,16 @@ rows_ascend law commits =
     (ascend_from_increasing 0 (map (λ (row : Row). row.doc) (filter (λ (row : Row). true) rows))
     (λ k less. law commits (λ (row : Row). true) k (k + 1) 0 (omega arith) less) (λ less. omega arith))
 
--- what an answer says of its view
-abbrev pub Answers : View → Terms → List ℕ → Type 0
-Answers view terms docs = (rules : Rules) (rows : List Row) → Ascend (map (λ (row : Row). row.doc) rows) → StandsFor rules rows terms view → docs ≡ scan rules rows terms
-
-viewed_number : (a b : View) → viewed a ≡ viewed b → a ≡ b
-viewed_number a b same = cc
+one_view : (a b : View) → viewed a ≡ viewed b → a ≡ b
+one_view a b same = cc
 
 -- a database's view stands for its rows, and so the query finds the rows in which it holds
-finds_rows : IdsAscend → (state : State) (terms : Terms) (view : View) (docs : List ℕ) → viewed (state_view state (leaves (rules_of state.settings) terms)) ≡ viewed view → Answers view terms docs
+finds_rows : IdsAscend → (state : State) (terms : Terms) (view : View) (docs : List ℕ) → viewed (state_view state (leaves (rules_of state.settings) terms)) ≡ viewed view → IsFoundIn view terms docs
     → found (length state.commits) (scan (rules_of state.settings) (replay state.commits).list terms) ≡ found view.number docs
 finds_rows law state terms view docs told answers =
     let rules = rules_of state.settings in
     let rows = (replay state.commits).list in
-    let same : view_of rules rows (length state.commits) (leaves rules terms) ≡ view = viewed_number _ _ told in
+    let same : view_of rules rows (length state.commits) (leaves rules terms) ≡ view = one_view _ _ told in
     let number : length state.commits ≡ view.number = ap (λ (v : View). v.number) same in
     let stands : StandsFor rules rows terms view = sym same ∙ ap (λ (n : ℕ). view_of rules rows n (leaves rules terms)) number in
     ap (λ (n : ℕ). found n (scan rules rows terms)) number ∙ ap (found view.number) (sym (answers rules rows (rows_ascend law state.commits) stands))
@@ -80,12 +78,12 @@ module _ {S : Type 0} (sight : Sight S) (asked : List Leaf) (terms : Terms) (old
   }
 
   -- want of memory for the view, and for what is found in it
-  pub starved : (told : Answer) → is_disk_fault told ≡ false → Steps sight (to_view asked) told old new → Steps sight (to_find terms) no_memory old new
+  starved : (told : Answer) → is_disk_fault told ≡ false → Steps sight (to_view asked) told old new → Steps sight (to_find terms) no_memory old new
   starved told calm step = as_search told no_memory step calm refl (λ running stands. tt)
 
   -- what is found in it
-  pub finds : IdsAscend → (settings : Settings) (view : View) (docs : List ℕ) → asked ≡ leaves (rules_of settings) terms
-      → ((running : Running) → sight.stands running old → running.state.settings ≡ settings) → Answers view terms docs
+  finds : IdsAscend → (settings : Settings) (view : View) (docs : List ℕ) → asked ≡ leaves (rules_of settings) terms
+      → ((running : Running) → sight.stands running old → running.state.settings ≡ settings) → IsFoundIn view terms docs
       → Steps sight (to_view asked) (viewed view) old new → Steps sight (to_find terms) (found view.number docs) old new
   finds law settings view docs are told answers step =
       as_search (viewed view) (found view.number docs) step refl refl
@@ -94,3 +92,11 @@ module _ {S : Type 0} (sight : Sight S) (asked : List Leaf) (terms : Terms) (old
       let same : settings ≡ state.settings = sym (grown_settings running step.more ∙ told running stands) in
       let asks : asked ≡ leaves (rules_of state.settings) terms = are ∙ ap (λ (s : Settings). leaves (rules_of s) terms) same in
       finds_rows law state terms view docs (ap (λ (all : List Leaf). viewed (state_view state all)) (sym asks) ∙ step.may running stands) answers)
+
+  -- the reply that tells it is that of the search's step
+  pub told_found : IdsAscend → (settings : Settings) (view : View) (told : Reply) → asked ≡ leaves (rules_of settings) terms
+      → ((running : Running) → sight.stands running old → running.state.settings ≡ settings) → TellsFound view terms told
+      → Steps sight (to_view asked) (viewed view) old new → Makes sight (to_find terms) old told new
+  told_found law settings view told are kept (inl (docs, answers, is)) step =
+      record { answer = found view.number docs; made = finds law settings view docs are kept answers step; told = sym is }
+  told_found law settings view told are kept (inr is) step = record { answer = no_memory; made = starved (viewed view) refl step; told = sym is }

@@ -4,6 +4,7 @@ pub mod Request
 pub mod Texts
 pub mod Conversation
 pub mod Read
+pub mod Found
 pub mod Execute
 pub mod Direct
 pub mod Calm

@@ -4,7 +4,7 @@
 //! fault have one too. [`EngineSteps`] is what a session asks of an engine, and [`Direct`] an
 //! engine that one thread owns.
 //!
-//! A line costs its bytes and its steps.
+//! A line costs its bytes and its steps, and a search what its query's evaluation costs.
 #![tactic(auto)]
 
 mod direct;

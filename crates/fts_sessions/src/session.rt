@@ -5,7 +5,9 @@ ghost use Rattle.fts_steps.specs.Step.{to_commit, to_find};
 ghost use Rattle.fts_steps.specs.Answers.{commit_answer_of};
 ghost use Rattle.fts_query.specs.View.{tree_of};
 ghost use Rattle.fts_sessions.specs.Request.{inserts};
+ghost use Rattle.fts_query.specs.Seen.{view_seen};
 ghost use Rattle.fts_sessions.specs.Read.{next_of};
+ghost use Rattle.fts_sessions.specs.Found.{TellsFound};
 ghost use Rattle.fts_sessions.specs.Execute.{Executes, Makes, Does, Searches};
 ghost use Rattle.fts_sessions.specs.Texts.{AreFit};
 ghost use Rattle.fts_sessions.specs.Conversation.{asks, begins, match_begins, reply_to};
@@ -18,7 +20,7 @@ use crate::query::query_of;
 use fts_commits::{Change, ids_ascend};
 use fts_eval::{answer, leaves};
 use fts_io::{Gate, Point};
-use fts_query::Query;
+use fts_query::{Query, View};
 use fts_schema::Reply;
 use fts_sql::{ParseError, Statement, Values, parse_statement};
 use fts_steps::CommitError;
@@ -232,12 +234,19 @@ fn look_for<S: EngineSteps, G: Gate>(
     let view = steps.view(leaves);
     gate.pass(Point::Evaluate, number);
     match view {
-        Ok(view) => match answer(alloc, &view, query) {
-            Ok(docs) => Reply::Found {
-                number: view.number,
-                docs,
-            },
-            Err(AllocError) => Reply::NoMemory,
+        Ok(view) => found_in(alloc, &view, query),
+        Err(AllocError) => Reply::NoMemory,
+    }
+}
+
+// What tells what a query finds in a view.
+fn found_in(alloc: Global, view: &View, query: &Query) -> Reply
+    ensures { TellsFound (view_seen view.now) (tree_of query.now) result }
+{
+    match answer(alloc, view, query) {
+        Ok(docs) => Reply::Found {
+            number: view.number,
+            docs,
         },
         Err(AllocError) => Reply::NoMemory,
     }
