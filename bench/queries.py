@@ -1,9 +1,10 @@
 #!/usr/bin/env python3
-"""Times searches of each kind, beside SQLite's FTS5 in the same run: bench/queries.py [ROWS] [--svg FILE]
+"""Times searches of each kind, beside FTS5: bench/queries.py [ROWS] [--svg FILE]
 
-ROWS mails of 200 words each (100,000 by default), the common words often, as in prose. Each kind is asked 40 times. fts reads
-a search from a pipe and prints the ids; FTS5, in this process, counts the rows and prints none. Both find the same rows.
-It needs Python 3 with its sqlite3, and works below TMPDIR. With --svg it draws the times as bars.
+ROWS mails of 200 words each (100,000 by default), the common words often, as in prose. Each kind
+is asked 40 times, and both find the same rows. fts reads a search from a pipe and prints the ids;
+FTS5, in this process, counts the rows and prints none. It needs Python 3 with its sqlite3, and
+works below TMPDIR. With --svg it draws the times as bars.
 """
 import argparse
 import os
@@ -14,6 +15,7 @@ import sys
 import tempfile
 import threading
 import time
+from math import log10
 
 TOP = os.path.dirname(os.path.dirname(os.path.realpath(__file__)))
 WORDS = 50_000
@@ -56,9 +58,12 @@ def kinds_of(texts):
         return some(5_000, 40_000)
 
     def together(count):
-        text = draw.choice(texts)
-        place = draw.randrange(len(text) - count)
-        return text[place : place + count]
+        while True:
+            text = draw.choice(texts)
+            place = draw.randrange(len(text) - count)
+            words = text[place : place + count]
+            if len(set(words)) == count:
+                return words
 
     def pair(mine, theirs, *makers):
         made = [make() for make in makers]
@@ -88,7 +93,8 @@ def kinds_of(texts):
 
 class Fts:
     def __init__(self, program, folder):
-        subprocess.run([program, folder, "create", "--columns", "body"], check=True, stdout=subprocess.DEVNULL)
+        create = [program, folder, "create", "--columns", "body"]
+        subprocess.run(create, check=True, stdout=subprocess.DEVNULL)
         pipes = {"stdin": subprocess.PIPE, "stdout": subprocess.PIPE}
         self.process = subprocess.Popen([program, folder, "run"], **pipes)
 
@@ -126,15 +132,16 @@ def fts5_of(folder, texts):
 def count_by(base, queries):
     """How many rows queries find, and the microseconds that one took."""
     begun = time.perf_counter()
-    counts = [base.execute("SELECT count(*) FROM docs WHERE docs MATCH ?", (it,)).fetchone()[0] for it in queries]
+    count = "SELECT count(*) FROM docs WHERE docs MATCH ?"
+    counts = [base.execute(count, (it,)).fetchone()[0] for it in queries]
     return counts, (time.perf_counter() - begun) / len(queries) * 1e6
 
 
 def measured(program, texts, folder):
     fts = Fts(program, os.path.join(folder, "db"))
-    inserts = (f"INSERT INTO docs (id, body) VALUES ({row + 1}, '{' '.join(text)}')\n" for row, text in enumerate(texts))
-    _, insert = fts.ask(list(inserts))
-    print(f"an INSERT: {insert:.0f} us", file=sys.stderr)
+    insert = "INSERT INTO docs (id, body) VALUES (%d, '%s')\n"
+    _, took = fts.ask([insert % (row + 1, " ".join(text)) for row, text in enumerate(texts)])
+    print(f"an INSERT: {took:.0f} us", file=sys.stderr)
     base = fts5_of(folder, texts)
     for kind, make in kinds_of(texts).items():
         mine, theirs = zip(*(make() for _ in range(ASKED)))
@@ -150,17 +157,19 @@ def measured(program, texts, folder):
 
 def svg_of(rows):
     """The times as bars, by their logarithms from 1 microsecond on."""
-    from math import log10
-
-    lines = [f'<svg xmlns="http://www.w3.org/2000/svg" width="760" height="{40 * len(rows) + 50}" font-family="sans-serif" font-size="12">']
+    size = f'width="760" height="{40 * len(rows) + 50}"'
+    font = 'font-family="sans-serif" font-size="12"'
+    lines = [f'<svg xmlns="http://www.w3.org/2000/svg" {size} {font}>']
     for place, (kind, _, mine, theirs) in enumerate(rows):
         top = 40 * place + 30
         lines.append(f'<text x="200" y="{top + 20}" text-anchor="end">{kind}</text>')
-        for name, took, shift, colour in (("fts", mine, 0, "#2b6cb0"), ("FTS5", theirs, 15, "#a0aec0")):
-            width = max(1, 100 * log10(max(took, 1)))
-            lines.append(f'<rect x="210" y="{top + shift}" width="{width:.0f}" height="13" fill="{colour}"/>')
-            lines.append(f'<text x="{216 + width:.0f}" y="{top + shift + 11}">{name} {took:,.0f} µs</text>')
-    lines.append(f'<text x="210" y="20">time of a search; a bar grows by the same length for each tenfold time</text></svg>')
+        bars = (("fts", mine, top, "#2b6cb0"), ("FTS5", theirs, top + 15, "#a0aec0"))
+        for name, took, y, colour in bars:
+            width = max(1, round(100 * log10(max(took, 1))))
+            bar = f'<rect x="210" y="{y}" width="{width}" height="13" fill="{colour}"/>'
+            lines.append(f'{bar}<text x="{216 + width}" y="{y + 11}">{name} {took:,.0f} µs</text>')
+    title = "time of a search; a bar grows by the same length for each tenfold time"
+    lines.append(f'<text x="210" y="20">{title}</text></svg>')
     return "\n".join(lines) + "\n"
 
 
@@ -176,7 +185,8 @@ def main():
     with tempfile.TemporaryDirectory() as folder:
         for row in measured(words.program, texts, folder):
             kind, found, mine, theirs = row
-            print(f"| {kind} | {found:,} | {mine:,.0f} µs | {theirs:,.0f} µs | {theirs / mine:.1f} times |", flush=True)
+            times = f"{mine:,.0f} µs | {theirs:,.0f} µs | {theirs / mine:.1f} times"
+            print(f"| {kind} | {found:,} | {times} |", flush=True)
             rows.append(row)
     print(f"load: {os.getloadavg()[0]:.1f} on {os.cpu_count()} processors", file=sys.stderr)
     if words.svg:
