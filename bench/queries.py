@@ -2,9 +2,10 @@
 """Times searches of each kind, beside FTS5: bench/queries.py [ROWS] [--svg FILE]
 
 ROWS mails of 200 words each (100,000 by default), the common words often, as in prose. Each kind
-is asked 40 times, and both find the same rows. fts reads a search from a pipe and prints the ids;
-FTS5, in this process, counts the rows and prints none. It needs Python 3 with its sqlite3, and
-works below TMPDIR. With --svg it draws the times as bars.
+is asked 40 times, and both find the same rows. fts reads a statement from a pipe and writes the
+ids into another; FTS5, in this process, makes one text of them (group_concat). Told is the
+processor's time for one search, the least of five turns. It needs Python 3 with its sqlite3 and
+Linux, and works below TMPDIR. With --svg it draws the times as bars.
 """
 import argparse
 import os
@@ -98,6 +99,11 @@ class Fts:
         pipes = {"stdin": subprocess.PIPE, "stdout": subprocess.PIPE}
         self.process = subprocess.Popen([program, folder, "run"], **pipes)
 
+    def worked(self):
+        """The nanoseconds that its processor worked."""
+        with open(f"/proc/{self.process.pid}/schedstat", encoding="ascii") as it:
+            return int(it.read().split()[0])
+
     def ask(self, lines):
         """The replies to lines, and the microseconds that one took."""
         data = "".join(lines).encode()
@@ -106,13 +112,12 @@ class Fts:
             self.process.stdin.write(data)
             self.process.stdin.flush()
 
-        begun = time.perf_counter()
+        begun = self.worked()
         writer = threading.Thread(target=write)
         writer.start()
         replies = [self.process.stdout.readline() for _ in lines]
-        took = time.perf_counter() - begun
         writer.join()
-        return replies, took / len(lines) * 1e6
+        return replies, (self.worked() - begun) / len(lines) / 1e3
 
 
 def found_by(reply):
@@ -129,12 +134,13 @@ def fts5_of(folder, texts):
     return base
 
 
-def count_by(base, queries):
+def asked_of(base, queries):
     """How many rows queries find, and the microseconds that one took."""
-    begun = time.perf_counter()
-    count = "SELECT count(*) FROM docs WHERE docs MATCH ?"
-    counts = [base.execute(count, (it,)).fetchone()[0] for it in queries]
-    return counts, (time.perf_counter() - begun) / len(queries) * 1e6
+    begun = time.thread_time_ns()
+    ids = "SELECT group_concat(rowid, ' ') FROM docs WHERE docs MATCH ?"
+    texts = [base.execute(ids, (it,)).fetchone()[0] for it in queries]
+    took = (time.thread_time_ns() - begun) / len(queries) / 1e3
+    return [len((it or "").split()) for it in texts], took
 
 
 def measured(program, texts, folder):
@@ -146,7 +152,7 @@ def measured(program, texts, folder):
     for kind, make in kinds_of(texts).items():
         mine, theirs = zip(*(make() for _ in range(ASKED)))
         lines = [MATCH % it for it in mine]
-        runs = [(fts.ask(lines), count_by(base, theirs)) for _ in range(3)]
+        runs = [(fts.ask(lines), asked_of(base, theirs)) for _ in range(5)]
         found = [found_by(it) for it in runs[0][0][0]]
         if found != runs[0][1][0]:
             sys.exit(f"{kind}: fts finds {found}, FTS5 {runs[0][1][0]}")
@@ -168,7 +174,7 @@ def svg_of(rows):
             width = max(1, round(100 * log10(max(took, 1))))
             bar = f'<rect x="210" y="{y}" width="{width}" height="13" fill="{colour}"/>'
             lines.append(f'{bar}<text x="{216 + width}" y="{y + 11}">{name} {took:,.0f} µs</text>')
-    title = "time of a search; a bar grows by the same length for each tenfold time"
+    title = "processor's time of a search; a bar grows by the same length for each tenfold time"
     lines.append(f'<text x="210" y="20">{title}</text></svg>')
     return "\n".join(lines) + "\n"
 
