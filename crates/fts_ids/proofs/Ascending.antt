@@ -98,7 +98,7 @@ below_at n (x ∷ xs) (suc k) id up lt h =
     (λ later. below_at (x + 1) xs k id up.1 here later)
     (one_of (nat_eq id x) (has (take k xs) id) h)
 
-has-more : (xs : List ℕ) (k : ℕ) (id : ℕ) → k < length xs → has (take (k + 1) xs) id ≡ (has (take k xs) id || (nat_eq id (get_or xs k 0) || false))
+pub has-more : (xs : List ℕ) (k : ℕ) (id : ℕ) → k < length xs → has (take (k + 1) xs) id ≡ (has (take k xs) id || (nat_eq id (get_or xs k 0) || false))
 has-more xs k id lt = ap (λ ys. has ys id) (take_more xs k 0 lt) ∙ list_any-append (nat_eq id) (take k xs) (get_or xs k 0 ∷ [])
 
 pub AscendFrom-take : (n : ℕ) (xs : List ℕ) (k : ℕ) → AscendFrom n xs → AscendFrom n (take k xs)

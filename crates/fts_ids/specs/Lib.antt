@@ -1,2 +1,3 @@
 pub mod Ids
 pub mod Union
+pub mod Marks

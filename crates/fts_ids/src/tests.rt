@@ -40,3 +40,17 @@ fn many_lists_are_united(rt: HostRuntime) -> Result<(), Fail> {
     assert!(rt; none.is_empty());
     Ok(())
 }
+
+// Lists whose ids lie far apart.
+#[test]
+fn sparse_lists_are_united(rt: HostRuntime) -> Result<(), Fail> {
+    let alloc = rt.alloc();
+    let all = union_all(
+        alloc,
+        &[&[900], &[7, 4_000], &[], &[7, 900, 4_001], &[1_000]],
+    )?;
+    assert_eq!(rt; all.as_slice(), [7, 900, 1_000, 4_000, 4_001].as_slice());
+    let last = union_all(alloc, &[&[u64::MAX], &[0], &[u64::MAX], &[1]])?;
+    assert_eq!(rt; last.as_slice(), [0, 1, u64::MAX].as_slice());
+    Ok(())
+}

@@ -4,8 +4,15 @@ ghost use Rattle.std.specs.List.{list_any};
 ghost use Rattle.fts_ids.specs.Ids.{Ascend, AscendFrom, has};
 ghost use Rattle.fts_ids.specs.Union.{IsUniting};
 
+use crate::marks::{by_marks, largest};
 use fts_types::DocId;
 use std::alloc::{AllocError, Global};
+
+/// From so many lists on marks may cost less than halves.
+const MANY: usize = 4;
+
+/// Up to so many marks for an id of a list are made.
+const DENSE: u64 = 8;
 
 /// The ids behind one that none of them is below: without the first, where that is it.
 fn behind<'a>(ids: &'a [DocId], id: DocId) -> &'a [DocId]
@@ -59,8 +66,35 @@ pub fn union(alloc: Global, a: &[DocId], b: &[DocId]) -> Result<Vec<DocId>, Allo
 
 /// The ids that one of the lists has, ascending, each once. The only refusal is for want of memory.
 ///
-/// It unites by halves: an id is written at most as often as the number of lists can be halved.
+/// Where ids are dense, each is marked, which costs the ids and the largest one. Else lists are
+/// united by halves: an id is written at most as often as their number can be halved.
 pub fn union_all(alloc: Global, lists: &[&[DocId]]) -> Result<Vec<DocId>, AllocError>
+    requires { All (λ list. Ascend list.now) lists.now }
+    ensures ascend { IfOk result (λ all. Ascend all.items) }
+    ensures each { IfOk result (λ all. (id : ℕ)
+        → has all.items id ≡ list_any (λ list. has list.now id) lists.now) }
+{
+    let largest = largest(lists);
+    if lists.len() < MANY || largest / DENSE > count(lists) as u64 {
+        return by_halves(alloc, lists);
+    }
+    match (largest as usize).checked_add(1) {
+        Some(size) => by_marks(alloc, lists, size),
+        None => by_halves(alloc, lists),
+    }
+}
+
+/// How many ids the lists have, each counted in each list.
+fn count(lists: &[&[DocId]]) -> usize {
+    let mut count: usize = 0;
+    for list in lists {
+        count = count.saturating_add(list.len());
+    }
+    count
+}
+
+/// The ids that one of the lists has.
+fn by_halves(alloc: Global, lists: &[&[DocId]]) -> Result<Vec<DocId>, AllocError>
     requires { All (λ list. Ascend list.now) lists.now }
     ensures ascend { IfOk result (λ all. Ascend all.items) }
     ensures each { IfOk result (λ all. (id : ℕ)
@@ -71,8 +105,8 @@ pub fn union_all(alloc: Global, lists: &[&[DocId]]) -> Result<Vec<DocId>, AllocE
         [one] => one.to_vec(alloc),
         _ => {
             let (front, back) = lists.split_at(lists.len() / 2);
-            let a = union_all(alloc, front)?;
-            let b = union_all(alloc, back)?;
+            let a = by_halves(alloc, front)?;
+            let b = by_halves(alloc, back)?;
             union(alloc, &a, &b)
         }
     }

@@ -28,8 +28,10 @@ fn word_ids(alloc: Global, cache: &Cache, word: &[u8]) -> Result<IdList, AllocEr
     ensures ids { IfOk result (λ ids. ids ≡ ids_of (postings_of cache.now word.now)) }
 {
     let mut ids = Vec::new(alloc);
-    for document in cache.postings(word) {
-        ids.push(document.id())?;
+    let mut documents = cache.postings(word);
+    while let Some(id) = documents.doc() {
+        ids.push(id)?;
+        documents.advance();
     }
     Ok(IdList::new(ids))
 }
