@@ -49,8 +49,11 @@ def kinds_of(texts):
     def some(low, high):
         return word_of(draw.randrange(low, high))
 
-    def frequent():
+    def common():
         return some(1, 60)
+
+    def frequent():
+        return some(100, 200)
 
     def middle():
         return some(300, 1_500)
@@ -78,9 +81,11 @@ def kinds_of(texts):
         "a rare word": lambda: pair("{}", "{}", rare),
         "a word of the middle": lambda: pair("{}", "{}", middle),
         "a frequent word": lambda: pair("{}", "{}", frequent),
+        "a word of half the mails": lambda: pair("{}", "{}", common),
         "+a +b, both frequent": lambda: pair("+{} +{}", "{} AND {}", frequent, frequent),
         "+a +b, frequent and rare": lambda: pair("+{} +{}", "{} AND {}", frequent, rare),
-        "+a -b, middle and frequent": lambda: pair("+{} -{}", "{} NOT {}", middle, frequent),
+        "+a +b, both of half": lambda: pair("+{} +{}", "{} AND {}", common, common),
+        "+a -b, frequent and middle": lambda: pair("+{} -{}", "{} NOT {}", frequent, middle),
         "+(a b) -c, of the middle": lambda: pair(
             "+({} {}) -{}", "({} OR {}) NOT {}", middle, middle, middle
         ),
