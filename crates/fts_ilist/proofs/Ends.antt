@@ -1,16 +1,11 @@
 -- Where a document ends, found by its bytes alone.
-use Rattle.std.proofs.Common.{◌≡◌, ℕ, zero, suc, ◌+◌, ◌-◌, ◌/◌, ◌%◌, ◌<◌, ◌≤◌, List, [], ◌∷◌, ◌++◌, length, true, false, if◌then◌else◌, refl, ap, ◌∙◌, append_assoc, arith, inl, inr}
+use Rattle.std.proofs.Common.{◌≡◌, drop, get_or, ℕ, zero, suc, ◌+◌, ◌-◌, ◌/◌, ◌%◌, ◌<◌, ◌≤◌, List, [], ◌∷◌, ◌++◌, length, true, false, if◌then◌else◌, refl, ap, ◌∙◌, append_assoc, arith, inl, inr, Bool, nat_lt, ap₂, sym}
 use Rattle.std.proofs.lemmas.Bool.{cases_lt, lt-ltb, le-ltb, ne_eqb}
-use Rattle.std.proofs.lemmas.List.{length-append}
+use Rattle.std.proofs.lemmas.List.{length-append, length-drop, drop_more, drop_all, drop-drop, get_or-drop}
 use Rattle.fts_ilist.specs.Number.{groups, number_bytes}
 use Rattle.fts_ilist.specs.Spelling.{items_bytes, position_items, PositionsFrom, ArePositions}
-use Rattle.fts_ilist.specs.Progress.{is_end, BeginsBody, EndsBody}
+use Rattle.fts_ilist.specs.Progress.{is_end, to_end, HasNoEndBefore, BeginsBody, EndsBody}
 use Rattle.fts_ilist.proofs.Groups.{all_groups, number_is, length_number}
-
--- how many bytes stand before the first that ends a document
-unfoldable pub to_end : ℕ → List ℕ → ℕ
-to_end before [] = 0
-to_end before (b ∷ bs) = if is_end before b then 0 else 1 + to_end b bs
 
 pub end_here : (before b : ℕ) (bs : List ℕ) → is_end before b ≡ true → to_end before (b ∷ bs) ≡ 0
 unfolding to_end
@@ -107,3 +102,58 @@ body_ends bytes at e = λ positions rest are body. omega (arith, e, ap (to_end 0
 pub end_within : (bytes : List ℕ) → BeginsBody bytes → to_end 0 bytes < length bytes
 end_within bytes b =
     omega (arith, ap (to_end 0) b.body, ends_positions b.positions b.rest b.are_positions, ap length b.body, length-append (items_bytes (position_items 0 b.positions)) (0 ∷ b.rest))
+
+-- ---- bytes that are passed since none of them is 00
+
+-- the byte before a place, where this one stands before all
+abbrev pub last_before : ℕ → List ℕ → ℕ → ℕ
+last_before before bs zero = before
+last_before before [] (suc k) = before
+last_before before (b ∷ bs) (suc k) = last_before b bs k
+
+pub passed_to : (before : ℕ) (bs : List ℕ) (k : ℕ) → k ≤ length bs → ((j : ℕ) → j < k → get_or bs j 0 ≡ 0 → ⊥)
+    → to_end before bs ≡ k + to_end (last_before before bs k) (drop k bs)
+passed_to before bs zero within none = omega arith
+passed_to before [] (suc k) within none = absurd (omega (arith, within))
+passed_to before (b ∷ bs) (suc k) within none =
+    let some : b ≡ 0 → ⊥ = none 0 (omega arith) in
+    let rest = passed_to b bs k (omega (arith, within)) (λ j less. none (suc j) (omega (arith, less))) in
+    end_later before b bs (is_positive before b (omega (arith, some))) ∙ omega (arith, rest)
+
+pub last_is : (before : ℕ) (bs : List ℕ) (k : ℕ) → k < length bs → last_before before bs (suc k) ≡ get_or bs k 0
+last_is before [] k within = absurd (omega (arith, within))
+last_is before (b ∷ bs) zero within = refl
+last_is before (b ∷ bs) (suc k) within = last_is b bs k (omega (arith, within))
+
+-- the first 00 of the bytes from a place on, and the byte before it
+pub far_step : (bytes hay : List ℕ) (at before k found : ℕ) → hay ≡ drop at bytes → at ≤ length bytes → HasNoEndBefore bytes at before → k < length hay
+    → ((j : ℕ) → j < k → get_or hay j 0 ≡ 0 → ⊥) → get_or hay k 0 ≡ 0 → found ≡ (if nat_lt at (at + k) then get_or bytes (at + k - 1) 0 else before)
+    → to_end 0 bytes ≡ (at + k) + to_end found (0 ∷ drop (at + k + 1) bytes)
+far_step bytes hay at before k found same within no_end_yet inside none zero_there found_is =
+    let rest : drop k hay ≡ 0 ∷ drop (at + k + 1) bytes =
+    drop_more hay k 0 inside
+    ∙ ap₂ (λ (b : ℕ) (bs : List ℕ). b ∷ bs) zero_there
+    (ap (drop (k + 1)) same ∙ drop-drop (k + 1) at bytes ∙ ap (λ (n : ℕ). drop n bytes) (omega arith)) in
+    let steps : to_end before hay ≡ k + to_end found (0 ∷ drop (at + k + 1) bytes) =
+    passed_to before hay k (omega (arith, inside)) none
+    ∙ ap₂ (λ (b : ℕ) (bs : List ℕ). k + to_end b bs) (before_is k (omega (arith, inside)) ∙ sym found_is) rest in
+    no_end_yet ∙ ap (λ (bs : List ℕ). at + to_end before bs) (sym same) ∙ omega (arith, steps)
+  where
+    before_is : (k : ℕ) → k ≤ length hay → last_before before hay k ≡ (if nat_lt at (at + k) then get_or bytes (at + k - 1) 0 else before)
+    before_is zero less = ap (λ (b : Bool). if b then get_or bytes (at + 0 - 1) 0 else before) (sym (le-ltb at (at + 0) (omega arith)))
+    before_is (suc j) less =
+        last_is before hay j (omega (arith, less))
+        ∙ ap (λ (bs : List ℕ). get_or bs j 0) same
+        ∙ get_or-drop at bytes j 0
+        ∙ ap (λ (n : ℕ). get_or bytes n 0) (omega arith)
+        ∙ ap (λ (b : Bool). if b then get_or bytes (at + suc j - 1) 0 else before) (sym (lt-ltb at (at + suc j) (omega arith)))
+
+-- without a 00 no document ends
+pub no_zero : (bytes hay : List ℕ) (at before : ℕ) → hay ≡ drop at bytes → at ≤ length bytes → HasNoEndBefore bytes at before
+    → ((j : ℕ) → j < length hay → get_or hay j 0 ≡ 0 → ⊥) → BeginsBody bytes → ⊥
+no_zero bytes hay at before same within no_end_yet none body =
+    let long : length hay ≡ length bytes - at = ap length same ∙ length-drop at bytes in
+    let passed = passed_to before hay (length hay) (omega arith) none in
+    let nothing : to_end (last_before before hay (length hay)) (drop (length hay) hay) ≡ 0 = ap (to_end (last_before before hay (length hay))) (drop_all (length hay) hay (omega arith)) ∙ no_end _ in
+    let all : to_end 0 bytes ≡ at + to_end before hay = no_end_yet ∙ ap (λ (bs : List ℕ). at + to_end before bs) (sym same) in
+    omega (arith, long, passed, nothing, all, within, end_within bytes body)

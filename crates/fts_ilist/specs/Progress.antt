@@ -82,6 +82,15 @@ pub record ReadsDocument (bytes : List ℕ) (at last id start end : ℕ) : Type 
 abbrev pub is_end : ℕ → ℕ → Bool
 is_end before byte = if nat_lt before 128 then false else (byte == 0)
 
+-- how many bytes stand before the first that ends a document
+unfoldable pub to_end : ℕ → List ℕ → ℕ
+to_end before [] = 0
+to_end before (b ∷ bs) = if is_end before b then 0 else 1 + to_end b bs
+
+-- up to a place, before which this byte stands, no document ends
+abbrev pub HasNoEndBefore : List ℕ → ℕ → ℕ → Type 0
+HasNoEndBefore bytes at before = to_end 0 bytes ≡ at + to_end before (drop at bytes)
+
 -- the bytes begin with positions of a document, and its end
 pub record BeginsBody (bytes : List ℕ) : Type 0 where
   pub positions : List ℕ

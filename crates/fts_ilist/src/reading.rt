@@ -7,8 +7,11 @@ ghost use Rattle.fts_ilist.specs.Reading.State.{between, inside};
 ghost use Rattle.fts_ilist.specs.Fault.{IsFirstFault};
 ghost use Rattle.fts_ilist.specs.Progress.{ReadsItems, GetsStuck, ReadsIncrease, HasNoIncrease};
 ghost use Rattle.fts_ilist.specs.Progress.{ReadsBody, ReadsDocument, is_end, BeginsBody, EndsBody};
+ghost use Rattle.fts_ilist.specs.Progress.{HasNoEndBefore};
+ghost use Rattle.std.specs.Prelude.{if◌then◌else◌, nat_lt, ◌-◌};
 
 use crate::number::{Bad, take_number};
+use memchr::memchr;
 
 /// The largest id of a document.
 pub const LAST_ID: u64 = (1 << 63) - 1;
@@ -129,6 +132,42 @@ fn is_document_end(before: u8, byte: u8) -> bool
     byte == 0 && before >= 128
 }
 
+/// So many bytes are looked at one by one for a document's end. Most documents have a word only a
+/// few times, and end before.
+const NEAR: usize = 4;
+
+/// The byte before a place, where from an earlier place on none is 00 and this one stands before
+/// that.
+#[inline]
+fn byte_before(bytes: &[u8], from: usize, end: usize, before: u8) -> u8
+    requires order { from ≤ end }
+    requires within { end ≤ length bytes.now }
+    ensures { result ≡ (if nat_lt from end then slice_index bytes.now (end - 1) else before) }
+{
+    if from < end { bytes[end - 1] } else { before }
+}
+
+/// The first end of a document from a place on, found by its 00, many bytes at once. Before the
+/// place stands this byte, and no end.
+fn far_body_len(bytes: &[u8], from: usize, last: u8) -> usize
+    requires body { BeginsBody bytes.now }
+    requires from { from ≤ length bytes.now }
+    requires passed { HasNoEndBefore bytes.now from last }
+    ensures { EndsBody bytes.now result }
+{
+    let mut at = from;
+    let mut before = last;
+    while let Some(passed) = memchr(0, &bytes[at..]) {
+        let end = at + passed;
+        if is_document_end(byte_before(bytes, at, end, before), 0) {
+            return end + 1;
+        }
+        before = 0;
+        at = end + 1;
+    }
+    unreachable!()
+}
+
 /// How many bytes a document's positions and its end take, at the front of bytes that are known to
 /// be right: up to the first 00 behind a byte of 128 or more. No position is decoded.
 #[inline]
@@ -138,6 +177,9 @@ pub(crate) fn body_len(bytes: &[u8]) -> usize
 {
     let mut before = 0;
     for (at, byte) in bytes.iter().enumerate() {
+        if at == NEAR {
+            return far_body_len(bytes, at, before);
+        }
         if is_document_end(before, *byte) {
             return at + 1;
         }

@@ -11,7 +11,7 @@ use Rattle.fts_commits.specs.Commit.{Rows}
 use Rattle.fts_words.specs.Indexed.{Rules}
 use Rattle.fts_index.specs.declared.index.Index.{Index}
 use Rattle.fts_index.specs.declared.index.CommitPlan.{CommitPlan}
-use Rattle.fts_index.specs.Words.{row_postings, rows_postings}
+use Rattle.fts_entries.specs.Words.{row_postings, rows_postings}
 use Rattle.fts_index.specs.Births.{AreBirths}
 use Rattle.fts_index.specs.Index.{IdsAscendFrom, Indexes, WillIndex}
 use Rattle.fts_index.proofs.Births.{rows_join, last_after, documents_end, same_postings}

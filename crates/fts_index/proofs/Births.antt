@@ -10,7 +10,7 @@ use Rattle.fts_types.specs.Row.{Row, row_of}
 use Rattle.fts_types.specs.declared.row.Row.{Row as Kept}
 use Rattle.fts_commits.specs.Turn.{RowsAscend}
 use Rattle.fts_index.specs.Births.{CanIndex}
-use Rattle.fts_index.specs.Words.{row_postings, rows_postings}
+use Rattle.fts_entries.specs.Words.{row_postings, rows_postings}
 use Rattle.fts_index.specs.Document.{HasWordsOf, HaveWordsOf}
 use Rattle.fts_index.specs.Index.{IdsAscendFrom}
 

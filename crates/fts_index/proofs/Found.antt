@@ -11,7 +11,7 @@ use Rattle.fts_ilist.specs.Spelling.{Posting}
 use Rattle.fts_types.specs.Row.{Row}
 use Rattle.fts_meaning.specs.Holds.{some_indexed}
 use Rattle.fts_meaning.specs.View.{has_word, ids_where}
-use Rattle.fts_index.specs.Words.{posting_at, row_postings, rows_postings}
+use Rattle.fts_entries.specs.Words.{posting_at, row_postings, rows_postings}
 use Rattle.fts_index.specs.Gathered.{ids_of}
 
 symmetric : (v w : List ℕ) → bytes_eq v w ≡ bytes_eq w v

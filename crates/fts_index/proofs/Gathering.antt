@@ -24,7 +24,7 @@ use Rattle.fts_meaning.specs.View.{has_word, has_words, is_candidate, needs_text
 use Rattle.fts_query.specs.declared.view.Postings.{Postings}
 use Rattle.fts_query.specs.Seen.{leaf_seen, postings_seen}
 use Rattle.fts_query.proofs.Chosen.{has_where, where_ascends}
-use Rattle.fts_index.specs.Words.{rows_postings}
+use Rattle.fts_entries.specs.Words.{rows_postings}
 use Rattle.fts_index.specs.Gathered.{ids_of, doc_has, doc_has_words, HasPrefix, IsAskedFor, AreAskedFor, AreTold, is_needed, IsGathered}
 use Rattle.fts_index.specs.declared.gather.Gathered.{Gathered}
 use Rattle.fts_index.proofs.Found.{rows_having}

@@ -18,7 +18,7 @@ use Rattle.fts_cache.specs.Document.{Document, WordPositions, document_size, fou
 use Rattle.fts_cache.proofs.Queues.{which_word, is_same}
 use Rattle.fts_cache.proofs.Documents.{size_push, found_here, found_later}
 use Rattle.fts_index.specs.declared.occurrence.Occurrence.{Occurrence}
-use Rattle.fts_index.specs.Words.{posting_at, row_postings}
+use Rattle.fts_entries.specs.Words.{posting_at, row_postings}
 use Rattle.fts_index.specs.Occurrences.{comes_before, is_of, positions_among, AreSorted}
 use Rattle.fts_index.proofs.Sorting.{ranks}
 use Rattle.fts_index.proofs.Bounds.{positions_spelled}

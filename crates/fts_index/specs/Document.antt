@@ -2,7 +2,7 @@ use Rattle.std.specs.Prelude.{◌≡◌, ℕ, List, [], ◌∷◌}
 use Rattle.fts_words.specs.Indexed.{Rules}
 use Rattle.fts_cache.specs.Document.{Document, document_postings}
 use Rattle.fts_types.specs.Row.{Row}
-use Rattle.fts_index.specs.Words.{row_postings}
+use Rattle.fts_entries.specs.Words.{row_postings}
 
 -- the document has exactly the row's indexed words, each with its positions
 pub record HasWordsOf (rules : Rules) (row : Row) (document : Document) : Type 0 where

@@ -5,7 +5,7 @@ use Rattle.fts_cache.specs.Cache.{postings_of, HasRoom}
 use Rattle.fts_types.specs.Row.{Row}
 use Rattle.fts_commits.specs.Commit.{Rows}
 use Rattle.fts_commits.specs.Turn.{RowsAscend}
-use Rattle.fts_index.specs.Words.{rows_postings}
+use Rattle.fts_entries.specs.Words.{rows_postings}
 use Rattle.fts_index.specs.Document.{HaveWordsOf}
 use Rattle.fts_index.specs.declared.index.Index.{Index}
 use Rattle.fts_index.specs.declared.index.CommitPlan.{CommitPlan}

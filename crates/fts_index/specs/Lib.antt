@@ -1,4 +1,3 @@
-pub mod Words
 pub mod Occurrences
 pub mod Document
 pub mod Births

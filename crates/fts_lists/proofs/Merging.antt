@@ -44,7 +44,7 @@ or_move true false c = refl
 or_move false true c = refl
 or_move false false c = refl
 
-has-with_ids : (ids more : List ℕ) (id : ℕ) → has (with_ids ids more) id ≡ (has ids id || has more id)
+pub has-with_ids : (ids more : List ℕ) (id : ℕ) → has (with_ids ids more) id ≡ (has ids id || has more id)
 has-with_ids ids [] id = sym (or_false (has ids id))
 has-with_ids ids (x ∷ xs) id =
     has-with_ids (with_id ids x) xs id

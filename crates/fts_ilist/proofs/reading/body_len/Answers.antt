@@ -1,6 +1,7 @@
 use Rattle.std.proofs.Common.{arith, ◌≡◌, ap, sym, drop, ◌∙◌}
 use Rattle.std.proofs.lemmas.List.{drop_more, drop_all}
-use Rattle.fts_ilist.proofs.Ends.{to_end, end_here, end_later, no_end, body_ends, end_within}
+use Rattle.fts_ilist.proofs.Ends.{end_here, end_later, no_end, body_ends, end_within}
+use Rattle.fts_ilist.specs.Progress.{to_end}
 use Rattle.fts_ilist.proofs.reading.body_len.Goals as goal
 
 pub returns-then-is_document_end : goal.returns-then-is_document_end

@@ -1,5 +1,5 @@
 use Rattle.std.proofs.Common.{◌≡◌, ◌+◌, drop}
-use Rattle.fts_ilist.proofs.Ends.{to_end}
+use Rattle.fts_ilist.specs.Progress.{to_end}
 use Rattle.fts_ilist.proofs.reading.body_len.Given as goal
 
 abbrev pub invariant-loop-at : goal.invariant-loop-at

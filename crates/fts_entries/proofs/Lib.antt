@@ -1,0 +1,9 @@
+pub mod Filters
+pub mod Postings
+pub mod Turns
+pub mod Packing
+pub mod Batches
+pub mod Kept
+pub mod Commits
+pub mod Passes
+mod WorkedRows

@@ -1,0 +1,11 @@
+use Rattle.fts_entries.proofs.Kept.{still_exact, still_fits, comes_after}
+use Rattle.fts_entries.proofs.laws.batches_keep.Goals as goal
+
+pub returns-clause-exact : goal.returns-clause-exact
+returns-clause-exact c = still_exact
+
+pub returns-clause-fits : goal.returns-clause-fits
+returns-clause-fits c = still_fits
+
+pub returns-clause-behind : goal.returns-clause-behind
+returns-clause-behind c = comes_after

@@ -1,0 +1,46 @@
+-- The next batch of an index.
+use Rattle.std.specs.Prelude.{◌≡◌, ◌≢◌, ℕ, ◌+◌, ◌<◌, nat_lt, if◌then◌else◌, max, List, [], ◌∷◌, length, take}
+use Rattle.std.specs.List.{All}
+use Rattle.std.specs.List.Sorted.{IsStrictlySortedBy}
+use Rattle.std.specs.Map.{keys_of}
+use Rattle.fts_words.specs.Indexed.{Rules}
+use Rattle.fts_words.specs.Order.{byte_order}
+use Rattle.fts_commits.specs.Turn.{Turn, births_of, deaths_of, rows_but}
+use Rattle.fts_types.specs.Row.{Row}
+use Rattle.fts_ilist.specs.Node.{nodes_for}
+use Rattle.fts_ilist.specs.Packing.{packed}
+use Rattle.fts_entries.specs.Entry.{Batch, IndexState, unflushed, unflushed_through}
+use Rattle.fts_entries.specs.Words.{rows_postings}
+
+-- how many of the first commits have at most so many births together, where some were counted before
+abbrev pub covered_within : ℕ → ℕ → List Turn → ℕ
+covered_within limit born [] = 0
+covered_within limit born (turn ∷ turns) =
+    if nat_lt limit (born + length turn.births)
+    then 0
+    else 1 + covered_within limit (born + length turn.births) turns
+
+-- how many commits a batch covers: as many as have at most `limit` births together, and at least one
+abbrev pub covers : ℕ → List Turn → ℕ
+covers limit turns = max 1 (covered_within limit 0 turns)
+
+-- the largest id that these commits used, behind one that was used before
+abbrev pub largest_after : ℕ → List Turn → ℕ
+largest_after largest [] = largest
+largest_after largest (turn ∷ turns) = largest_after turn.largest turns
+
+-- the rows born in some commits that no commit has taken away
+abbrev pub alive_of : List Turn → List Turn → List Row
+alive_of turns covered = rows_but (deaths_of turns) (births_of covered)
+
+-- a batch of a state covers the next commits that are not flushed. It has each word of the rows that were born in them
+-- and are alive, with its documents packed into nodes
+pub record IsBatch (rules : Rules) (limit : ℕ) (turns : List Turn) (s : IndexState) (through synced : ℕ) (batch : Batch)
+    : Type 0 where
+  pub some : s.flushed < length turns
+  pub through_is : through ≡ s.flushed + covers limit (unflushed turns s)
+  pub synced_is : synced ≡ largest_after 0 (take through turns)
+  pub words : IsStrictlySortedBy byte_order (keys_of batch)
+  pub filled : All (λ g. g.1 ≢ []) batch
+  pub nodes : (word : List ℕ) → nodes_for word batch
+      ≡ packed (rows_postings rules word (alive_of turns (unflushed_through through turns s)))

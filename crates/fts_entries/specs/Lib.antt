@@ -1,0 +1,5 @@
+pub mod Words
+pub mod Entry
+pub mod Batch
+pub mod Exact
+pub mod Pass

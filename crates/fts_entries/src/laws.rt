@@ -1,0 +1,80 @@
+//! What steps keep of an index.
+ghost use Rattle.std.specs.Prelude.{◌≡◌, ◌<◌, ℕ, List, [], ◌∷◌, ◌++◌, length, fold};
+ghost use Rattle.fts_ilist.specs.Node.{NodesAfter, last_of, nodes_for};
+ghost use Rattle.fts_words.specs.Indexed.{Rules};
+ghost use Rattle.fts_types.specs.Row.{Row};
+ghost use Rattle.fts_commits.specs.Commit.{Rows, no_rows};
+ghost use Rattle.fts_commits.specs.Turn.{Turn, AreTurns, rows_by};
+ghost use Rattle.fts_entries.specs.Entry.{Batch, IndexEntry, IndexState, sealed, after_entry};
+ghost use Rattle.fts_entries.specs.Entry.{begun, worked, finished};
+ghost use Rattle.fts_entries.specs.Pass.{IsWord, CanFinish};
+ghost use Rattle.fts_ids.specs.Ids.{has};
+ghost use Rattle.fts_ilist.specs.Node.{Docs};
+ghost use Rattle.fts_ilist.specs.Packing.{joined};
+ghost use Rattle.std.specs.List.{All};
+ghost use Rattle.std.specs.Prelude.{false};
+ghost use Rattle.fts_entries.specs.Entry.{no_entries, index_of, AreThrough};
+ghost use Rattle.fts_entries.specs.Batch.{IsBatch};
+ghost use Rattle.fts_entries.specs.Exact.{FitsTurns, IsExact};
+
+/// A batch keeps an index right. It does nothing: its contract is the theorem.
+pub fn batches_keep()
+    ensures exact { (rules : Rules) (limit : ℕ) (turns : List Turn) (s : IndexState)
+        (through synced : ℕ) (batch : Batch)
+        → IsBatch rules limit turns s through synced batch → (rows : List Row)
+        → AreTurns 0 turns → FitsTurns turns s → IsExact rules rows turns s
+        → IsExact rules rows turns (after_entry turns s (sealed through synced batch)) }
+    ensures fits { (rules : Rules) (limit : ℕ) (turns : List Turn) (s : IndexState)
+        (through synced : ℕ) (batch : Batch)
+        → IsBatch rules limit turns s through synced batch → 0 < rules.min → AreTurns 0 turns
+        → FitsTurns turns s → FitsTurns turns (after_entry turns s (sealed through synced batch)) }
+    ensures behind { (rules : Rules) (limit : ℕ) (turns : List Turn) (s : IndexState)
+        (through synced : ℕ) (batch : Batch)
+        → IsBatch rules limit turns s through synced batch → AreTurns 0 turns → FitsTurns turns s
+        → (word : List ℕ) → NodesAfter (last_of 0 (s.nodes word)) (nodes_for word batch) }
+{}
+
+/// A commit keeps an index right, whose entries leave the same state as before it. It does nothing:
+/// its contract is the theorem.
+pub fn commits_keep()
+    ensures exact { (rules : Rules) (rows : Rows) (turns : List Turn) (turn : Turn)
+        (s : IndexState) → AreTurns 0 (turns ++ turn ∷ []) → FitsTurns turns s
+        → IsExact rules rows.list turns s
+        → IsExact rules (rows_by rows turn).list (turns ++ turn ∷ []) s }
+    ensures fits { (turns : List Turn) (turn : Turn) (s : IndexState) → FitsTurns turns s
+        → FitsTurns (turns ++ turn ∷ []) s }
+    ensures same { (turns more : List Turn) (entries : List IndexEntry)
+        → AreThrough (length turns) entries
+        → index_of (turns ++ more) entries ≡ index_of turns entries }
+{}
+
+/// An index without entries is right, whatever its commits: they are all in its cache. It does
+/// nothing: its contract is the theorem.
+pub fn no_entries_are_right()
+    ensures exact { (rules : Rules) (turns : List Turn) → AreTurns 0 turns
+        → IsExact rules (fold rows_by no_rows turns).list turns no_entries }
+    ensures fits { (turns : List Turn) → FitsTurns turns no_entries }
+{}
+
+/// The steps of a pass keep an index right, and behind its last word no word has a document of it.
+/// It does nothing: its contract is the theorem.
+pub fn passes_keep()
+    ensures begin_exact { (rules : Rules) (rows : List Row) (turns : List Turn) (s : IndexState)
+        → IsExact rules rows turns s → IsExact rules rows turns (after_entry turns s begun) }
+    ensures begin_fits { (turns : List Turn) (s : IndexState) → FitsTurns turns s
+        → FitsTurns turns (after_entry turns s begun) }
+    ensures word_exact { (turns : List Turn) (s : IndexState) (word : List ℕ) (new : List Docs)
+        → FitsTurns turns s → IsWord s word new → (rules : Rules) (rows : List Row)
+        → IsExact rules rows turns s
+        → IsExact rules rows turns (after_entry turns s (worked word new)) }
+    ensures word_fits { (turns : List Turn) (s : IndexState) (word : List ℕ) (new : List Docs)
+        → FitsTurns turns s → IsWord s word new
+        → FitsTurns turns (after_entry turns s (worked word new)) }
+    ensures finish_exact { (turns : List Turn) (s : IndexState) → FitsTurns turns s
+        → CanFinish s → (rules : Rules) (rows : List Row) → AreTurns 0 turns
+        → IsExact rules rows turns s → IsExact rules rows turns (after_entry turns s finished) }
+    ensures finish_fits { (turns : List Turn) (s : IndexState) → FitsTurns turns s
+        → CanFinish s → FitsTurns turns (after_entry turns s finished) }
+    ensures gone { (turns : List Turn) (s : IndexState) → FitsTurns turns s → CanFinish s
+        → (word : List ℕ) → All (λ p. has s.being_deleted p.id ≡ false) (joined (s.nodes word)) }
+{}

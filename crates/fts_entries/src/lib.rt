@@ -1,0 +1,17 @@
+//! Definitions of an index over commits: the entries of its log, what these leave of tables and
+//! delete lists, the batch that comes next, and what keeps an index right.
+//!
+//! An index is a function of two lists: the commits, of which it sees who is born and who dies
+//! (`Turn` of `fts_commits`), and its entries, each a batch or a step of a pass. Source: MySQL 8.0
+//! Reference Manual, "InnoDB Full-Text Indexes".
+//!
+//! What an index stands for (`index_of`, a fold over its entries) says nothing of the texts behind
+//! the nodes: an opening takes any entries that the format allows. That what is not deleted of
+//! tables and cache is what the rows have (`IsExact`) is another fact, which each step keeps: the
+//! laws `no_entries_are_right`, `commits_keep`, `batches_keep` and `passes_keep`. There is no code
+//! here but these.
+#![tactic(auto)]
+
+mod laws;
+
+pub use laws::{batches_keep, commits_keep, no_entries_are_right, passes_keep};

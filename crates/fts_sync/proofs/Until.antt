@@ -1,0 +1,71 @@
+-- Documents up to an id, one after another.
+use Rattle.std.proofs.Common.{◌≡◌, ℕ, ◌<◌, ◌≤◌, Bool, true, false, cond, not, filter, List, [], ◌∷◌, ◌++◌, append_assoc, append-nil, refl, sym, ap, subst, ◌∙◌, arith}
+use Rattle.std.proofs.lemmas.Bool.{lt-leb, le-leb}
+use Rattle.std.proofs.lemmas.List.Elements.{filter-append}
+use Rattle.fts_ids.specs.Ids.{has}
+use Rattle.fts_ilist.specs.Spelling.{Posting, PostingsAfter, last_id, id_at_end}
+use Rattle.fts_ilist.proofs.Postings.{id_at_end-append}
+use Rattle.fts_cache.specs.Words.{postings_until}
+use Rattle.fts_sync.specs.Leaving.{leaving, IsPackingUntil}
+
+-- behind the id there is none up to it
+none_until : (doc low : ℕ) (ps : List Posting) → PostingsAfter low ps → doc ≤ low → postings_until doc ps ≡ []
+none_until doc low [] after less = refl
+none_until doc low (p ∷ ps) after less =
+    ap (λ (b : Bool). cond b (p ∷ postings_until doc ps) (postings_until doc ps)) (lt-leb p.id doc (omega (arith, less, after.0)))
+    ∙ none_until doc p.id ps after.3 (omega (arith, less, after.0))
+
+pub begins : (doc : ℕ) (dead : List ℕ) (all done : List Posting) → done ≡ [] → PostingsAfter 0 all → IsPackingUntil doc dead all done all
+begins doc dead all done none after = record {
+  same = ap (λ (ps : List Posting). ps ++ leaving doc dead all) none;
+  low = 0;
+  below = (let e : last_id done ≡ 0 = ap last_id none in omega (arith, e));
+  after = after;
+}
+
+-- one more document, which is within
+pub goes_on : (doc : ℕ) (dead : List ℕ) (all done rest : List Posting) (d : Posting) (left new : List Posting) → IsPackingUntil doc dead all done rest → rest ≡ d ∷ left
+    → d.id ≤ doc → new ≡ done ++ filter (λ p. not (has dead p.id)) (d ∷ []) → IsPackingUntil doc dead all new left
+goes_on doc dead all done rest d left new is steps within put =
+    let after : PostingsAfter is.low (d ∷ left) = subst (PostingsAfter is.low) steps is.after in
+    let alive : Posting → Bool = λ p. not (has dead p.id) in
+    let here : leaving doc dead (d ∷ left) ≡ filter alive (d ∷ []) ++ leaving doc dead left =
+    ap (λ (b : Bool). filter alive (cond b (d ∷ postings_until doc left) (postings_until doc left))) (le-leb d.id doc within)
+    ∙ filter-append alive (d ∷ []) (postings_until doc left) in
+    record {
+      same = ap (λ (ps : List Posting). ps ++ leaving doc dead left) put
+          ∙ append_assoc done (filter alive (d ∷ [])) (leaving doc dead left)
+          ∙ ap (λ (ps : List Posting). done ++ ps) (sym here ∙ ap (leaving doc dead) (sym steps))
+          ∙ is.same;
+      low = d.id;
+      below = by (alive d) (ap last_id put ∙ id_at_end-append 0 done (filter alive (d ∷ [])));
+      after = after.3;
+    }
+  where
+    by : (b : Bool) → last_id new ≡ id_at_end (last_id done) (cond b (d ∷ []) []) → last_id new ≤ d.id
+    by true e = omega (arith, e)
+    by false e =
+        let after : PostingsAfter is.low (d ∷ left) = subst (PostingsAfter is.low) steps is.after in
+        omega (arith, e, is.below, after.0)
+
+-- what is to be put behind has an id above
+pub is_above : (doc : ℕ) (dead : List ℕ) (all done rest : List Posting) (d : Posting) (left : List Posting) → IsPackingUntil doc dead all done rest → rest ≡ d ∷ left → last_id done < d.id
+is_above doc dead all done rest d left is steps =
+    let after : PostingsAfter is.low (d ∷ left) = subst (PostingsAfter is.low) steps is.after in
+    omega (arith, is.below, after.0)
+
+-- the end: no document is left, or one behind the id
+pub ends : (doc : ℕ) (dead : List ℕ) (all done rest : List Posting) → IsPackingUntil doc dead all done rest → rest ≡ [] → done ≡ leaving doc dead all
+ends doc dead all done rest is none =
+    sym (append-nil done) ∙ ap (λ (ps : List Posting). done ++ leaving doc dead ps) (sym none) ∙ is.same
+
+pub ends_behind : (doc : ℕ) (dead : List ℕ) (all done rest : List Posting) (d : Posting) (left : List Posting) → IsPackingUntil doc dead all done rest → rest ≡ d ∷ left → doc < d.id
+    → done ≡ leaving doc dead all
+ends_behind doc dead all done rest d left is steps past =
+    let after : PostingsAfter is.low (d ∷ left) = subst (PostingsAfter is.low) steps is.after in
+    let alive : Posting → Bool = λ p. not (has dead p.id) in
+    let none : postings_until doc rest ≡ [] =
+    ap (postings_until doc) steps
+    ∙ ap (λ (b : Bool). cond b (d ∷ postings_until doc left) (postings_until doc left)) (lt-leb d.id doc past)
+    ∙ none_until doc d.id left after.3 (omega (arith, past)) in
+    sym (append-nil done) ∙ ap (λ (ps : List Posting). done ++ filter alive ps) (sym none) ∙ is.same

@@ -1,0 +1,164 @@
+-- Words with their nodes, those that have some.
+use Rattle.std.proofs.Common.{◌≡◌, ◌≢◌, ℕ, ⊎_elim, Bool, true, false, cond, List, [], ◌∷◌, ◌++◌, append-nil, bytes_eq, is_eq, Less, refl, sym, ap, ap₂, subst, ◌∙◌, arith, length, ◌||◌, ◌≤◌, ◌↔◌, not, filter, map, take, if◌then◌else◌}
+use Rattle.std.specs.List.{AllByRecursion, list_any}
+use Rattle.std.specs.List.Sorted.{IsStrictlySortedBy}
+use Rattle.std.specs.Map.{keys_of}
+use Rattle.std.proofs.lemmas.Bool.{false≢true, true≢false, cases_Bool}
+use Rattle.std.proofs.lemmas.Grind.{flat_map-append}
+use Rattle.std.specs.Borrow.{Bor}
+use Rattle.std.proofs.lemmas.List.{take_all}
+use Rattle.std.proofs.lemmas.Map.Text.{is_eq-slice_cmp}
+use Rattle.std.proofs.lemmas.Map.Keys.{sorted_head, sorted_tail}
+use Rattle.fts_words.specs.Order.{byte_order}
+use Rattle.fts_cache.proofs.Queues.{which_word}
+use Rattle.fts_cache.specs.Cache.{CacheState, postings_of}
+use Rattle.fts_cache.specs.Sorted.{IsAmong, AscendByBytes}
+use Rattle.fts_cache.specs.Words.{postings_until}
+use Rattle.fts_ids.specs.Ids.{has}
+use Rattle.fts_lists.specs.State.{State, ids_of}
+use Rattle.fts_lists.specs.declared.lists.DeleteList.TheVariants.{DeletedCache}
+use Rattle.fts_ilist.specs.Spelling.{Posting}
+use Rattle.fts_ilist.specs.Node.{Docs, nodes_for}
+use Rattle.fts_ilist.specs.Packing.{has_place, packed_from, packed}
+use Rattle.fts_sync.specs.Leaving.{filled_word, filled_words, leaving_nodes}
+
+apart : (v w : List ℕ) → byte_order v w ≡ Less → bytes_eq v w ≡ false
+apart v w less = sym (is_eq-slice_cmp v w) ∙ ap is_eq less
+
+cons_not_nil : (n : Docs) (ns : List Docs) → n ∷ ns ≡ [] → ⊥
+cons_not_nil n ns e = absurd (omega (arith, ap length e))
+
+abbrev no_docs : List Docs
+no_docs = []
+
+nothing : (b : Bool) → no_docs ≡ cond b no_docs no_docs
+nothing true = refl
+nothing false = refl
+
+module _ (nodes : List ℕ → List Docs) where
+  keys_one : (P : List ℕ → Type 0) (w : List ℕ) (docs : List Docs) → P w → AllByRecursion P (keys_of (filled_word w docs))
+  keys_one P w [] h = tt
+  keys_one P w (n ∷ ns) h = (h, tt)
+
+  keys_join : (P : List ℕ → Type 0) (front rest : List (List ℕ × List Docs)) → AllByRecursion P (keys_of front) → AllByRecursion P (keys_of rest) → AllByRecursion P (keys_of (front ++ rest))
+  keys_join P [] rest h k = k
+  keys_join P (e ∷ front) rest h k = (h.0, keys_join P front rest h.1 k)
+
+  keys_all : (P : List ℕ → Type 0) (ws : List (List ℕ)) → AllByRecursion P ws → AllByRecursion P (keys_of (filled_words nodes ws))
+  keys_all P [] h = tt
+  keys_all P (w ∷ ws) h = keys_join P (filled_word w (nodes w)) (filled_words nodes ws) (keys_one P w (nodes w) h.0) (keys_all P ws h.1)
+
+  -- they ascend where all do
+  pub ascend : (ws : List (List ℕ)) → IsStrictlySortedBy byte_order ws → IsStrictlySortedBy byte_order (keys_of (filled_words nodes ws))
+  unfolding IsStrictlySortedBy
+  ascend [] h = tt
+  ascend (w ∷ ws) h = by (nodes w) (keys_all (λ y. byte_order w y ≡ Less) ws h.0) (ascend ws h.1)
+    where
+      by : (docs : List Docs) → AllByRecursion (λ y. byte_order w y ≡ Less) (keys_of (filled_words nodes ws)) → IsStrictlySortedBy byte_order (keys_of (filled_words nodes ws))
+          → IsStrictlySortedBy byte_order (keys_of (filled_word w docs ++ filled_words nodes ws))
+      by [] behind rest = rest
+      by (n ∷ ns) behind rest = (behind, rest)
+
+  pub are_filled : (ws : List (List ℕ)) → AllByRecursion (λ e. e.1 ≢ []) (filled_words nodes ws)
+  are_filled [] = tt
+  are_filled (w ∷ ws) = by (nodes w) (are_filled ws)
+    where
+      by : (docs : List Docs) → AllByRecursion (λ e. e.1 ≢ []) (filled_words nodes ws) → AllByRecursion (λ e. e.1 ≢ []) (filled_word w docs ++ filled_words nodes ws)
+      by [] rest = rest
+      by (n ∷ ns) rest = ((λ (e : n ∷ ns ≡ []). cons_not_nil n ns e), rest)
+
+  one_for : (word w : List ℕ) (docs : List Docs) → nodes_for word (filled_word w docs) ≡ cond (bytes_eq word w) docs []
+  one_for word w [] = nothing (bytes_eq word w)
+  one_for word w (n ∷ ns) = append-nil (cond (bytes_eq word w) (n ∷ ns) [])
+
+  -- a word that is not among them has no nodes there
+  none_for : (word : List ℕ) (ws : List (List ℕ)) → AllByRecursion (λ w. bytes_eq word w ≡ false) ws → nodes_for word (filled_words nodes ws) ≡ []
+  none_for word [] h = refl
+  none_for word (w ∷ ws) h =
+      flat_map-append _ (filled_word w (nodes w)) (filled_words nodes ws)
+      ∙ ap₂ (λ (x y : List Docs). x ++ y) (one_for word w (nodes w) ∙ ap (λ (b : Bool). cond b (nodes w) []) h.0) (none_for word ws h.1)
+
+  -- one that is has its own
+  pub found_for : (word : List ℕ) (ws : List (List ℕ)) → IsStrictlySortedBy byte_order ws → list_any (bytes_eq word) ws ≡ true → nodes_for word (filled_words nodes ws) ≡ nodes word
+  found_for word [] up there = absurd (false≢true there)
+  found_for word (w ∷ ws) up there =
+      let behind = sorted_head byte_order w ws up in
+      flat_map-append _ (filled_word w (nodes w)) (filled_words nodes ws)
+      ∙ ap (λ (x : List Docs). x ++ nodes_for word (filled_words nodes ws)) (one_for word w (nodes w))
+      ∙ ⊎_elim
+      (λ (h : (bytes_eq word w ≡ true) × (word ≡ w)).
+      ap₂ (λ (b : Bool) (x : List Docs). cond b (nodes w) [] ++ x) h.0 (none_for word ws (others w word (sym h.1) ws behind))
+      ∙ append-nil (nodes w) ∙ ap nodes (sym h.1))
+      (λ (h : (bytes_eq word w ≡ false) × (word ≢ w)).
+      ap₂ (λ (b : Bool) (x : List Docs). cond b (nodes w) [] ++ x) h.0 (found_for word ws (sorted_tail byte_order w ws up) (later (bytes_eq word w) (list_any (bytes_eq word) ws) h.0 there)))
+      (which_word word w)
+    where
+      later : (a b : Bool) → a ≡ false → (a || b) ≡ true → b ≡ true
+      later true b h e = absurd (true≢false h)
+      later false b h e = e
+
+      others : (w word : List ℕ) → w ≡ word → (vs : List (List ℕ)) → AllByRecursion (λ y. byte_order w y ≡ Less) vs → AllByRecursion (λ v. bytes_eq word v ≡ false) vs
+      others w word same [] h = tt
+      others w word same (v ∷ vs) h = (subst (λ (x : List ℕ). bytes_eq x v ≡ false) same (apart w v h.0), others w word same vs h.1)
+
+  pub absent_for : (word : List ℕ) (ws : List (List ℕ)) → list_any (bytes_eq word) ws ≡ false → nodes_for word (filled_words nodes ws) ≡ []
+  absent_for word ws none = none_for word ws (each ws none)
+    where
+      each : (vs : List (List ℕ)) → list_any (bytes_eq word) vs ≡ false → AllByRecursion (λ v. bytes_eq word v ≡ false) vs
+      each [] h = tt
+      each (v ∷ vs) h = (left (bytes_eq word v) (list_any (bytes_eq word) vs) h, each vs (right (bytes_eq word v) (list_any (bytes_eq word) vs) h))
+        where
+          left : (a b : Bool) → (a || b) ≡ false → a ≡ false
+          left true b e = e
+          left false b e = refl
+
+          right : (a b : Bool) → (a || b) ≡ false → b ≡ false
+          right true b e = absurd (true≢false e)
+          right false b e = e
+
+-- ---- packed documents are no empty nodes
+
+push_filled : (docs : List Posting) (p : Posting) → docs ++ p ∷ [] ≢ []
+push_filled [] p e = absurd (omega (arith, ap length e))
+push_filled (d ∷ docs) p e = absurd (omega (arith, ap length e))
+
+filled_from : (limit : ℕ) (node ps : List Posting) → node ≢ [] → AllByRecursion (λ docs. docs ≢ []) (packed_from limit node ps)
+filled_from limit node [] some = (some, tt)
+filled_from limit node (p ∷ ps) some =
+    by (has_place limit node p) (filled_from limit (node ++ p ∷ []) ps (push_filled node p)) (filled_from limit (p ∷ []) ps (λ e. push_filled [] p e))
+  where
+    by : (b : Bool) → AllByRecursion (λ docs. docs ≢ []) (packed_from limit (node ++ p ∷ []) ps) → AllByRecursion (λ docs. docs ≢ []) (packed_from limit (p ∷ []) ps)
+        → AllByRecursion (λ docs. docs ≢ []) (if b then packed_from limit (node ++ p ∷ []) ps else node ∷ packed_from limit (p ∷ []) ps)
+    by true more next = more
+    by false more next = (some, next)
+
+pub packed_filled : (ps : List Posting) → AllByRecursion (λ docs. docs ≢ []) (packed ps)
+packed_filled [] = tt
+packed_filled (p ∷ ps) = filled_from 8192 (p ∷ []) ps (λ e. push_filled [] p e)
+
+-- ---- the words that leave a cache
+
+-- all words were taken
+pub all_taken : (nodes : List ℕ → List Docs) (words lent : List (Bor (List ℕ))) (i : ℕ) (found : List (List ℕ × List Docs))
+    → found ≡ filled_words nodes (map (λ w. w.now) (take i words)) → length words ≤ i → words ≡ lent → found ≡ filled_words nodes (map (λ w. w.now) lent)
+all_taken nodes words lent i found is past same =
+    is ∙ ap (λ (ws : List (Bor (List ℕ))). filled_words nodes (map (λ w. w.now) ws)) (take_all i words past ∙ same)
+
+pub exact_for : (cache : CacheState) (doc : ℕ) (lists : State) (words : List (Bor (List ℕ))) → AscendByBytes words
+    → ((w : List ℕ) → IsAmong w words ↔ (postings_until doc (postings_of cache w) ≢ [])) → (word : List ℕ)
+    → nodes_for word (filled_words (leaving_nodes cache doc lists) (map (λ w. w.now) words)) ≡ leaving_nodes cache doc lists word
+exact_for cache doc lists words up among word =
+    let nodes = leaving_nodes cache doc lists in
+    let ws = map (λ (w : Bor (List ℕ)). w.now) words in
+    ⊎_elim
+    (λ (there : list_any (bytes_eq word) ws ≡ true). found_for nodes word ws up there)
+    (λ (absent : list_any (bytes_eq word) ws ≡ false). absent_for nodes word ws absent
+    ∙ none (postings_until doc (postings_of cache word)) (λ some. false≢true (sym absent ∙ (among word).1 some)))
+    (cases_Bool (list_any (bytes_eq word) ws))
+  where
+    dead : List ℕ
+    dead = ids_of DeletedCache lists
+
+    none : (ps : List Posting) → (ps ≢ [] → ⊥) → [] ≡ packed (filter (λ p. not (has dead p.id)) ps)
+    none [] h = refl
+    none (p ∷ ps) h = absurd (h (λ e. absurd (omega (arith, ap length e))))

@@ -1,0 +1,109 @@
+//! The nodes of a batch.
+ghost use Rattle.std.specs.Prelude.{◌≡◌, ◌≢◌, ◌<◌, ◌++◌, ◌∷◌, [], ℕ, List, not, IfOk, OnOk, OnErr, filter};
+ghost use Rattle.std.specs.List.{All};
+ghost use Rattle.std.specs.List.Sorted.{IsStrictlySortedBy};
+ghost use Rattle.std.specs.Map.{keys_of};
+ghost use Rattle.fts_words.specs.Order.{byte_order};
+ghost use Rattle.fts_ids.specs.Ids.{has};
+ghost use Rattle.fts_lists.specs.State.{ids_of};
+ghost use Rattle.fts_lists.specs.declared.lists.DeleteList.TheVariants.{DeletedCache};
+ghost use Rattle.fts_ilist.specs.Spelling.{ArePostings, last_id};
+ghost use Rattle.fts_ilist.specs.Node.{nodes_for};
+ghost use Rattle.fts_ilist.specs.Packing.{packed};
+ghost use Rattle.fts_cache.specs.Cache.{postings_of};
+ghost use Rattle.fts_sync.specs.Leaving.{leaving, leaving_nodes, filled_word};
+
+use fts_cache::Cache;
+use fts_ilist::{Cursor, Document, Ilist, Node, Nodes, Packing, WordNodes};
+use fts_lists::{DeleteList, Lists};
+use fts_types::{DocId, Word};
+use std::alloc::{AllocError, Global};
+
+/// Puts a document behind the others, unless it is dead.
+fn put_alive(
+    packing: &mut Packing,
+    document: &Document<'_>,
+    lists: &Lists,
+) -> Result<(), AllocError>
+    requires { last_id packing.old < document.now.id }
+    ensures { OnOk result (packing.new
+        ≡ packing.old ++ filter (λ p. not (has (ids_of DeletedCache lists.now) p.id))
+        (document.now ∷ [])) }
+{
+    if lists.contains(DeleteList::DeletedCache, document.id()) {
+        return Ok(());
+    }
+    packing.push(document)
+}
+
+/// The lists of the documents up to an id that are not dead, packed.
+fn packed_until(
+    alloc: Global,
+    documents: Cursor<'_>,
+    doc: DocId,
+    lists: &Lists,
+) -> Result<Vec<Ilist>, AllocError>
+    requires { ArePostings documents }
+    ensures { IfOk result (λ nodes. nodes.items
+        ≡ packed (leaving doc (ids_of DeletedCache lists.now) documents.entry)) }
+{
+    let mut packing = Packing::new(alloc);
+    for document in documents {
+        if document.id() > doc {
+            return packing.finish();
+        }
+        put_alive(&mut packing, &document, lists)?;
+    }
+    packing.finish()
+}
+
+/// The nodes of lists.
+fn nodes_of(alloc: Global, lists: Vec<Ilist>) -> Result<Vec<Node>, AllocError>
+    requires { All (λ docs. docs ≢ []) lists.items }
+    ensures { IfOk result (λ nodes. nodes.items ≡ lists.items) }
+{
+    let mut nodes = Vec::with_capacity(alloc, lists.len())?;
+    for list in lists {
+        nodes.push(Node::new(list))?;
+    }
+    Ok(nodes)
+}
+
+/// Puts a word behind the others, with the nodes of its documents up to an id that are not dead,
+/// where it has some.
+fn put_word(
+    nodes: &mut Nodes,
+    cache: &Cache,
+    word: &[u8],
+    doc: DocId,
+    lists: &Lists,
+) -> Result<(), AllocError>
+    ensures { OnOk result (nodes.new.items ≡ nodes.old.items
+        ++ filled_word word.now (leaving_nodes cache.now doc lists.now word.now)) }
+{
+    let alloc = *nodes.allocator();
+    let packed = packed_until(alloc, cache.postings(word), doc, lists)?;
+    if packed.is_empty() {
+        return Ok(());
+    }
+    let word_nodes = WordNodes::new(Word::copied(alloc, word)?, nodes_of(alloc, packed)?);
+    nodes.push(word_nodes)?;
+    Ok(())
+}
+
+/// The words of a cache's documents up to `doc`, in byte order, each with the documents that are
+/// not in DELETED_CACHE, packed into nodes. A word without such a document is left out.
+///
+/// It costs the words and the postings of the documents up to `doc`, and a sort of these words.
+pub fn batch(alloc: Global, cache: &Cache, doc: DocId, lists: &Lists) -> Result<Nodes, AllocError>
+    ensures ascending { IfOk result (λ nodes. IsStrictlySortedBy byte_order (keys_of nodes.items)) }
+    ensures filled { IfOk result (λ nodes. All (λ word. word.1 ≢ []) nodes.items) }
+    ensures exact { IfOk result (λ nodes. (word : List ℕ)
+        → nodes_for word nodes.items ≡ leaving_nodes cache.now doc lists.now word) }
+{
+    let mut nodes = Vec::new(alloc);
+    for word in &cache.words_until(doc)? {
+        put_word(&mut nodes, cache, word, doc, lists)?;
+    }
+    Ok(nodes)
+}
