@@ -2,18 +2,18 @@ ghost use Rattle.std.specs.Prelude.{◌≡◌, ◌<◌, ℕ, List, Option, Some,
 ghost use Rattle.std.specs.Prelude.{map, slice_index_or};
 ghost use Rattle.fts_commits.specs.NewText.{new_text};
 
-use fts_types::{DocId, Key, RowTexts};
+use fts_types::{DocId, Key, SharedTexts};
 use std::marker::Model;
 
 /// One change of a commit.
 #[derive(Debug, Drop)]
 pub enum Change {
     /// A new row with this key, this document id (or the next one, where none is given) and a text
-    /// for each column.
+    /// for each column. Its row holds these texts, and no copy of them.
     Insert {
         key: Key,
         doc: Option<DocId>,
-        texts: RowTexts,
+        texts: SharedTexts,
     },
     /// New texts for some columns of the row with this key, if there is one. The row gets a new
     /// document id.

@@ -8,7 +8,7 @@ use fts_disk::MemDisk;
 use fts_log::is_begun;
 use fts_query::{Leaf, View};
 use fts_steps::CommitError;
-use fts_types::{DocId, Key, Limits, Names, RowTexts, Settings};
+use fts_types::{DocId, Key, Limits, Names, RowTexts, Settings, SharedTexts};
 use std::alloc::{AllocError, Global};
 use std::test::Fail;
 
@@ -84,6 +84,7 @@ fn insert(alloc: Global, key: Key, title: &[u8], body: &[u8]) -> Result<Change, 
     let mut texts = RowTexts::new(alloc);
     texts.push(title.to_vec(alloc)?)?;
     texts.push(body.to_vec(alloc)?)?;
+    let texts = SharedTexts::new(alloc, texts)?;
     let doc = None;
     Ok(Change::Insert { key, doc, texts })
 }

@@ -11,7 +11,7 @@ ghost use Rattle.fts_rowcodec.specs.Reading.{count_at, commit_of};
 use crate::error::DecodeError;
 use crate::front::{behind, bytes_at, u16_at, u64_at};
 use fts_commits::{Change, Changes, is_text_byte};
-use fts_types::RowTexts;
+use fts_types::{RowTexts, SharedTexts};
 use std::alloc::Global;
 
 /// Whether texts may hold each of the bytes.
@@ -68,6 +68,7 @@ fn change_at(alloc: Global, columns: usize, bytes: &[u8]) -> Result<(Change, &[u
         return Err(DecodeError::Bad);
     };
     let (texts, rest) = texts_at(alloc, columns, rest)?;
+    let texts = SharedTexts::new(alloc, texts)?;
     let doc = None;
     Ok((Change::Insert { key, doc, texts }, rest))
 }

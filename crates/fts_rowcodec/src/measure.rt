@@ -61,7 +61,7 @@ fn change_size(change: &Change) -> usize
     ensures { result ≡ length (change_payload change.now) }
 {
     match change {
-        Change::Insert { key: _, doc, texts } => KEY + doc_size(*doc) + texts_size(texts),
+        Change::Insert { key: _, doc, texts } => KEY + doc_size(*doc) + texts_size(texts.texts()),
         Change::Update { key: _, texts } => KEY + new_texts_size(texts),
         Change::Delete { .. } => KEY,
     }

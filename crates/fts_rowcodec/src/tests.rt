@@ -1,6 +1,6 @@
 use super::*;
 use fts_commits::{Change, Changes, NewTexts};
-use fts_types::{Names, RowTexts, Settings};
+use fts_types::{Names, RowTexts, Settings, SharedTexts};
 use std::alloc::{AllocError, Global};
 use std::process::Abort;
 use std::test::*;
@@ -200,7 +200,7 @@ fn is_insert(rt: &impl Abort, change: &Change, want: u64, texts_want: &[&str]) {
         Change::Insert { key, doc, texts } => {
             assert_eq!(rt; *key, want);
             assert!(rt; doc.is_none());
-            has_columns(rt, texts, texts_want);
+            has_columns(rt, texts.texts(), texts_want);
         }
         _ => assert!(rt; false, "an INSERT"),
     }
@@ -306,7 +306,7 @@ fn encodes_a_delete_and_a_given_id(rt: HostRuntime) -> Result<(), Fail> {
         bytes.as_slice(),
         [1, 0, 1, 3, 0, 0, 0, 0, 0, 0, 1, 2].as_slice()
     );
-    let texts = RowTexts::new(alloc);
+    let texts = SharedTexts::new(alloc, RowTexts::new(alloc))?;
     let doc = Some(9);
     let bytes = encode_commit(alloc, &[Change::Insert { key: 2, doc, texts }])?;
     assert_eq!(rt;

@@ -206,7 +206,7 @@ pub(crate) fn put_change(buf: &mut [u8], change: &Change) -> usize
     ensures { Puts (change_payload change.now) buf.old buf.new result }
 {
     match change {
-        Change::Insert { key, doc, texts } => put_insert(buf, *key, *doc, texts),
+        Change::Insert { key, doc, texts } => put_insert(buf, *key, *doc, texts.texts()),
         Change::Update { key, texts } => put_update(buf, *key, texts),
         Change::Delete { key } => put_key(buf, 3, *key),
     }

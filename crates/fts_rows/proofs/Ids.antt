@@ -10,11 +10,6 @@ pub ids-push : (low high : ℕ) (rows : List Row) (row : Row) → RowsAscend low
 ids-push low high [] row ids above = (omega (arith, ids, above), omega arith)
 ids-push low high (first ∷ rows) row ids above = (ids.0, ids-push first.doc high rows row ids.1 above)
 
--- no id is above a larger bound
-pub ids-raise : (low high more : ℕ) (rows : List Row) → RowsAscend low high rows → high ≤ more → RowsAscend low more rows
-ids-raise low high more [] ids up = omega (arith, ids, up)
-ids-raise low high more (first ∷ rows) ids up = (ids.0, ids-raise first.doc high more rows ids.1 up)
-
 -- each id is above a smaller bound
 pub ids-lower : (less low high : ℕ) (rows : List Row) → RowsAscend low high rows → less ≤ low → RowsAscend less high rows
 ids-lower less low high [] ids down = omega (arith, ids, down)

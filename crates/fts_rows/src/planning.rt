@@ -14,8 +14,7 @@ use crate::error::PlanError;
 use crate::plan::Plan;
 use crate::rows::Rows;
 use fts_commits::{Change, Refusal};
-use fts_types::{DocId, Key, Row, RowTexts};
-use std::sync::Arc;
+use fts_types::{DocId, Key, Row, RowTexts, SharedTexts};
 
 /// How far a given document id may be above the largest that was used (MySQL:
 /// `FTS_DOC_ID_MAX_STEP`).
@@ -78,7 +77,7 @@ impl Rows {
         change: u64,
         key: Key,
         given: Option<DocId>,
-        texts: &RowTexts,
+        texts: &SharedTexts,
     ) -> Result<(), PlanError>
         ensures ok { OnOk result (after_change self.now.limits.ids change
             (Insert key given texts.now) (rows_with plan.old self.now.rows)
@@ -96,13 +95,10 @@ impl Rows {
             Ok(doc) => doc,
             Err(refusal) => return Err(PlanError::from(refusal)),
         };
-        if let Err(error) = check_length(change, texts) {
+        if let Err(error) = check_length(change, texts.texts()) {
             return Err(error);
         }
-        let texts = match Arc::new(self.alloc(), texts.copied(self.alloc())?) {
-            Ok(texts) => texts,
-            Err(_) => return Err(PlanError::NoMemory),
-        };
+        let texts = texts.pointer()?;
         plan.add(Row { key, doc, texts })?;
         Ok(())
     }
@@ -169,7 +165,8 @@ impl Rows {
     /// Plans a commit: the rows that it adds, with their document ids, or why it is refused. The
     /// rows stay as they are, and have room for what is planned.
     ///
-    /// It takes time for the bytes of the changes, and a look-up for each key.
+    /// The new rows hold the texts of the changes, and no copy of them. It takes a look-up for each
+    /// key, and a step for each text.
     pub fn plan(&mut self, changes: &[Change]) -> Result<Plan, PlanError>
         requires inserts { All IsPlainInsert changes.now }
         ensures planned { IfOk result

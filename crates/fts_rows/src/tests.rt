@@ -3,22 +3,22 @@ ghost use Rattle.fts_commits.specs.Fits.{IsPlainInsert};
 
 use super::*;
 use fts_commits::{Change, Refusal};
-use fts_types::{DocId, Key, Limits, RowTexts};
+use fts_types::{DocId, Key, Limits, RowTexts, SharedTexts};
 use std::alloc::{AllocError, Global};
 use std::sync::Arc;
 use std::test::*;
 
 /// Texts of so many bytes each.
-fn texts_of(alloc: Global, lengths: &[usize]) -> Result<RowTexts, AllocError> {
+fn texts_of(alloc: Global, lengths: &[usize]) -> Result<SharedTexts, AllocError> {
     let mut texts = RowTexts::new(alloc);
     for length in lengths {
         texts.push(vec![in alloc; b'a'; *length]?)?;
     }
-    Ok(texts)
+    SharedTexts::new(alloc, texts)
 }
 
 /// The INSERT of a row.
-fn insert(key: Key, texts: RowTexts) -> Change
+fn insert(key: Key, texts: SharedTexts) -> Change
     ensures { IsPlainInsert result }
 {
     let doc = None;

@@ -1,7 +1,6 @@
 -- The values of an INSERT can stand in a row.
-use Rattle.std.proofs.Common.{◌≡◌, ℕ, zero, suc, ◌+◌, ◌<◌, ◌≤◌, ◌^◌, Bool, true, false, List, [], ◌∷◌, ◌++◌, refl, sym, ap, subst, ◌∙◌, length, arith, map, Some, None, inl, inr}
+use Rattle.std.proofs.Common.{◌≡◌, ℕ, zero, suc, ◌+◌, ◌<◌, ◌≤◌, ◌^◌, Bool, true, false, List, [], ◌∷◌, ◌++◌, refl, sym, ap, subst, ◌∙◌, length, arith, Some, None, inl, inr}
 use Rattle.std.proofs.lemmas.List.Elements.{All-cons, All-head, All-tail}
-use Rattle.std.proofs.lemmas.List.{length-map}
 use Rattle.std.proofs.lemmas.Bool.{and_parts, eqb-true}
 use Rattle.std.specs.Prelude.{All, ◌&&◌, ◌==◌, codes}
 use Rattle.std.specs.List.{list_all}
@@ -22,7 +21,7 @@ use Rattle.fts_sql.specs.declared.statement.Statement.{Statement}
 use Rattle.fts_sql.specs.declared.value.Value.{Value}
 use Rattle.fts_sql.specs.declared.value.Value.TheVariants.{Number, Text}
 use Rattle.fts_sql.specs.declared.statement.Statement.TheVariants.{Insert, Match}
-use Rattle.fts_sessions.specs.Table.{is_text, text_in, insert_of, change_of, are_names}
+use Rattle.fts_sessions.specs.Table.{is_text, texts_in, insert_of, change_of, are_names}
 use Rattle.fts_sessions.specs.Texts.{IsFit, AreFit}
 
 -- a token that was read: a number has eight bytes, and a text the bytes of texts
@@ -108,17 +107,22 @@ line_fit line table columns values (tokens, end, reads, (one, taken, says, same)
     let printable = read_printable 1 line tokens (whole end) reads in
     subst AreFit (sym (ap values_of same)) (written_fit one taken (says_keep (table_of one) taken (tokens_in tokens) [] printable tt says))
 
-texts_fit : (values : List Value) → AreFit values → list_all is_text values ≡ true → All IsText (map text_in values)
+texts_fit : (values : List Value) → AreFit values → list_all is_text values ≡ true → All IsText (texts_in values)
 texts_fit [] fit texts = λ k d less. absurd (omega arith)
 texts_fit (Number n ∷ values) fit texts = absurd cc
 texts_fit (Text text ∷ values) fit texts =
-    All-cons IsText text (map text_in values) (All-head IsFit (Text text) values fit) (texts_fit values (All-tail IsFit (Text text) values fit) texts)
+    All-cons IsText text (texts_in values) (All-head IsFit (Text text) values fit) (texts_fit values (All-tail IsFit (Text text) values fit) texts)
+
+texts_count : (values : List Value) → list_all is_text values ≡ true → length (texts_in values) ≡ length values
+texts_count [] texts = refl
+texts_count (Number n ∷ values) texts = absurd cc
+texts_count (Text text ∷ values) texts = ap suc (texts_count values texts)
 
 row_can : (columns key : ℕ) (values : List Value) (made : Change) (row : Bool) → ((length values == columns) && list_all is_text values) ≡ row → 1 ≤ columns → columns ≤ 8
     → AreFit (Number key ∷ values) → Some made ≡ insert_of columns (Number key ∷ values) → CanCommit columns (made ∷ [])
 row_can columns key values made false is one few fit found = absurd (let no = (rw is at found) in cc)
 row_can columns key values made true is one few fit found =
-    let same : made ≡ change.Insert key None (map text_in values) = (let e = (rw is at found) in cc) in
+    let same : made ≡ change.Insert key None (texts_in values) = (let e = (rw is at found) in cc) in
     let count : length values ≡ columns = eqb-true (length values) columns (and_parts _ _ is).0 in
     subst (λ (c : Change). CanCommit columns (c ∷ [])) (sym same) (record {
       some = one;
@@ -126,11 +130,11 @@ row_can columns key values made true is one few fit found =
       made = record {
         some = omega arith;
         few = omega arith;
-        fit = All-cons (FitsColumns columns) (change.Insert key None (map text_in values)) []
-            (length-map values text_in ∙ count, texts_fit values (All-tail IsFit (Number key) values fit) (and_parts _ _ is).1) (λ k d less. absurd (omega arith));
-        plain = All-cons IsPlainInsert (change.Insert key None (map text_in values)) [] tt (λ k d less. absurd (omega arith));
+        fit = All-cons (FitsColumns columns) (change.Insert key None (texts_in values)) []
+            (texts_count values (and_parts _ _ is).1 ∙ count, texts_fit values (All-tail IsFit (Number key) values fit) (and_parts _ _ is).1) (λ k d less. absurd (omega arith));
+        plain = All-cons IsPlainInsert (change.Insert key None (texts_in values)) [] tt (λ k d less. absurd (omega arith));
       };
-      numbers = All-cons FitsNumbers (change.Insert key None (map text_in values)) [] (All-head IsFit (Number key) values fit, tt) (λ k d less. absurd (omega arith));
+      numbers = All-cons FitsNumbers (change.Insert key None (texts_in values)) [] (All-head IsFit (Number key) values fit, tt) (λ k d less. absurd (omega arith));
     })
 
 values_can : (columns : ℕ) (values : List Value) (made : Change) → 1 ≤ columns → columns ≤ 8 → AreFit values → Some made ≡ insert_of columns values → CanCommit columns (made ∷ [])

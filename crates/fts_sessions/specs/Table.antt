@@ -1,5 +1,5 @@
 -- What a statement means for the table `docs` with its columns.
-use Rattle.std.specs.Prelude.{ℕ, Bool, true, false, ◌&&◌, ◌||◌, ◌==◌, if◌then◌else◌, List, [], ◌∷◌, length, map, codes}
+use Rattle.std.specs.Prelude.{ℕ, Bool, true, false, ◌&&◌, ◌||◌, ◌==◌, if◌then◌else◌, List, [], ◌∷◌, length, codes}
 use Rattle.std.specs.Prelude.{Option, Some, None}
 use Rattle.std.specs.List.{list_all, list_any}
 use Rattle.std.specs.Str.{str_eq_ignore_ascii_case}
@@ -32,17 +32,18 @@ abbrev pub is_text : Value → Bool
 is_text (Number n) = false
 is_text (Text text) = true
 
--- the text that a value is
-abbrev pub text_in : Value → List ℕ
-text_in (Number n) = []
-text_in (Text text) = text
+-- the texts among the values
+abbrev pub texts_in : List Value → List (List ℕ)
+texts_in [] = []
+texts_in (Number n ∷ values) = texts_in values
+texts_in (Text text ∷ values) = text ∷ texts_in values
 
 -- the INSERT of these values: a number for the key, and a text for each of so many columns
 abbrev pub insert_of : ℕ → List Value → Option Change
 insert_of columns [] = None
 insert_of columns (Text text ∷ values) = None
 insert_of columns (Number key ∷ values) =
-    if (length values == columns) && list_all is_text values then Some (change.Insert key None (map text_in values))
+    if (length values == columns) && list_all is_text values then Some (change.Insert key None (texts_in values))
     else None
 
 -- the INSERT of values into columns of these names: `id`, and then all text columns in the order in which they were

@@ -69,7 +69,7 @@ impl Session {
                         values,
                     },
                 ),
-            ) => insert(self.alloc, steps, table, &columns, &values),
+            ) => insert(self.alloc, steps, table, &columns, values),
             Ok(
                 Some(
                     Statement::Match {
@@ -100,11 +100,11 @@ fn insert<S: EngineSteps>(
     steps: &mut S,
     table: Text,
     names: &Names,
-    values: &Values,
+    values: Values,
 ) -> Reply
-    requires { AreFit values.now }
+    requires { AreFit values }
     ensures { Does S.sight
-        (begins (S.sight.settings steps.old) (inserts table names.now values.now))
+        (begins (S.sight.settings steps.old) (inserts table names.now values))
         steps.old result steps.new }
 {
     let columns = &steps.settings().columns;

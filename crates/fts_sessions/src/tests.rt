@@ -107,7 +107,7 @@ fn shown(alloc: Global, columns: &Names, line: &str) -> Result<String, AllocErro
                 },
             ),
         ) => {
-            let change = change_of(alloc, columns, &names, &values)?;
+            let change = change_of(alloc, columns, &names, values)?;
             told(alloc, &change)
         }
         _ => String::from_str(alloc, "no insert"),
@@ -127,7 +127,7 @@ fn told(alloc: Global, change: &Option<Change>) -> Result<String, AllocError> {
         return String::from_str(alloc, "none");
     };
     let mut all = format!(in alloc; "{key}")?;
-    for text in texts.as_slice() {
+    for text in texts.texts().as_slice() {
         all.push('|')?;
         all.push_str(str::from_utf8(text).unwrap_or("?"))?;
     }

@@ -1,7 +1,8 @@
-use Rattle.std.proofs.Common.{◌≡◌, ℕ, ◌==◌, true, false, List, [], ◌∷◌, ◌++◌, refl, sym, ap, ◌∙◌, subst, ◌⊎◌, inl, inr}
+use Rattle.std.proofs.Common.{◌≡◌, ◌≢◌, ℕ, zero, suc, ◌+◌, ◌<◌, ◌≤◌, Bool, cond, length, get_or, take, drop, arith, ◌==◌, true, false, List, [], ◌∷◌, ◌++◌, Some, None, append-nil, refl, sym, ap, ◌∙◌, subst, ◌⊎◌, inl, inr}
 use Rattle.std.specs.List.{list_all}
-use Rattle.std.proofs.lemmas.Bool.{and_parts, both_ways, cases_Bool, eqb-true, eqb-false, ne_eqb, cond-false}
+use Rattle.std.proofs.lemmas.Bool.{and_parts, both_ways, cases_Bool, eqb-true, eqb-false, eq-eqb, ne_eqb, cond-false}
 use Rattle.std.proofs.lemmas.List.{append_assoc}
+use Rattle.memchr.specs.Find.{IsFirstByte, Passes, is_byte}
 use Rattle.fts_commits.specs.Text.{is_text_byte}
 use Rattle.fts_sql.specs.Token.{begins_with, quoted}
 use Rattle.fts_sql.specs.Reading.{goes_on_text, unquoted}
@@ -88,6 +89,40 @@ quoted_more bytes text rest after b cut piece =
 unquoted_plain : (b : ℕ) (bs : List ℕ) → ((b ≡ 39) → ⊥) → unquoted (b ∷ bs) ≡ b ∷ unquoted bs
 unquoted_plain b [] isnt = refl
 unquoted_plain b (c ∷ bs) isnt = cond-false (b == 39) (39 ∷ unquoted bs) (b ∷ unquoted (c ∷ bs)) (ne_eqb b 39 isnt)
+
+-- no byte before this place is an apostrophe
+abbrev pub IsPlainTo : ℕ → List ℕ → Type 0
+IsPlainTo at bytes = (k : ℕ) → k < at → get_or bytes k 0 ≢ 39
+
+pub plain_to : (at : ℕ) (bytes : List ℕ) → ((k : ℕ) → 0 ≤ k → k < at → Passes (is_byte 39) bytes k → ⊥) → IsPlainTo at bytes
+plain_to at bytes before k below is = before k (omega arith) below (eq-eqb (get_or bytes k 0) 39 is)
+
+-- up to the first apostrophe, and with it, a text is what it is written as; the byte behind it is the other one of the two
+pub unquoted_to : (at : ℕ) (bytes : List ℕ) → at < length bytes → IsPlainTo at bytes → get_or bytes at 0 ≡ 39
+    → unquoted bytes ≡ take (suc at) bytes ++ unquoted (drop 1 (drop (suc at) bytes))
+unquoted_to at [] within plain is = absurd (omega arith)
+unquoted_to zero (b ∷ []) within plain is = refl
+unquoted_to zero (b ∷ c ∷ bs) within plain is =
+    ap (λ (same : Bool). cond same (39 ∷ unquoted bs) (b ∷ unquoted (c ∷ bs))) (eq-eqb b 39 is) ∙ ap (λ d. d ∷ unquoted bs) (sym is)
+unquoted_to (suc at) (b ∷ bs) within plain is =
+    unquoted_plain b bs (plain 0 (omega arith)) ∙ ap (λ l. b ∷ l) (unquoted_to at bs (omega arith) (λ k below. plain (suc k) (omega arith)) is)
+
+-- without an apostrophe it is what it is written as
+pub unquoted_all : (bytes : List ℕ) → IsPlainTo (length bytes) bytes → unquoted bytes ≡ bytes
+unquoted_all [] plain = refl
+unquoted_all (b ∷ bs) plain = unquoted_plain b bs (plain 0 (omega arith)) ∙ ap (λ l. b ∷ l) (unquoted_all bs (λ k below. plain (suc k) (omega arith)))
+
+pub none_quoted : (bytes : List ℕ) → IsFirstByte (is_byte 39) bytes None → unquoted bytes ≡ bytes ++ []
+none_quoted bytes none = unquoted_all bytes (plain_to (length bytes) bytes none) ∙ sym (append-nil bytes)
+
+pub first_quoted : (at : ℕ) (bytes front rest behind : List ℕ) → IsFirstByte (is_byte 39) bytes (Some at) → front ≡ take (at + 1) bytes → rest ≡ drop (at + 1) bytes
+    → behind ≡ drop 1 rest → unquoted bytes ≡ front ++ unquoted behind
+first_quoted at bytes front rest behind first is goes_on more =
+    let one : suc at ≡ at + 1 = omega arith in
+    unquoted_to at bytes first.0.high (plain_to at bytes first.0.before) (eqb-true (get_or bytes at 0) 39 first.1)
+    ∙ ap (λ n. take n bytes ++ unquoted (drop 1 (drop n bytes))) one
+    ∙ ap (λ l. l ++ unquoted (drop 1 (drop (at + 1) bytes))) (sym is)
+    ∙ ap (λ l. front ++ unquoted l) (sym (more ∙ ap (drop 1) goes_on))
 
 -- a text is what it is written as, without the doubled apostrophes
 pub unquoted-quoted : (text : List ℕ) → unquoted (quoted text) ≡ text

@@ -38,8 +38,9 @@ same_first t u ts us e =
 -- pieces that are apart have no token in common
 apart : (p q : Piece) (t : Token) → are_apart p q ≡ true → is_piece p t ≡ true → is_piece q t ≡ true → ⊥
 apart (Keyword v) (Keyword w) (name u) is a b =
-    let same : letters v ≡ letters w = sym (equal_bytes (str_to_ascii_lowercase u) (letters v) a) ∙ equal_bytes (str_to_ascii_lowercase u) (letters w) b in
-    no_true (sym (ap not (bytes_equal (letters v) (letters w) same)) ∙ is)
+    let lowered = str_to_ascii_lowercase in
+    let same : lowered (letters v) ≡ lowered (letters w) = sym (equal_bytes (lowered u) (lowered (letters v)) a) ∙ equal_bytes (lowered u) (lowered (letters w)) b in
+    no_true (sym (ap not (bytes_equal (lowered (letters v)) (lowered (letters w)) same)) ∙ is)
 apart (Keyword v) (Keyword w) (number n) is a b = no_true a
 apart (Keyword v) (Keyword w) (string s) is a b = no_true a
 apart (Keyword v) (Keyword w) (mark c) is a b = no_true a

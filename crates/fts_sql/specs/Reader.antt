@@ -1,7 +1,7 @@
 use Rattle.std.specs.Prelude.{◌≡◌, ◌⊎◌, ◌↔◌, ℕ, ◌+◌, ◌<◌, ◌≤◌, Bool, ◌==◌, ◌&&◌, not, true, false, [], ◌∷◌, List, ◌++◌}
 use Rattle.std.specs.Prelude.{Option, Some, None, if◌then◌else◌, length, map, take}
 use Rattle.std.specs.List.{list_all}
-use Rattle.std.specs.Str.{bytes_eq}
+use Rattle.std.specs.Str.{str_eq_ignore_ascii_case}
 use Rattle.fts_sql.specs.Token.{Token}
 use Rattle.fts_sql.specs.Line.{Placed, Ending, whole, unreadable}
 use Rattle.fts_sql.specs.Fault.{Viable, IsMisplaced, IsCutShort, IsFaultAt}
@@ -28,7 +28,7 @@ tokens_at tokens = map (λ p. token_of p.token) tokens
 
 -- whether no token can stand where either does
 abbrev pub are_apart : Piece → Piece → Bool
-are_apart (Keyword word) (Keyword other) = not (bytes_eq (letters word) (letters other))
+are_apart (Keyword word) (Keyword other) = not (str_eq_ignore_ascii_case (letters word) (letters other))
 are_apart (Keyword word) (Mark b) = true
 are_apart (Mark b) (Keyword word) = true
 are_apart (Mark b) (Mark c) = not (b == c)

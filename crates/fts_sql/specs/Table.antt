@@ -1,5 +1,5 @@
 use Rattle.std.specs.Prelude.{◌≡◌, ◌⊎◌, ℕ, zero, suc, Bool, ◌==◌, true, false, List, [], ◌∷◌, ◌++◌, codes}
-use Rattle.std.specs.Str.{bytes_eq, str_to_ascii_lowercase}
+use Rattle.std.specs.Str.{str_eq_ignore_ascii_case}
 use Rattle.fts_sql.specs.Token.{Token, name, number, string, mark}
 use Rattle.fts_sql.specs.declared.word.Word.{Word}
 use Rattle.fts_sql.specs.declared.word.Word.TheVariants as word
@@ -25,7 +25,7 @@ letters word.Where = codes "where"
 
 -- whether the token can stand where the piece is: a keyword in any case
 abbrev pub is_piece : Piece → Token → Bool
-is_piece (Keyword w) (name written) = bytes_eq (str_to_ascii_lowercase written) (letters w)
+is_piece (Keyword w) (name written) = str_eq_ignore_ascii_case written (letters w)
 is_piece (Mark b) (mark c) = b == c
 is_piece Name (name written) = true
 is_piece Number (number n) = true

@@ -1,4 +1,4 @@
-ghost use Rattle.std.specs.Prelude.{◌≡◌, ◌∷◌, [], map, drop, length, ◌<◌, IfOk, IfSome, IfNone};
+ghost use Rattle.std.specs.Prelude.{◌≡◌, ◌++◌, [], map, drop, length, ◌<◌, IfOk, IfSome, IfNone};
 ghost use Rattle.fts_sql.specs.Reading.{token_of, unquoted};
 ghost use Rattle.fts_sql.specs.Statement as taken;
 ghost use Rattle.fts_sql.specs.Statement.{names_in, values_in};
@@ -7,6 +7,7 @@ use crate::token::Token;
 use crate::value::Value;
 use crate::values::Values;
 use fts_types::{Names, Text};
+use memchr::memchr;
 use std::alloc::{AllocError, Global};
 
 /// The first of the tokens, if it is a name, as it is written; else nothing.
@@ -76,22 +77,36 @@ pub fn copy_unquoted(alloc: Global, written: &[u8]) -> Result<Text, AllocError>
 {
     let mut text = Vec::with_capacity(alloc, written.len())?;
     let mut rest = written;
-    while let Some((byte, behind)) = split_byte(rest) {
-        text.push(byte)?;
+    while let Some((front, behind)) = split_front(rest) {
+        text.extend_from_slice(front)?;
         rest = behind;
     }
     Ok(Text::new(text))
 }
 
-/// The first byte of a text, as it is written, and what is written behind it.
-fn split_byte(written: &[u8]) -> Option<(u8, &[u8])>
-    ensures some { IfSome result (λ found. unquoted written.now ≡ found.0 ∷ unquoted found.1.now) }
+/// What a text is up to its first apostrophe, with this, and what is written behind it.
+fn split_front(written: &[u8]) -> Option<(&[u8], &[u8])>
+    ensures some { IfSome result
+        (λ found. unquoted written.now ≡ found.0.now ++ unquoted found.1.now) }
     ensures shorter { IfSome result (λ found. length found.1.now < length written.now) }
     ensures none { IfNone result (unquoted written.now ≡ []) }
 {
-    match written {
-        [] => None,
-        [b'\'', _, rest @ ..] => Some((b'\'', rest)),
-        [byte, rest @ ..] => Some((*byte, rest)),
+    if written.is_empty() {
+        return None;
+    }
+    let Some(place) = memchr(b'\'', written) else {
+        return Some((written, b""));
+    };
+    let (front, rest) = written.split_at(place + 1);
+    Some((front, behind_byte(rest)))
+}
+
+/// What stands behind the first byte.
+fn behind_byte(bytes: &[u8]) -> &[u8]
+    ensures { result.now ≡ drop 1 bytes.now }
+{
+    match bytes {
+        [] => bytes,
+        [_, behind @ ..] => behind,
     }
 }

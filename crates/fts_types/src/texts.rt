@@ -1,8 +1,8 @@
 ghost use Rattle.std.specs.Prelude.{◌≡◌, ℕ, ◌<◌, ◌↔◌, List, [], ◌∷◌, ◌++◌, ◌≤◌, length, map};
-ghost use Rattle.std.specs.Prelude.{sum_by, IsTrue, OnOk, OnErr, IfOk, IfErr, IfSome, IfNone, ◌^◌};
+ghost use Rattle.std.specs.Prelude.{sum_by, IsTrue, OnOk, OnErr, IfErr, IfSome, IfNone, ◌^◌};
 ghost use Rattle.std.specs.Prelude.{slice_index_or};
 
-use std::alloc::{AllocError, AllocFailed, Global};
+use std::alloc::{AllocFailed, Global};
 use std::marker::Model;
 
 /// A list of texts, each a row of bytes. Contracts see it as the list of their bytes.
@@ -91,17 +91,6 @@ impl Texts {
         Some(size)
     }
 
-    /// A copy of the texts, in the allocator's memory.
-    pub fn copied(&self, alloc: Global) -> Result<Self, AllocError>
-        ensures { IfOk result (λ texts. texts ≡ self.now) }
-    {
-        let mut texts = Texts::new(alloc);
-        for place in 0..self.len() {
-            texts.push(self.text(place).to_vec(alloc)?)?;
-        }
-        Ok(texts)
-    }
-
     /// Whether these can be the texts of a row: 1 to 8 columns, of at most 65,535 bytes together.
     pub fn is_row(&self) -> bool
         ensures { IsTrue result ↔ IsRow self.now }
@@ -152,18 +141,7 @@ mod tests {
         let texts = Texts::from_vec(texts.into_vec());
         assert_eq!(rt; texts.len(), 2);
         assert_eq!(rt; texts.text(1), b"phrase b".as_slice());
-        Ok(())
-    }
-
-    #[test]
-    fn texts_are_copied(rt: HostRuntime) -> Result<(), Fail> {
-        let alloc = rt.alloc();
-        let mut texts = Texts::new(alloc);
-        texts.push(b"pear".to_vec(alloc)?)?;
-        texts.push(b"an apple".to_vec(alloc)?)?;
-        let copy = texts.copied(alloc)?;
-        assert_eq!(rt; copy.size(), Some(12));
-        assert_eq!(rt; copy.text(1), b"an apple".as_slice());
+        assert_eq!(rt; texts.size(), Some(14));
         Ok(())
     }
 }

@@ -6,7 +6,7 @@ use Rattle.fts_rows.proofs.rows.Rows.insert.Goals as goal
 pub returns-clause-fits : goal.returns-clause-fits
 returns-clause-fits c = λ count fits.
     fits-push c.args.self.now.rows c.args.plan.now c.add.new.self
-    (row_of (record { key = c.args.key; doc = c.in-Ok.doc; texts = c.in-Ok-new.texts }))
+    (row_of (record { key = c.args.key; doc = c.in-Ok.doc; texts = c.in_ok-texts.texts }))
     count
     c.in_ok-add.ensures
     (sym c.is_taken.ensures ∙ c.if-is_taken.false)
