@@ -5,11 +5,13 @@ ghost use Rattle.std.specs.Prelude.{◌^◌, IfSome, IfNone};
 ghost use Rattle.std.specs.Iterator.{YieldsFirst, item_count};
 ghost use Rattle.fts_ilist.specs.Spelling.{ArePostings, HasFirstId, last_id, list_bytes};
 ghost use Rattle.fts_ilist.specs.Node.{head_size};
-ghost use Rattle.fts_ilist.specs.Packing.{node_size};
+ghost use Rattle.fts_ilist.specs.Packing.{node_size, is_sound, takes_first, are_loose, AreLoose};
 ghost use Rattle.fts_ilist.specs.NodeList.{nodes_size, Takes, IsRow, row_docs, with_nodes};
 
 use crate::cursor::Cursor;
 use crate::node::Node;
+use crate::number::number_len;
+use crate::packing::NODE_LIMIT;
 use fts_types::DocId;
 use std::alloc::{AllocError, Global};
 use std::iter::FusedIterator;
@@ -93,6 +95,27 @@ impl<'a> NodeRef<'a> {
         ensures { result ≡ head_size self.now }
     {
         self.head
+    }
+
+    /// Whether this is a node as packing makes it: of one document, or within the limit.
+    fn is_sound(&self) -> bool
+        ensures { result ≡ is_sound self.now }
+    {
+        if self.count == 1 {
+            return true;
+        }
+        self.bytes.len() <= NODE_LIMIT
+    }
+
+    /// Whether the first document of the next node has a place in this one.
+    fn takes_first(&self, next: &NodeRef<'_>) -> bool
+        ensures { result ≡ takes_first self.now next.now }
+    {
+        if next.head > NODE_LIMIT {
+            return false;
+        }
+        let size = number_len(next.first.saturating_sub(self.last)) + next.head;
+        self.bytes.len() + size <= NODE_LIMIT
     }
 }
 
@@ -186,6 +209,8 @@ pub struct NodeList {
     // How many more rows and bytes there is room for.
     node_room: usize,
     byte_room: usize,
+    // Whether packing would change the nodes.
+    loose: bool,
 }
 
 impl Model for NodeList {
@@ -203,7 +228,7 @@ impl Model for NodeList {
 
     ghost invariant = { λ l. IsNodeList l.rows.items l.bytes.items
         (vec_capacity l.rows - vec_len l.rows) (vec_capacity l.bytes - vec_len l.bytes)
-        l.node_room l.byte_room };
+        l.node_room l.byte_room l.loose };
 }
 
 impl NodeList {
@@ -216,6 +241,7 @@ impl NodeList {
             bytes: Vec::new(alloc),
             node_room: 0,
             byte_room: 0,
+            loose: false,
         }
     }
 
@@ -244,6 +270,31 @@ impl NodeList {
         ensures { IsTrue result ↔ (self.now.nodes ≡ []) }
     {
         self.rows.is_empty()
+    }
+
+    /// Whether packing their documents would give other nodes than these. It takes constant time.
+    pub fn is_loose(&self) -> bool
+        ensures told { result ≡ are_loose self.now.nodes }
+        ensures packs { IsTrue result ↔ AreLoose self.now.nodes }
+    {
+        self.loose
+    }
+
+    /// Whether packing would give other nodes than these and one more behind them. It takes
+    /// constant time.
+    fn is_loose_with(&self, node: &NodeRef<'_>) -> bool
+        ensures { result ≡ are_loose (self.now.nodes ++ node.now ∷ []) }
+    {
+        if self.loose {
+            return true;
+        }
+        if !node.is_sound() {
+            return true;
+        }
+        match self.rows.last() {
+            Some(last) => node_of(last, &self.bytes).takes_first(node),
+            None => false,
+        }
     }
 
     /// Makes room for so many more nodes and bytes, beside the room that there is. Where there is
@@ -278,6 +329,7 @@ impl NodeList {
         requires bytes { node_size node.now ≤ self.old.byte_room }
         ensures { Takes self.old self.new (node.now ∷ []) }
     {
+        self.loose = self.is_loose_with(node);
         let start = self.bytes.len();
         self.bytes.extend_from_slice(node.bytes).unwrap();
         let row = NodeRow {
@@ -348,6 +400,7 @@ mod tests {
         let nodes = nodes(alloc)?;
         let list = NodeList::of(alloc, &nodes)?;
         assert_eq!(rt; list.as_slice().len(), 3);
+        assert!(rt; list.is_loose());
         for (found, node) in list.as_slice().zip(nodes.iter()) {
             assert_eq!(rt;
                 (found.first(), found.last(), found.count()),
