@@ -206,9 +206,9 @@ impl<'a> FusedIterator for NodeSlice<'a> {}
 pub struct NodeList {
     rows: Vec<NodeRow>,
     bytes: Vec<u8>,
-    // How many more rows and bytes there is room for.
-    node_room: usize,
-    byte_room: usize,
+    // How many more rows and bytes there is room for. With these numbers a list fits 64 bytes.
+    node_room: u32,
+    byte_room: u32,
     // Whether packing would change the nodes.
     loose: bool,
 }
@@ -229,6 +229,16 @@ impl Model for NodeList {
     ghost invariant = { λ l. IsNodeList l.rows.items l.bytes.items
         (vec_capacity l.rows - vec_len l.rows) (vec_capacity l.bytes - vec_len l.bytes)
         l.node_room l.byte_room l.loose };
+}
+
+/// So much more room, where the number fits.
+fn more_room(room: u32, more: usize) -> Option<u32>
+    ensures { IfSome result (λ sum. sum ≡ room + more) }
+{
+    match u32::try_from(more) {
+        Ok(more) => room.checked_add(more),
+        Err(_) => None,
+    }
 }
 
 impl NodeList {
@@ -306,10 +316,10 @@ impl NodeList {
         }) }
         ensures err { OnErr result (self.new ≡ self.old) }
     {
-        let node_room = self.node_room.checked_add(nodes).ok_or(AllocError)?;
-        let byte_room = self.byte_room.checked_add(bytes).ok_or(AllocError)?;
-        self.rows.reserve(node_room)?;
-        self.bytes.reserve(byte_room)?;
+        let node_room = more_room(self.node_room, nodes).ok_or(AllocError)?;
+        let byte_room = more_room(self.byte_room, bytes).ok_or(AllocError)?;
+        self.rows.reserve(node_room as usize)?;
+        self.bytes.reserve(byte_room as usize)?;
         self.node_room = node_room;
         self.byte_room = byte_room;
         Ok(())
@@ -342,7 +352,7 @@ impl NodeList {
         };
         self.rows.push(row).unwrap();
         self.node_room -= 1;
-        self.byte_room -= node.bytes.len();
+        self.byte_room -= node.bytes.len() as u32;
     }
 
     /// Puts nodes behind the last, within the room. It takes no memory.
