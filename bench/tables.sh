@@ -1,9 +1,12 @@
 #!/bin/sh
 # Times 30 batches of 29,000 words each into the auxiliary tables, a word with one node of five documents in a batch, as 1,000
 # mails have them: `reserve`, and `install_batch`, with the drop of the batch where it takes it. bench/tables.sh [COMMIT ..]
+# BATCHES=1000 bench/tables.sh makes 1,000 batches. Beside the mean of all it tells those of the ten batches up to the 10th, the
+# 100th and the 1,000th; 1,000 take some 5 GB of memory.
 # It does so for the tree as it stands, and for each commit that is named, one after another in one run; it needs `rt`, and
 # proves fts_aux with the test that takes the times. A batch is installed in seven parts, by ascending words.
 top=$(CDPATH='' cd -- "$(dirname -- "$0")/.." && pwd) || exit 1
+batches=${BATCHES:-30}
 folder=$(mktemp -d) || exit 1
 trap 'rm -rf "$folder"' EXIT
 
@@ -25,7 +28,8 @@ use std::test::Fail;
 TEST
 }
 
-# The test, whose last line fails and tells the times. $1 is how an install takes its batch.
+# The test, whose last line fails and tells the times. $1 is how an install takes its batch, $3 the number of batches, and $2 one
+# more.
 timed_test() {
     cat <<TEST
 use std::rt::Clock;
@@ -47,7 +51,7 @@ fn word(alloc: Global, place: u32) -> Result<Word, Fail>
 }
 
 fn five(alloc: Global, turn: u32) -> Result<Node, Fail>
-    requires { turn < 1000 }
+    requires { turn < 1001 }
 {
     let mut list = Ilist::new(alloc);
     list.push(u64::from(turn) * 10 + 1, &[7, 300])?;
@@ -59,7 +63,7 @@ fn five(alloc: Global, turn: u32) -> Result<Node, Fail>
 }
 
 fn group(alloc: Global, turn: u32, place: u32) -> Result<WordNodes, Fail>
-    requires turn { turn < 1000 }
+    requires turn { turn < 1001 }
     requires place { place < 50000 }
 {
     let nodes = vec![in alloc; five(alloc, turn)?]?;
@@ -67,7 +71,7 @@ fn group(alloc: Global, turn: u32, place: u32) -> Result<WordNodes, Fail>
 }
 
 fn part(alloc: Global, turn: u32, part: u32) -> Result<Nodes, Fail>
-    requires turn { turn < 1000 }
+    requires turn { turn < 1001 }
     requires part { part < 7 }
 {
     let mut batch = Vec::new(alloc);
@@ -103,7 +107,7 @@ fn installed(rt: &(impl Abort + Clock), tables: &mut Tables, batch: Nodes) -> Re
 }
 
 fn turn(rt: &(impl Abort + Clock), alloc: Global, tables: &mut Tables, turn: u32) -> Result<(u128, u128), Fail>
-    requires { turn < 1000 }
+    requires { turn < 1001 }
 {
     let mut reserve = 0u128;
     let mut install = 0u128;
@@ -115,18 +119,52 @@ fn turn(rt: &(impl Abort + Clock), alloc: Global, tables: &mut Tables, turn: u32
     Ok((reserve, install))
 }
 
+// The times of some batches, in nanoseconds: to make their room, and to install them.
+#[derive(Clone, Copy)]
+struct Spent {
+    reserve: u128,
+    install: u128,
+}
+
+const NONE: Spent = Spent {
+    reserve: 0,
+    install: 0,
+};
+
+fn with_batch(spent: Spent, batch: (u128, u128)) -> Spent {
+    Spent {
+        reserve: spent.reserve.wrapping_add(batch.0),
+        install: spent.install.wrapping_add(batch.1),
+    }
+}
+
+// The mean of so many batches, in microseconds.
+fn mean(spent: Spent, count: u128) -> (u128, u128)
+    requires { 0 < count }
+{
+    (spent.reserve / count / 1_000, spent.install / count / 1_000)
+}
+
 #[test]
 fn times(rt: HostRuntime) -> Result<(), Fail> {
     let alloc = rt.alloc();
     let mut tables = Tables::new(alloc);
-    let mut reserve = 0u128;
-    let mut install = 0u128;
-    for place in 1..31u32 {
-        let (first, second) = turn(&rt, alloc, &mut tables, place)?;
-        reserve = reserve.wrapping_add(first);
-        install = install.wrapping_add(second);
+    let (mut all, mut first, mut later, mut last) = (NONE, NONE, NONE, NONE);
+    for place in 1..$2u32 {
+        let batch = turn(&rt, alloc, &mut tables, place)?;
+        all = with_batch(all, batch);
+        if place <= 10 {
+            first = with_batch(first, batch);
+        }
+        if place > 90 && place <= 100 {
+            later = with_batch(later, batch);
+        }
+        if place > 990 {
+            last = with_batch(last, batch);
+        }
     }
-    assert_eq!(rt; (reserve / 30_000, install / 30_000), (0, 0));
+    let told = (mean(all, $3), mean(first, 10), mean(later, 10), mean(last, 10));
+    assert_eq!(rt; told, ((0, 0), (0, 0), (0, 0), (0, 0)));
     Ok(())
 }
 TEST
@@ -139,9 +177,9 @@ run() {
         head_of_test >src/tests.rt
     fi
     if grep -q 'install_batch(&mut self, batch: &' src/tables.rt; then
-        timed_test '&' >>src/tests.rt
+        timed_test '&' $((batches + 1)) "$batches" >>src/tests.rt
     else
-        timed_test '' >>src/tests.rt
+        timed_test '' $((batches + 1)) "$batches" >>src/tests.rt
     fi
     rt test 2>&1 | grep -E 'error|no proof|not proved' | head -20
     ./out/fts_aux_tests tests::times 2>&1 | grep left
@@ -150,8 +188,8 @@ run() {
 git -C "$top" archive HEAD | (mkdir "$folder/now" && tar -x -C "$folder/now") || exit 1
 for commit in "$@"; do
     git -C "$top" archive "$commit" | (mkdir "$folder/$commit" && tar -x -C "$folder/$commit") || exit 1
-    echo "$commit: microseconds a batch, reserve and install:"
+    echo "$commit: microseconds a batch, reserve and install, of all, and up to the 10th, 100th and 1,000th:"
     (run "$folder/$commit")
 done
-echo "now: microseconds a batch, reserve and install:"
+echo "now: microseconds a batch, reserve and install, of all, and up to the 10th, 100th and 1,000th:"
 (run "$folder/now")

@@ -6,6 +6,7 @@ use Rattle.std.specs.Map.{keys_of, values_of, KeepsOthers, lookup_key}
 use Rattle.std.specs.Option.{unwrap_or}
 use Rattle.std.specs.Str.{bytes_eq}
 use Rattle.std.proofs.lemmas.Bool.{cases_Bool}
+use Rattle.std.proofs.lemmas.List.{map-append}
 use Rattle.std.proofs.lemmas.Slice.Eq.{bytes_eq-Decides}
 use Rattle.indexmap.specs.IndexMap.{set_value_at}
 use Rattle.fts_ilist.specs.NodeList.{NodeState, with_nodes}
@@ -48,11 +49,11 @@ apart_at k [] n word all at = absurd (true≢false (sym at))
 apart_at k (y ∷ ks) zero word all at = λ (e : word ≡ k.items). true≢false (sym (ap (λ (x : List ℕ). bytes_eq x y.items) (sym e) ∙ at) ∙ all.0)
 apart_at k (y ∷ ks) (suc n) word all at = apart_at k ks n word all.1 at
 
-first_apart : (k : Vec ℕ) (ks : List (Vec ℕ)) (n : ℕ) (word : List ℕ) → Distinct (k ∷ ks) → is_key_at ks n word ≡ true → word ≢ k.items
+pub first_apart : (k : Vec ℕ) (ks : List (Vec ℕ)) (n : ℕ) (word : List ℕ) → Distinct (k ∷ ks) → is_key_at ks n word ≡ true → word ≢ k.items
 unfolding IsDistinct
 first_apart k ks n word u at = apart_at k ks n word u.0 at
 
-rest_distinct : (k : Vec ℕ) (ks : List (Vec ℕ)) → Distinct (k ∷ ks) → Distinct ks
+pub rest_distinct : (k : Vec ℕ) (ks : List (Vec ℕ)) → Distinct (k ∷ ks) → Distinct ks
 unfolding IsDistinct
 rest_distinct k ks u = u.1
 
@@ -107,7 +108,7 @@ enters es new k word v same none is =
     let absent : find k.items es ≡ None = ap (λ (x : List ℕ). find x es) same ∙ none in
     subst (λ (x : List ℕ). Enters es new x v) same
     (subst (λ (n : Entries). Enters es n k.items v) (sym is)
-    (record { becomes = becomes_last es k v absent; stay = stay_at es k v; last = last_at es k v }))
+    (record { becomes = becomes_last es k v absent; stay = stay_at es k v; last = last_at es k v; keys = (k, refl, map-append (λ (e : Vec ℕ × NodeState). e.0) es ((k, v) ∷ [])) }))
 
 -- ---- by a look-up
 

@@ -1,5 +1,5 @@
 -- What is kept beside the words of a table, as calls change them.
-use Rattle.std.proofs.Common.{◌≡◌, ◌≢◌, ⊎_elim, ℕ, zero, suc, Bool, true, false, cond, ◌||◌, List, [], ◌∷◌, ◌++◌, length, Option, Some, is_some, refl, sym, ap, ◌∙◌, true≢false, arith}
+use Rattle.std.proofs.Common.{◌≡◌, ◌≢◌, ⊎_elim, ℕ, zero, suc, Bool, true, false, cond, ◌||◌, List, [], ◌∷◌, ◌++◌, length, Option, Some, None, is_some, refl, sym, ap, ◌∙◌, true≢false, arith}
 use Rattle.std.specs.Global.{Vec}
 use Rattle.std.specs.List.{list_any}
 use Rattle.std.specs.Map.{keys_of}
@@ -8,10 +8,11 @@ use Rattle.std.specs.BTreeSet.{BTreeSet, contains}
 use Rattle.fts_words.specs.Order.{byte_order}
 use Rattle.fts_ilist.specs.Node.{Docs}
 use Rattle.fts_ilist.specs.NodeList.{NodeState, Takes}
-use Rattle.fts_aux.specs.Table.{Entries, find, list_in, nodes_in, is_key, is_key_at, Room, room_of, no_room, IsListed, IsFilledBut, IsTable, Becomes, Enters, Lists, Drops}
+use Rattle.fts_aux.specs.Table.{Entries, find, list_in, nodes_in, is_key, is_key_at, Room, room_of, no_room, IsListed, IsFilledBut, IsTable, Becomes, Enters, Lists, Drops, loose_count}
 use Rattle.std.specs.BTreeMap.{is_at}
 use Rattle.fts_aux.proofs.Finds.{which_word, list_other}
 use Rattle.fts_aux.proofs.Ordered.{equal_itself, apart_in_order}
+use Rattle.fts_aux.proofs.Counts.{count_kept, count_more}
 
 any_left : {X : Type 0} (p : X → Bool) (xs : List X) (x : X) → list_any p xs ≡ true → list_any p (xs ++ x ∷ []) ≡ true
 any_left p [] x e = absurd (true≢false (sym e))
@@ -59,7 +60,7 @@ key_there (e ∷ es) (suc n) w at = or_there (bytes_eq w e.0.items) (key_there e
     or_there true h = refl
     or_there false h = h
 
-module _ (es new : Entries) (order : BTreeSet (List ℕ)) (fresh : List (List ℕ)) (notes : List ℕ) (word : List ℕ) (is : IsTable es order fresh notes)
+module _ (es new : Entries) (order : BTreeSet (List ℕ)) (fresh : List (List ℕ)) (notes : List ℕ) (word : List ℕ) (loose : ℕ) (is : IsTable es order fresh notes loose)
     (keys : keys_of new ≡ keys_of es) (are : (w : List ℕ) → is_key new w ≡ is_key es w) (others : (w : List ℕ) → w ≢ word → list_in new w ≡ list_in es w)
     (nodes : nodes_in new word ≡ [] → nodes_in es word ≡ []) where
   listed_still : IsListed new order
@@ -76,8 +77,9 @@ module _ (es new : Entries) (order : BTreeSet (List ℕ)) (fresh : List (List �
   noted_old w some = ap (λ (ks : List (Vec ℕ)). list_any (λ number. is_key_at ks number w) notes) keys ∙ is.noted w some
 
   -- the word has no more room than before
-  pub table_appended : (room_of (list_in es word) ≡ no_room → room_of (list_in new word) ≡ no_room) → IsTable new order fresh notes
-  table_appended less = record {
+  pub table_appended : (count : ℕ) → count ≡ loose_count new → (room_of (list_in es word) ≡ no_room → room_of (list_in new word) ≡ no_room) → IsTable new order fresh notes count
+  table_appended count counted less = record {
+    counted = counted;
     listed = listed_still;
     filled = filled_still;
     noted = λ w some. noted_old w (λ none. some (⊎_elim
@@ -87,8 +89,9 @@ module _ (es new : Entries) (order : BTreeSet (List ℕ)) (fresh : List (List �
   }
 
   -- the word has more room, and its number is noted
-  pub table_reserved : (n : ℕ) → is_key_at (keys_of es) n word ≡ true → IsTable new order fresh (notes ++ n ∷ [])
-  table_reserved n at = record {
+  pub table_reserved : nodes_in new word ≡ nodes_in es word → (n : ℕ) → is_key_at (keys_of es) n word ≡ true → IsTable new order fresh (notes ++ n ∷ []) loose
+  table_reserved same n at = record {
+    counted = is.counted ∙ sym (count_kept es new word keys others same);
     listed = listed_still;
     filled = filled_still;
     noted = λ w some. ⊎_elim
@@ -134,8 +137,9 @@ are_written es new word l n becomes at = kept_one es new word l becomes (key_the
 
 -- a word was entered
 pub table_entered : (es new : Entries) (order order' : BTreeSet (List ℕ)) (fresh : List (List ℕ)) (notes : List ℕ) (word : List ℕ) (l : NodeState)
-    → IsTable es order fresh notes → Enters es new word l → Lists order word true order' → IsTable new order' (fresh ++ word ∷ []) (notes ++ length es ∷ [])
-table_entered es new order order' fresh notes word l is en inc = record {
+    → (loose : ℕ) → IsTable es order fresh notes loose → find word es ≡ None → l.nodes ≡ [] → Enters es new word l → Lists order word true order' → IsTable new order' (fresh ++ word ∷ []) (notes ++ length es ∷ []) loose
+table_entered es new order order' fresh notes word l loose is none empty en inc = record {
+  counted = is.counted ∙ sym (count_more es new word l none empty en);
   listed = listed_one es new order order' word (Some l) en.becomes inc is.listed;
   filled = λ w k none. ⊎_elim
       (λ (h : (bytes_eq w word ≡ true) × (w ≡ word)). any_last (bytes_eq w) fresh word h.0)

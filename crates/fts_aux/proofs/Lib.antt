@@ -11,3 +11,5 @@ mod Batches
 mod Rooms
 mod Ascending
 mod Walks
+mod Counts
+mod LooseIn

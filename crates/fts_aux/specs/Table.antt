@@ -3,7 +3,7 @@ use Rattle.std.specs.Prelude.{◌≡◌, ◌≢◌, ℕ, ◌+◌, ◌≤◌, Boo
 use Rattle.std.specs.Prelude.{length, ◌⊎◌, ◌++◌}
 use Rattle.std.specs.Prelude.{Option, Some, None, is_some}
 use Rattle.std.specs.Global.{Vec}
-use Rattle.std.specs.List.{All, AllByRecursion, list_any, slice_get}
+use Rattle.std.specs.List.{All, AllByRecursion, list_any, slice_get, sum_by}
 use Rattle.std.specs.List.Sorted.{IsStrictlySortedBy}
 use Rattle.std.specs.Option.{unwrap_or}
 use Rattle.std.specs.Ordering.{is_gt}
@@ -15,6 +15,7 @@ use Rattle.std.specs.declared.cmp.Ordering.TheVariants.{Less}
 use Rattle.fts_ilist.specs.Node.{Docs}
 use Rattle.fts_words.specs.Order.{byte_order, begins_with}
 use Rattle.fts_ilist.specs.NodeList.{NodeState, nodes_size, with_nodes}
+use Rattle.fts_ilist.specs.Packing.{AreLoose, are_loose}
 
 -- what contracts see of a table: its words, each with its nodes and the room that is promised for more
 abbrev pub Entries : Type 0
@@ -101,6 +102,10 @@ pub record IsNext (nodes : List ℕ → List Docs) (word next : List ℕ) : Type
 abbrev pub IsLast : (List ℕ → List Docs) → List ℕ → Type 0
 IsLast nodes word = (other : List ℕ) → byte_order word other ≡ Less → nodes other ≡ []
 
+-- packing would change the nodes of some word
+abbrev pub HasLoose : (List ℕ → List Docs) → Type 0
+HasLoose nodes = (word : List ℕ) × AreLoose (nodes word)
+
 -- ---- a walk over words
 
 -- the words up to one, in byte order, with their nodes: those that have some
@@ -131,10 +136,20 @@ abbrev pub IsNotedBut : Entries → List ℕ → Type 0
 IsNotedBut table notes = (word : List ℕ) → room_of (list_in table word) ≢ no_room
     → list_any (λ number. is_key_at (keys_of table) number word) notes ≡ true
 
-pub record IsTable (table : Entries) (order : BTreeSet (List ℕ)) (fresh : List (List ℕ)) (notes : List ℕ) : Type 0 where
+-- 1 where packing would change nodes, and 0 where it leaves them
+abbrev pub loose_one : List Docs → ℕ
+loose_one ns = if are_loose ns then 1 else 0
+
+-- of how many words packing would change the nodes
+abbrev pub loose_count : Entries → ℕ
+loose_count table = sum_by (λ k. loose_one (nodes_in table k.items)) (keys_of table)
+
+pub record IsTable (table : Entries) (order : BTreeSet (List ℕ)) (fresh : List (List ℕ)) (notes : List ℕ) (loose : ℕ)
+    : Type 0 where
   pub listed : IsListed table order
   pub filled : IsFilledBut table fresh
   pub noted : IsNotedBut table notes
+  pub counted : loose ≡ loose_count table
 
 -- ---- what changes
 
@@ -148,11 +163,17 @@ pub record Enters (old new : Entries) (word : List ℕ) (list : NodeState) : Typ
   pub stay : (number : ℕ) (w : List ℕ) → is_key_at (keys_of old) number w ≡ true
       → is_key_at (keys_of new) number w ≡ true
   pub last : is_key_at (keys_of new) (length old) word ≡ true
+  pub keys : (key : Vec ℕ) × (key.items ≡ word) × (keys_of new ≡ keys_of old ++ key ∷ [])
 
 -- the list of a word is another, and the words keep their numbers
 pub record Writes (old new : Entries) (word : List ℕ) (list : NodeState) : Type 0 where
   pub becomes : Becomes old word (Some list) new
   pub keys : keys_of new ≡ keys_of old
+
+-- one word's nodes change, and with it how many words packing would change
+abbrev pub Recounts : Entries → Entries → List ℕ → Type 0
+Recounts old new word = loose_count new + loose_one (nodes_in old word)
+    ≡ loose_count old + loose_one (nodes_in new word)
 
 -- the word is taken out, if it has no nodes
 pub record Drops (old new : Entries) (word : List ℕ) : Type 0 where

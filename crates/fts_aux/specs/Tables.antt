@@ -7,7 +7,7 @@ use Rattle.std.specs.Str.{bytes_eq}
 use Rattle.fts_types.specs.Table.{table_of}
 use Rattle.fts_ilist.specs.Node.{Docs, NodesAfter, last_of, nodes_for}
 use Rattle.fts_aux.specs.Table.{Entries, nodes_in, list_in, is_key, Room, room_of, no_room, needs, with_room, IsWithin}
-use Rattle.fts_aux.specs.Table.{IsNext, IsLast}
+use Rattle.fts_aux.specs.Table.{IsNext, IsLast, HasLoose}
 
 -- the six tables, each with its words. A word without nodes is there for its room alone
 abbrev pub Held : Type 0
@@ -95,3 +95,8 @@ IsNextIn (t ∷ ts) word next = IsNext (nodes_in t) word next ⊎ (IsLast (nodes
 abbrev pub IsLastIn : List Entries → List ℕ → Type 0
 IsLastIn [] word = Unit {0}
 IsLastIn (t ∷ ts) word = IsLast (nodes_in t) word × IsLastIn ts word
+
+-- packing would change the nodes of a word of some tables
+abbrev pub HasLooseIn : List Entries → Type 0
+HasLooseIn [] = ⊥
+HasLooseIn (t ∷ ts) = HasLoose (nodes_in t) ⊎ HasLooseIn ts

@@ -1,5 +1,6 @@
 //! One of the six tables.
 ghost use Rattle.std.specs.Prelude.{◌≡◌, ◌≢◌, ℕ, ◌≤◌, ◌++◌, [], map, List, length, ◌+◌, OnOk, IfOk};
+ghost use Rattle.std.specs.Prelude.{◌↔◌, IsTrue};
 ghost use Rattle.std.specs.Prelude.{OnErr, IfSome, IfNone, slice_get, true, false, Some, None};
 ghost use Rattle.std.specs.Prelude.{if◌then◌else◌};
 ghost use Rattle.std.specs.BTreeSet.{IsUnchanged};
@@ -11,7 +12,8 @@ ghost use Rattle.fts_ilist.specs.Front.{front};
 ghost use Rattle.fts_aux.specs.Table.{with_room, filled, filled_as, seen, IsListing, IsNext};
 ghost use Rattle.fts_aux.specs.Table.{IsLast, IsListed, Becomes, Enters, Writes, no_list, Lists};
 ghost use Rattle.fts_aux.specs.Table.{IsNotedBut, IsFilledBut, Drops, AddsRoom, IsWithin, needs};
-ghost use Rattle.fts_aux.specs.Table.{KeepsNodes};
+ghost use Rattle.fts_aux.specs.Table.{KeepsNodes, HasLoose, Recounts, loose_count};
+ghost use Rattle.fts_ilist.specs.Packing.{are_loose};
 
 use fts_ilist::{Node, NodeList, NodeSlice};
 use fts_types::Word;
@@ -38,6 +40,8 @@ pub struct Table {
     // has come to. They save look-ups, and are tried before use.
     notes: Vec<usize>,
     used: usize,
+    // Of how many words packing would change the nodes.
+    loose: usize,
 }
 
 impl Model for Table {
@@ -47,7 +51,7 @@ impl Model for Table {
 
     ghost view = { λ t. t.words.entries };
 
-    ghost invariant = { λ t. IsTable t.words.entries t.order t.fresh.items t.notes.items };
+    ghost invariant = { λ t. IsTable t.words.entries t.order t.fresh.items t.notes.items t.loose };
 }
 
 /// Whether the word with this number is this one.
@@ -120,8 +124,23 @@ fn give_up_at(words: &mut Words, number: usize)
     }
 }
 
-/// Puts nodes behind those of the word with this number.
-fn append_at(words: &mut Words, number: usize, word: &[u8], nodes: &[Node])
+/// How many words are loose, where one of them was or was not and now is or is not.
+fn recounted(words: &Words, loose: usize, was: bool, is: bool) -> usize
+    requires { loose_count words.now.entries + (if was then 1 else 0)
+        ≡ loose + (if is then 1 else 0) }
+    ensures { result ≡ loose_count words.now.entries }
+{
+    match (was, is) {
+        (true, false) => loose - 1,
+        // There are no more of them than words.
+        (false, true) => words.len().min(loose + 1),
+        _ => loose,
+    }
+}
+
+/// Puts nodes behind those of the word with this number, and tells whether packing would have
+/// changed its nodes before, and would now.
+fn append_at(words: &mut Words, number: usize, word: &[u8], nodes: &[Node]) -> (bool, bool)
     requires number { is_key_at (keys_of words.old.entries) number word.now ≡ true }
     requires nodes { length nodes.now ≤ (list_in words.old.entries word.now).node_room }
     requires bytes { nodes_size nodes.now ≤ (list_in words.old.entries word.now).byte_room }
@@ -129,43 +148,88 @@ fn append_at(words: &mut Words, number: usize, word: &[u8], nodes: &[Node])
         (list_in words.new.entries word.now) }
     ensures takes { Takes (list_in words.old.entries word.now)
         (list_in words.new.entries word.now) nodes.now }
+    ensures was { result.0 ≡ are_loose (nodes_in words.old.entries word.now) }
+    ensures is { result.1 ≡ are_loose (nodes_in words.new.entries word.now) }
+    ensures loose { Recounts words.old.entries words.new.entries word.now }
 {
     match words.get_index_mut(number) {
-        Some(list) => list.append(nodes),
+        Some(list) => {
+            let was = list.is_loose();
+            list.append(nodes);
+            (was, list.is_loose())
+        }
         None => unreachable!(),
     }
 }
 
 /// Puts nodes behind those of a word that has room for them.
-fn append_to(words: &mut Words, noted: Option<&usize>, word: &[u8], nodes: &[Node])
-    requires { IsWithin (needs nodes.now) (room_of (list_in words.old.entries word.now)) }
+fn append_to(
+    words: &mut Words,
+    loose: &mut usize,
+    noted: Option<&usize>,
+    word: &[u8],
+    nodes: &[Node],
+)
+    requires room { IsWithin (needs nodes.now) (room_of (list_in words.old.entries word.now)) }
+    requires loose { loose.old ≡ loose_count words.old.entries }
     ensures takes { Takes (list_in words.old.entries word.now)
         (list_in words.new.entries word.now) nodes.now }
     ensures others { (w : List ℕ) → w ≢ word.now
         → list_in words.new.entries w ≡ list_in words.old.entries w }
     ensures are { (w : List ℕ) → is_key words.new.entries w ≡ is_key words.old.entries w }
     ensures keys { keys_of words.new.entries ≡ keys_of words.old.entries }
+    ensures loose { loose.new ≡ loose_count words.new.entries }
 {
     match noted_number(words, noted, word) {
-        Some(number) => append_at(words, number, word, nodes),
+        Some(number) => {
+            let (was, is) = append_at(words, number, word, nodes);
+            *loose = recounted(words, *loose, was, is);
+        }
         None => {}
     }
 }
 
-/// Replaces the list of a word that is there.
-fn replace_in(words: &mut Words, word: &[u8], list: NodeList)
-    requires { is_key words.old.entries word.now ≡ true }
-    ensures { Becomes words.old.entries word.now (Some list) words.new.entries }
+/// Replaces the list of the word with this number, and tells whether packing would have changed its
+/// nodes before, and would now.
+fn replace_at(words: &mut Words, number: usize, word: &[u8], list: NodeList) -> (bool, bool)
+    requires { is_key_at (keys_of words.old.entries) number word.now ≡ true }
+    ensures becomes { Becomes words.old.entries word.now (Some list) words.new.entries }
+    ensures was { result.0 ≡ are_loose (nodes_in words.old.entries word.now) }
+    ensures is { result.1 ≡ are_loose (nodes_in words.new.entries word.now) }
+    ensures loose { Recounts words.old.entries words.new.entries word.now }
 {
-    match words.get_mut(word) {
-        Some(held) => *held = list,
+    match words.get_index_mut(number) {
+        Some(held) => {
+            let was = held.is_loose();
+            let is = list.is_loose();
+            *held = list;
+            (was, is)
+        }
+        None => unreachable!(),
+    }
+}
+
+/// Replaces the list of a word that is there.
+fn replace_in(words: &mut Words, loose: &mut usize, word: &[u8], list: NodeList)
+    requires key { is_key words.old.entries word.now ≡ true }
+    requires loose { loose.old ≡ loose_count words.old.entries }
+    ensures becomes { Becomes words.old.entries word.now (Some list) words.new.entries }
+    ensures loose { loose.new ≡ loose_count words.new.entries }
+{
+    match number_of(words, word) {
+        Some(number) => {
+            let (was, is) = replace_at(words, number, word, list);
+            *loose = recounted(words, *loose, was, is);
+        }
         None => unreachable!(),
     }
 }
 
 /// Takes a word out.
 fn take_out(words: &mut Words, word: &[u8])
-    ensures { Becomes words.old.entries word.now None words.new.entries }
+    ensures becomes { Becomes words.old.entries word.now None words.new.entries }
+    ensures loose { nodes_in words.old.entries word.now ≡ []
+        → loose_count words.new.entries ≡ loose_count words.old.entries }
 {
     words.swap_remove(word);
 }
@@ -209,6 +273,7 @@ fn give_up(words: &mut Words, notes: &[usize])
     ensures nodes { (w : List ℕ) → nodes_in words.new.entries w ≡ nodes_in words.old.entries w }
     ensures room { (w : List ℕ) → room_of (list_in words.new.entries w) ≡ no_room }
     ensures are { (w : List ℕ) → is_key words.new.entries w ≡ is_key words.old.entries w }
+    ensures loose { loose_count words.new.entries ≡ loose_count words.old.entries }
 {
     let mut rest = notes;
     while let [first, behind @ ..] = rest {
@@ -223,6 +288,7 @@ fn drop_if_empty(words: &mut Words, order: &mut BTreeSet<Word>, word: &Word)
     ensures drops { Drops words.old.entries words.new.entries word.now }
     ensures listed { IsListed words.old.entries order.old
         → IsListed words.new.entries order.new }
+    ensures loose { loose_count words.new.entries ≡ loose_count words.old.entries }
 {
     if !is_empty(words, word.as_bytes()) {
         return;
@@ -251,6 +317,7 @@ fn drop_empty(words: &mut Words, order: &mut BTreeSet<Word>, fresh: &[Word])
     ensures lists { (w : List ℕ) → list_in words.new.entries w ≡ list_in words.old.entries w }
     ensures filled { IsFilledBut words.new.entries [] }
     ensures listed { IsListed words.new.entries order.new }
+    ensures loose { loose_count words.new.entries ≡ loose_count words.old.entries }
 {
     let mut rest = fresh;
     while let Some((first, behind)) = rest.split_first() {
@@ -337,6 +404,7 @@ impl Table {
             fresh: Vec::new(alloc),
             notes: Vec::new(alloc),
             used: 0,
+            loose: 0,
         }
     }
 
@@ -373,6 +441,13 @@ impl Table {
             .order
             .range((Bound::Included(&first), Bound::Unbounded));
         filled_with_prefix(alloc, &self.words, rest, prefix)
+    }
+
+    /// Whether there is a word whose nodes packing would change. It takes constant time.
+    pub fn has_loose(&self) -> bool
+        ensures { IsTrue result ↔ HasLoose (nodes_in self.now) }
+    {
+        self.loose > 0
     }
 
     /// Gives up the room of all words, and takes out those without nodes.
@@ -429,7 +504,8 @@ impl Table {
         ensures takes { Takes (list_in self.old word.now) (list_in self.new word.now) nodes.now }
         ensures others { (w : List ℕ) → w ≢ word.now → list_in self.new w ≡ list_in self.old w }
     {
-        append_to(&mut self.words, self.notes.get(self.used), word, nodes);
+        let noted = self.notes.get(self.used);
+        append_to(&mut self.words, &mut self.loose, noted, word, nodes);
         self.used = next_note(self.used, &self.notes);
     }
 
@@ -454,11 +530,7 @@ impl Table {
     {
         let mut reworked = reworked;
         reworked.give_up_room();
-        if reworked.is_empty() {
-            take_out(&mut self.words, word.as_bytes());
-            take_out_of(&mut self.order, word);
-            return;
-        }
-        replace_in(&mut self.words, word.as_bytes(), reworked);
+        replace_in(&mut self.words, &mut self.loose, word.as_bytes(), reworked);
+        drop_if_empty(&mut self.words, &mut self.order, word);
     }
 }

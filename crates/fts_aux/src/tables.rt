@@ -7,11 +7,12 @@ ghost use Rattle.fts_types.specs.Table.{table_of};
 ghost use Rattle.fts_ilist.specs.Node.{NodesAfter, last_of, nodes_for};
 ghost use Rattle.fts_words.specs.Order.{byte_order};
 ghost use Rattle.fts_aux.specs.Table.{needs, no_room, with_room, IsWithin, IsListing, IsNext};
-ghost use Rattle.fts_aux.specs.Table.{IsLast, IsWalked, IsStep};
+ghost use Rattle.fts_aux.specs.Table.{IsLast, IsWalked, IsStep, HasLoose};
 ghost use Rattle.fts_ilist.specs.Node.{Docs};
 ghost use Rattle.std.specs.Option.{option_map};
 ghost use Rattle.fts_aux.specs.Tables.{nodes, room, HasRoom, HasRoomOf, HasNoOther, ComesAfter};
 ghost use Rattle.fts_aux.specs.Tables.{IsNextIn, IsLastIn, IsGivenUp, Stays, GainsRoom, UsesRoom};
+ghost use Rattle.fts_aux.specs.Tables.{HasLooseIn};
 
 use crate::table::Table;
 use fts_ilist::{Node, NodeList, NodeSlice, WordNodes, bytes_of};
@@ -77,6 +78,21 @@ fn next_in<'a>(tables: &'a [Table], word: &Word) -> Option<&'a Word>
             Some(next) => Some(next),
             None => next_in(rest, word),
         },
+    }
+}
+
+/// Whether one of these tables has a word whose nodes packing would change.
+fn any_loose(tables: &[Table]) -> bool
+    ensures { IsTrue result ↔ HasLooseIn tables.now }
+{
+    match tables {
+        [] => false,
+        [first, rest @ ..] => {
+            if first.has_loose() {
+                return true;
+            }
+            any_loose(rest)
+        }
     }
 }
 
@@ -159,6 +175,14 @@ impl Tables {
             (map (λ p. (p.0.now, p.1)) found.items)) }
     {
         self.tables[place_of_bytes(prefix)].with_prefix(alloc, prefix)
+    }
+
+    /// Whether there is a word whose nodes packing would change, so that a pass has work. It takes
+    /// constant time.
+    pub fn has_loose(&self) -> bool
+        ensures { IsTrue result ↔ HasLoose (nodes self.now) }
+    {
+        any_loose(&self.tables)
     }
 
     /// Gives up the room of the words of one table, and takes those without nodes out of it.

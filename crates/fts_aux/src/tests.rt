@@ -63,6 +63,7 @@ fn a_word_with_room_alone_does_not_show(rt: HostRuntime) -> Result<(), Fail> {
     assert!(rt; tables.nodes_of(b"apple").is_empty());
     assert!(rt; tables.next_after(&Word::copied(alloc, b"")?).is_none());
     assert!(rt; tables.with_prefix(alloc, b"a")?.is_empty());
+    assert!(rt; !tables.has_loose());
     Ok(())
 }
 
@@ -195,6 +196,7 @@ fn a_walk_goes_over_all_words_in_byte_order(rt: HostRuntime) -> Result<(), Fail>
     let alloc = rt.alloc();
     let mut plain = BTreeMap::new(alloc);
     let tables = filled(&rt, alloc, &mut plain)?;
+    assert!(rt; tables.has_loose());
     walks(&rt, alloc, &tables, &plain)
 }
 

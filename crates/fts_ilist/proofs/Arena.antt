@@ -1,7 +1,9 @@
 -- Nodes that lie in one run of bytes.
-use Rattle.std.proofs.Common.{◌≡◌, ℕ, ◌+◌, ◌-◌, ◌≤◌, List, [], ◌∷◌, ◌++◌, length, take, drop, length-drop, refl, sym, ap, subst, ◌∙◌, arith}
+use Rattle.std.proofs.Common.{◌≡◌, ℕ, ◌+◌, ◌-◌, ◌≤◌, List, [], ◌∷◌, ◌++◌, Some, slice_get, length, take, drop, length-drop, refl, sym, ap, subst, ◌∙◌, arith}
 use Rattle.std.specs.List.{slice_range}
-use Rattle.std.proofs.lemmas.List.{take-append-le, drop-append-le, length-append, map-append}
+use Rattle.std.specs.Option.{option_map}
+use Rattle.std.proofs.lemmas.List.{take-append-le, drop-append-le, length-append, length-map, map-append}
+use Rattle.std.proofs.lemmas.Option.{slice_get-map}
 use Rattle.std.proofs.Math.Seq.{drop-append_seam, take-length}
 use Rattle.fts_ilist.specs.Node.{Docs}
 use Rattle.fts_ilist.specs.Reading.{postings_in}
@@ -64,3 +66,11 @@ module _ (bytes more : List ℕ) (rows : List NodeRow) (row : NodeRow) (are : Ar
       map-append (row_docs (bytes ++ more)) rows (row ∷ [])
       ∙ ap (λ (ns : List Docs). ns ++ row_docs (bytes ++ more) row ∷ []) (nodes_stay bytes more rows are)
       ∙ ap (λ (b : List ℕ). nodes_at bytes rows ++ postings_in 0 b ∷ []) same
+
+-- the last row's node is the last node
+pub last_node : (bytes : List ℕ) (rows : List NodeRow) (row : NodeRow) → slice_get rows (length rows - 1) ≡ Some row
+    → slice_get (nodes_at bytes rows) (length (nodes_at bytes rows) - 1) ≡ Some (row_docs bytes row)
+last_node bytes rows row e =
+    ap (λ n. slice_get (nodes_at bytes rows) (n - 1)) (length-map rows (row_docs bytes))
+    ∙ slice_get-map (row_docs bytes) rows (length rows - 1)
+    ∙ ap (option_map (row_docs bytes)) e

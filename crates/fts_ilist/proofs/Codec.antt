@@ -155,3 +155,15 @@ small_number n h =
     number_is n ∙ ap (λ (w : ℕ). all_groups w ++ (n % 128 + 128) ∷ []) q
     ∙ ap (λ (w : List ℕ). w ++ (n % 128 + 128) ∷ []) (nil_from_length (all_groups 0) length_no_groups)
     ∙ ap (λ (w : ℕ). w ∷ []) r
+
+-- a number of two bytes
+pub medium_number : (n : ℕ) → 128 ≤ n → n < 16384 → number_bytes n ≡ n / 128 ∷ (n % 128 + 128) ∷ []
+medium_number n large h =
+    let high : (n / 128) / 128 ≡ 0 = omega arith in
+    let same : (n / 128) % 128 ≡ n / 128 = omega arith in
+    let some : 0 < n / 128 = omega arith in
+    number_is n
+    ∙ ap (λ (w : List ℕ). w ++ (n % 128 + 128) ∷ []) (groups_of_positive (n / 128) some)
+    ∙ ap (λ (w : ℕ). (all_groups w ++ ((n / 128) % 128) ∷ []) ++ (n % 128 + 128) ∷ []) high
+    ∙ ap (λ (w : List ℕ). (w ++ ((n / 128) % 128) ∷ []) ++ (n % 128 + 128) ∷ []) (nil_from_length (all_groups 0) length_no_groups)
+    ∙ ap (λ (w : ℕ). w ∷ (n % 128 + 128) ∷ []) same

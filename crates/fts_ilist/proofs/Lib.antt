@@ -15,4 +15,5 @@ pub mod Ends
 pub mod Cursors
 pub mod Kept
 pub mod Packs
+pub mod Loose
 mod Arena

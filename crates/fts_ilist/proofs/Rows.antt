@@ -1,8 +1,8 @@
 -- The definitions at a few values, computed.
-use Rattle.std.proofs.Common.{◌≡◌, List, [], ◌∷◌, refl}
+use Rattle.std.proofs.Common.{◌≡◌, List, [], ◌∷◌, true, false, refl}
 use Rattle.fts_ilist.specs.Number.{groups, number_bytes}
 use Rattle.fts_ilist.specs.Spelling.{Posting, list_bytes}
-use Rattle.fts_ilist.specs.Packing.{node_size, packed_within, packed}
+use Rattle.fts_ilist.specs.Packing.{node_size, packed_within, packed, are_loose}
 use Rattle.fts_ilist.specs.Reading.{items_after, postings_of, postings_in}
 
 zero_is : number_bytes 0 ≡ 0x80 ∷ []
@@ -76,3 +76,18 @@ larger_alone = refl
 
 nothing_packed : packed [] ≡ []
 nothing_packed = refl
+
+-- ---- nodes that packing would change
+
+-- the second node's document has a place in the first
+two_for_one : are_loose ((one ∷ []) ∷ (two ∷ []) ∷ []) ≡ true
+unfolding number_bytes groups
+two_for_one = refl
+
+as_packed : are_loose ((one ∷ two ∷ far ∷ []) ∷ []) ≡ false
+unfolding number_bytes groups
+as_packed = refl
+
+-- a node without documents is none that packing makes
+without_documents : are_loose ([] ∷ []) ≡ true
+without_documents = refl

@@ -1,5 +1,6 @@
 -- The nodes of a word: its documents in order, packed.
-use Rattle.std.specs.Prelude.{◌≡◌, ℕ, Bool, List, [], ◌∷◌, ◌++◌, length, nat_le, true, false, ◌⊎◌, if◌then◌else◌}
+use Rattle.std.specs.Prelude.{◌≡◌, ◌≢◌, ℕ, Bool, List, [], ◌∷◌, ◌++◌, length, nat_le, true, false, ◌⊎◌, not, ◌||◌}
+use Rattle.std.specs.Prelude.{if◌then◌else◌}
 use Rattle.std.specs.List.{flat_map}
 use Rattle.fts_ilist.specs.Spelling.{Posting, list_bytes}
 
@@ -47,3 +48,30 @@ PutsInto closed [] p closed' begun' = (closed' ≡ closed) × (begun' ≡ p ∷ 
 PutsInto closed (d ∷ ds) p closed' begun' =
     ((has_place 8192 (d ∷ ds) p ≡ true) × (closed' ≡ closed) × (begun' ≡ (d ∷ ds) ++ p ∷ []))
     ⊎ ((has_place 8192 (d ∷ ds) p ≡ false) × (closed' ≡ closed ++ (d ∷ ds) ∷ []) × (begun' ≡ p ∷ []))
+
+-- ---- nodes that packing would change
+
+-- packing their documents gives other nodes
+abbrev pub AreLoose : List (List Posting) → Type 0
+AreLoose nodes = packed (joined nodes) ≢ nodes
+
+-- a node as packing makes it: of one document, or of at most 8,192 bytes
+abbrev pub is_sound : List Posting → Bool
+is_sound [] = false
+is_sound (p ∷ []) = true
+is_sound (p ∷ (q ∷ qs)) = nat_le (node_size (p ∷ (q ∷ qs))) 8192
+
+-- the first document of a node has a place in the node before it
+abbrev pub takes_first : List Posting → List Posting → Bool
+takes_first node [] = false
+takes_first node (p ∷ ps) = has_place 8192 node p
+
+-- behind a node, one is not sound, or a node takes the first document of the next
+abbrev pub loose_behind : List Posting → List (List Posting) → Bool
+loose_behind node [] = false
+loose_behind node (n ∷ ns) = (takes_first node n || not (is_sound n)) || loose_behind n ns
+
+-- a node is not sound, or takes the first document of the next: what is kept of nodes tells it
+abbrev pub are_loose : List (List Posting) → Bool
+are_loose [] = false
+are_loose (n ∷ ns) = not (is_sound n) || loose_behind n ns

@@ -5,11 +5,13 @@ ghost use Rattle.std.specs.Prelude.{◌^◌, IfSome, IfNone};
 ghost use Rattle.std.specs.Iterator.{YieldsFirst, item_count};
 ghost use Rattle.fts_ilist.specs.Spelling.{ArePostings, HasFirstId, last_id, list_bytes};
 ghost use Rattle.fts_ilist.specs.Node.{head_size};
-ghost use Rattle.fts_ilist.specs.Packing.{node_size};
+ghost use Rattle.fts_ilist.specs.Packing.{node_size, is_sound, takes_first, are_loose, AreLoose};
 ghost use Rattle.fts_ilist.specs.NodeList.{nodes_size, Takes, IsRow, row_docs, with_nodes};
 
 use crate::cursor::Cursor;
 use crate::node::Node;
+use crate::number::number_len;
+use crate::packing::NODE_LIMIT;
 use fts_types::DocId;
 use std::alloc::{AllocError, Global};
 use std::iter::FusedIterator;
@@ -93,6 +95,27 @@ impl<'a> NodeRef<'a> {
         ensures { result ≡ head_size self.now }
     {
         self.head
+    }
+
+    /// Whether this is a node as packing makes it: of one document, or within the limit.
+    fn is_sound(&self) -> bool
+        ensures { result ≡ is_sound self.now }
+    {
+        if self.count == 1 {
+            return true;
+        }
+        self.bytes.len() <= NODE_LIMIT
+    }
+
+    /// Whether the first document of the next node has a place in this one.
+    fn takes_first(&self, next: &NodeRef<'_>) -> bool
+        ensures { result ≡ takes_first self.now next.now }
+    {
+        if next.head > NODE_LIMIT {
+            return false;
+        }
+        let size = number_len(next.first.saturating_sub(self.last)) + next.head;
+        self.bytes.len() + size <= NODE_LIMIT
     }
 }
 
@@ -183,9 +206,11 @@ impl<'a> FusedIterator for NodeSlice<'a> {}
 pub struct NodeList {
     rows: Vec<NodeRow>,
     bytes: Vec<u8>,
-    // How many more rows and bytes there is room for.
-    node_room: usize,
-    byte_room: usize,
+    // How many more rows and bytes there is room for. With these numbers a list fits 64 bytes.
+    node_room: u32,
+    byte_room: u32,
+    // Whether packing would change the nodes.
+    loose: bool,
 }
 
 impl Model for NodeList {
@@ -203,7 +228,17 @@ impl Model for NodeList {
 
     ghost invariant = { λ l. IsNodeList l.rows.items l.bytes.items
         (vec_capacity l.rows - vec_len l.rows) (vec_capacity l.bytes - vec_len l.bytes)
-        l.node_room l.byte_room };
+        l.node_room l.byte_room l.loose };
+}
+
+/// So much more room, where the number fits.
+fn more_room(room: u32, more: usize) -> Option<u32>
+    ensures { IfSome result (λ sum. sum ≡ room + more) }
+{
+    match u32::try_from(more) {
+        Ok(more) => room.checked_add(more),
+        Err(_) => None,
+    }
 }
 
 impl NodeList {
@@ -216,6 +251,7 @@ impl NodeList {
             bytes: Vec::new(alloc),
             node_room: 0,
             byte_room: 0,
+            loose: false,
         }
     }
 
@@ -246,6 +282,31 @@ impl NodeList {
         self.rows.is_empty()
     }
 
+    /// Whether packing their documents would give other nodes than these. It takes constant time.
+    pub fn is_loose(&self) -> bool
+        ensures told { result ≡ are_loose self.now.nodes }
+        ensures packs { IsTrue result ↔ AreLoose self.now.nodes }
+    {
+        self.loose
+    }
+
+    /// Whether packing would give other nodes than these and one more behind them. It takes
+    /// constant time.
+    fn is_loose_with(&self, node: &NodeRef<'_>) -> bool
+        ensures { result ≡ are_loose (self.now.nodes ++ node.now ∷ []) }
+    {
+        if self.loose {
+            return true;
+        }
+        if !node.is_sound() {
+            return true;
+        }
+        match self.rows.last() {
+            Some(last) => node_of(last, &self.bytes).takes_first(node),
+            None => false,
+        }
+    }
+
     /// Makes room for so many more nodes and bytes, beside the room that there is. Where there is
     /// no memory for it, nothing changes.
     pub fn reserve(&mut self, nodes: usize, bytes: usize) -> Result<(), AllocError>
@@ -255,10 +316,10 @@ impl NodeList {
         }) }
         ensures err { OnErr result (self.new ≡ self.old) }
     {
-        let node_room = self.node_room.checked_add(nodes).ok_or(AllocError)?;
-        let byte_room = self.byte_room.checked_add(bytes).ok_or(AllocError)?;
-        self.rows.reserve(node_room)?;
-        self.bytes.reserve(byte_room)?;
+        let node_room = more_room(self.node_room, nodes).ok_or(AllocError)?;
+        let byte_room = more_room(self.byte_room, bytes).ok_or(AllocError)?;
+        self.rows.reserve(node_room as usize)?;
+        self.bytes.reserve(byte_room as usize)?;
         self.node_room = node_room;
         self.byte_room = byte_room;
         Ok(())
@@ -278,6 +339,7 @@ impl NodeList {
         requires bytes { node_size node.now ≤ self.old.byte_room }
         ensures { Takes self.old self.new (node.now ∷ []) }
     {
+        self.loose = self.is_loose_with(node);
         let start = self.bytes.len();
         self.bytes.extend_from_slice(node.bytes).unwrap();
         let row = NodeRow {
@@ -290,7 +352,7 @@ impl NodeList {
         };
         self.rows.push(row).unwrap();
         self.node_room -= 1;
-        self.byte_room -= node.bytes.len();
+        self.byte_room -= node.bytes.len() as u32;
     }
 
     /// Puts nodes behind the last, within the room. It takes no memory.
@@ -348,6 +410,7 @@ mod tests {
         let nodes = nodes(alloc)?;
         let list = NodeList::of(alloc, &nodes)?;
         assert_eq!(rt; list.as_slice().len(), 3);
+        assert!(rt; list.is_loose());
         for (found, node) in list.as_slice().zip(nodes.iter()) {
             assert_eq!(rt;
                 (found.first(), found.last(), found.count()),

@@ -154,7 +154,12 @@ pub(crate) fn put_in_room(out: &mut Vec<u8>, n: u64)
     ensures capacity { vec_capacity out.old ≤ vec_capacity out.new }
 {
     if n < 128 {
-        out.push(n as u8 + 128).unwrap();
+        out.push_reserved(n as u8 + 128);
+        return;
+    }
+    if n < 128 * 128 {
+        out.push_reserved((n / 128) as u8);
+        out.push_reserved((n % 128) as u8 + 128);
         return;
     }
     let mut buf = [0; NUMBER_ROOM];

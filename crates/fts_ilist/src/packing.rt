@@ -1,7 +1,8 @@
 //! Documents packed into nodes.
-ghost use Rattle.std.specs.Prelude.{◌≡◌, ◌<◌, [], ◌∷◌, ◌++◌, map, IfOk, OnOk, OnErr};
-ghost use Rattle.fts_ilist.specs.Spelling.{ArePostings, last_id};
-ghost use Rattle.fts_ilist.specs.Packing.{packed, PutsInto};
+ghost use Rattle.std.specs.Prelude.{◌≡◌, ◌<◌, ◌↔◌, List, [], ◌∷◌, ◌++◌, map, true, IfOk, OnOk};
+ghost use Rattle.std.specs.Prelude.{OnErr};
+ghost use Rattle.fts_ilist.specs.Spelling.{Posting, ArePostings, last_id};
+ghost use Rattle.fts_ilist.specs.Packing.{packed, PutsInto, AreLoose, are_loose};
 
 use crate::cursor::Cursor;
 use crate::documents::Document;
@@ -108,6 +109,12 @@ impl Packing {
         Ok(closed)
     }
 }
+
+/// Packing gives other nodes just where one of them is not sound (of one document, or within the
+/// limit) or takes the first document of the next: what is kept of nodes tells it.
+pub fn loose_nodes_are_told_by_their_ends()
+    ensures { (nodes : List (List Posting)) → AreLoose nodes ↔ (are_loose nodes ≡ true) }
+{}
 
 /// The nodes of these documents.
 pub fn pack(alloc: Global, docs: Cursor<'_>) -> Result<Vec<Ilist>, AllocError>

@@ -46,7 +46,7 @@ pub(crate) fn put_posting(out: &mut Vec<u8>, increase: u64, positions: &[u32])
 {
     put_in_room(out, increase);
     put_positions(out, positions);
-    out.push(0).unwrap();
+    out.push_reserved(0);
 }
 
 /// Writes an increase and the bytes behind it at the end, within the capacity.
@@ -67,5 +67,5 @@ pub(crate) fn put_document(out: &mut Vec<u8>, increase: u64, encoded: &[u8])
     ensures { out.new.items ≡ out.old.items ++ (number_bytes increase ++ (encoded.now ++ 0 ∷ [])) }
 {
     put_tail(out, increase, encoded);
-    out.push(0).unwrap();
+    out.push_reserved(0);
 }

@@ -4,4 +4,4 @@ use Rattle.fts_aux.proofs.table.append_to.Goals as goal
 
 pub returns-in-Some-clause-are : goal.returns-in-Some-clause-are
 returns-in-Some-clause-are c =
-    are_written c.args.words.now.entries c.append_at.new.words.entries c.args.word.now (list_in c.append_at.new.words.entries c.args.word.now) c.in-Some.number c.append_at.ensures.writes.becomes c.in-Some.ensures.some
+    are_written c.args.words.now.entries c.append_at-was.new.words.entries c.args.word.now (list_in c.append_at-was.new.words.entries c.args.word.now) c.in-Some.number c.append_at-was.ensures.writes.becomes c.in-Some.ensures.some

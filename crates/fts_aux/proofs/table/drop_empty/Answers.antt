@@ -8,4 +8,5 @@ loop-first-preserved c =
       λ w. c.drop_if_empty.ensures.drops.lists w ∙ inv.0 w,
       drop_step c.loop-first.words.entries c.drop_if_empty.new.words.entries c.in-Some.first.now c.in-Some.behind.now c.loop-first.rest.now c.drop_if_empty.ensures.drops c.in-Some.ensures.cases.0 inv.1,
       c.drop_if_empty.ensures.listed inv.2,
+      c.drop_if_empty.ensures.loose ∙ inv.3,
     )

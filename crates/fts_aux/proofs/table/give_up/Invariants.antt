@@ -1,4 +1,5 @@
 use Rattle.std.proofs.Common.{◌≡◌, ℕ, List, length}
+use Rattle.std.specs.Map.{keys_of}
 use Rattle.fts_aux.specs.Table.{nodes_in, is_key, IsNotedBut}
 use Rattle.fts_aux.proofs.table.give_up.Given as goal
 
@@ -7,6 +8,7 @@ invariant-loop-rest l =
     ((w : List ℕ) → nodes_in l.words.entries w ≡ nodes_in l.initial.words.entries w)
     × ((w : List ℕ) → is_key l.words.entries w ≡ is_key l.initial.words.entries w)
     × IsNotedBut l.words.entries l.rest
+    × (keys_of l.words.entries ≡ keys_of l.initial.words.entries)
 
 abbrev pub decreases-loop-rest : goal.decreases-loop-rest
 decreases-loop-rest l = length l.rest

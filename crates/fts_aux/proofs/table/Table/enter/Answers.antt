@@ -1,5 +1,5 @@
-use Rattle.std.proofs.Common.{◌≡◌, ◌++◌, ◌∷◌, [], length, ℕ, List, sym, ap, ◌∙◌, subst, rules}
-use Rattle.fts_aux.specs.Table.{IsTable}
+use Rattle.std.proofs.Common.{◌≡◌, ◌++◌, ◌∷◌, [], length, ℕ, List, None, refl, sym, ap, ◌∙◌, subst, rules}
+use Rattle.fts_aux.specs.Table.{IsTable, find}
 use Rattle.fts_aux.proofs.Kept.{table_entered}
 use Rattle.fts_aux.proofs.table.Table.enter.Goals as goal
 
@@ -10,6 +10,7 @@ invariant_of-self-2 c =
     let notes : c.push.new.self.items ≡ c.self.inside.notes.items ++ c.len-number.result ∷ [] = search rules in
     let fresh : c.push-2.new.self.items ≡ c.self.inside.fresh.items ++ c.in_ok-fresh.fresh ∷ [] = search rules in
     let new = c.enter.new.words.entries in
-    subst (λ (x : List (List ℕ)). IsTable new c.enter.new.order x c.push.new.self.items) (sym (fresh ∙ ap (λ (x : List ℕ). c.self.inside.fresh.items ++ x ∷ []) c.in_ok-fresh.ensures))
-    (subst (λ (x : List ℕ). IsTable new c.enter.new.order (c.self.inside.fresh.items ++ c.args.word.now ∷ []) x) (sym (notes ∙ ap (λ n. c.self.inside.notes.items ++ n ∷ []) number))
-    (table_entered es new c.self.inside.order c.enter.new.order c.self.inside.fresh.items c.self.inside.notes.items c.args.word.now _ c.self.invariant c.in_ok-enter.ensures.ok c.in_ok-enter.ensures.order))
+    let none : find c.args.word.now es ≡ None = ap (find c.args.word.now) c.self.view_is ∙ c.requires.absent in
+    subst (λ (x : List (List ℕ)). IsTable new c.enter.new.order x c.push.new.self.items c.self.inside.loose) (sym (fresh ∙ ap (λ (x : List ℕ). c.self.inside.fresh.items ++ x ∷ []) c.in_ok-fresh.ensures))
+    (subst (λ (x : List ℕ). IsTable new c.enter.new.order (c.self.inside.fresh.items ++ c.args.word.now ∷ []) x c.self.inside.loose) (sym (notes ∙ ap (λ n. c.self.inside.notes.items ++ n ∷ []) number))
+    (table_entered es new c.self.inside.order c.enter.new.order c.self.inside.fresh.items c.self.inside.notes.items c.args.word.now _ c.self.inside.loose c.self.invariant none refl c.in_ok-enter.ensures.ok c.in_ok-enter.ensures.order))

@@ -1,6 +1,6 @@
 use Rattle.std.proofs.Common.{◌≡◌, ◌+◌, ◌∷◌, ◌++◌, [], length, sym, ap, ◌∙◌, subst, arith, rules}
 use Rattle.std.specs.Vec.{vec_len}
-use Rattle.fts_ilist.specs.Packing.{node_size}
+use Rattle.fts_ilist.specs.Packing.{node_size, are_loose}
 use Rattle.fts_ilist.specs.NodeList.{AreRows, nodes_at}
 use Rattle.fts_ilist.specs.declared.node_list.NodeRow.{NodeRow}
 use Rattle.fts_ilist.proofs.Arena.{rows_more, nodes_more}
@@ -15,7 +15,12 @@ invariant_of-self c =
     let begins : c.len-start.result ≡ length c.self.inside.bytes.items = search rules in
     let ends : c.len.result ≡ length c.self.inside.bytes.items + length more = search rules in
     let vec_rows : vec_len c.push.new.self ≡ vec_len c.self.inside.rows + 1 = search rules in
+    let nodes = ap (λ bs. nodes_at bs c.push.new.self.items) bytes ∙ ap (nodes_at (c.self.inside.bytes.items ++ more)) rows
+    ∙ nodes_more c.self.inside.bytes.items more c.self.inside.rows.items row c.self.invariant.are begins ends c.node.invariant
+    ∙ ap (λ (n : _). nodes_at c.self.inside.bytes.items c.self.inside.rows.items ++ n ∷ []) c.node.view_is
+    ∙ ap (λ s. s.nodes ++ c.args.node.now ∷ []) c.self.view_is in
     record {
+      told = c.is_loose_with-self-inside.ensures ∙ ap are_loose (sym nodes);
       are = subst (λ bs. AreRows bs c.push.new.self.items) (sym bytes)
           (subst (AreRows (c.self.inside.bytes.items ++ more)) (sym rows)
           (rows_more c.self.inside.bytes.items more c.self.inside.rows.items row c.self.invariant.are begins ends c.node.invariant));
