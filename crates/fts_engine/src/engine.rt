@@ -3,6 +3,7 @@ ghost use Rattle.std.specs.Prelude.{Err, None};
 ghost use Rattle.fts_engine.specs.Refusing.{refusal_answer};
 ghost use Rattle.fts_log.specs.Frame.{payload_of};
 ghost use Rattle.fts_log.specs.Framing.{inner};
+ghost use Rattle.fts_log.specs.Log.{count_of};
 ghost use Rattle.fts_commits.specs.Fits.{CanCommit};
 ghost use Rattle.fts_rowcodec.specs.Payload.{IsWritten, commit_payload};
 ghost use Rattle.fts_steps.specs.State.{State};
@@ -112,7 +113,8 @@ impl<D: Disk, E: Disk> Engine<D, E> {
 
     /// How many entries the index log has.
     pub fn entries(&self) -> u64
-        ensures { (state : State) → Keeps state self.now → result ≡ length state.entries }
+        ensures counted { result ≡ count_of (index_log self.now) }
+        ensures state { (state : State) → Keeps state self.now → result ≡ length state.entries }
     {
         self.index.count()
     }

@@ -10,6 +10,8 @@ use fts_query::{Leaf, View};
 use fts_steps::CommitError;
 use fts_types::{DocId, Key, Limits, Names, RowTexts, Settings, SharedTexts};
 use std::alloc::{AllocError, Global};
+use std::fmt::Display;
+use std::process::Abort;
 use std::test::Fail;
 
 /// Settings of a table with a title and a body.
@@ -302,6 +304,45 @@ fn an_index_log_has_no_entry(rt: HostRuntime) -> Result<(), Fail> {
             at,
         });
         assert_eq!(rt; open(alloc, (rows, index), 2, 4_096).err(), damage);
+    }
+    Ok(())
+}
+
+/// The error prints this.
+fn prints<E: Display>(rt: &impl Abort, alloc: Global, error: &E, text: &str) -> Result<(), Fail> {
+    let printed = format!(in alloc; "{error}")?;
+    assert_eq!(rt; printed.as_str(), text);
+    Ok(())
+}
+
+#[test]
+fn create_tells_why_it_failed(rt: HostRuntime) -> Result<(), Fail> {
+    for (error, text) in [
+        (CreateError::NoMemory, "no memory"),
+        (CreateError::AlreadyCreated, "already created"),
+        (CreateError::DiskFault, "disk fault"),
+    ] {
+        prints(&rt, rt.alloc(), &error, text)?;
+    }
+    Ok(())
+}
+
+/// Damage of the index log.
+const DAMAGED: OpenError = OpenError::Damaged {
+    device: Device::Index,
+    file: 0,
+    at: 8,
+};
+
+#[test]
+fn an_opening_tells_why_it_failed(rt: HostRuntime) -> Result<(), Fail> {
+    for (error, text) in [
+        (OpenError::NoMemory, "no memory"),
+        (OpenError::NotCreated, "not created"),
+        (DAMAGED, "damaged index file 0 at 8"),
+        (OpenError::DiskFault, "disk fault"),
+    ] {
+        prints(&rt, rt.alloc(), &error, text)?;
     }
     Ok(())
 }

@@ -1,3 +1,4 @@
+mod bytes;
 mod calling;
 mod columns;
 mod commands;

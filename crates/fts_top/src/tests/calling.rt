@@ -20,6 +20,17 @@ pub const TWO: &str = "INSERT INTO docs (id, body) VALUES (1, 'apple pie')\n\
 pub const SEARCH: &str =
     "SELECT FTS_DOC_ID FROM docs WHERE MATCH (body) AGAINST ('pie' IN BOOLEAN MODE)\n";
 
+/// An INSERT of a row whose commit takes 25 bytes of the rows log.
+pub const APPLE: &str = "INSERT INTO docs (id, body) VALUES (1, 'apple')\n";
+
+pub const FIND_APPLE: &str =
+    "SELECT FTS_DOC_ID FROM docs WHERE MATCH (body) AGAINST ('apple' IN BOOLEAN MODE)\n";
+
+/// The rows log of a database with one column and that row.
+pub const LOG: &[u8] = b"FTSROWS1\x01\x00\x00\x00\x14\
+\x00\x01\x04body\x03\x54\x01\x07\xd0\x00\x7a\x12\x00\x00\x00\x03\xe8\
+\x01\x00\x00\x00\x14\x01\x00\x01\x01\x00\x00\x00\x00\x00\x00\x00\x01\x00\x00\x05apple\x00";
+
 /// The index log of a database: it has no entry.
 pub const INDEX: &[u8] = b"FTSINDX1\x00";
 

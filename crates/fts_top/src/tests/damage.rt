@@ -1,14 +1,11 @@
 //! Logs of a database whose bytes were changed.
-use super::calling::{RUN, call, call_on, created, disk_of, empty_disk, ended};
+use super::calling::{
+    FIND_APPLE, LOG, RUN, call, call_on, created, disk_of, empty_disk, ended, finds,
+};
 use crate::{Device, Status};
 use fts_disk::MemDisk;
 use std::alloc::Global;
 use std::test::Fail;
-
-/// The log of a database with one column and one row.
-const LOG: &[u8] = b"FTSROWS1\x01\x00\x00\x00\x14\
-\x00\x01\x04body\x03\x54\x01\x07\xd0\x00\x7a\x12\x00\x00\x00\x03\xe8\
-\x01\x00\x00\x00\x14\x01\x00\x01\x01\x00\x00\x00\x00\x00\x00\x00\x01\x00\x00\x05apple\x00";
 
 /// The log with these bytes at these places.
 fn log_with(alloc: Global, changes: &[(usize, u8)]) -> Result<MemDisk, Fail> {
@@ -82,15 +79,45 @@ fn the_index_log_is_looked_at_behind_the_rows_log(rt: HostRuntime) -> Result<(),
 
 #[test]
 fn a_closed_gate_ends_the_log(rt: HostRuntime) -> Result<(), Fail> {
-    let search =
-        b"SELECT FTS_DOC_ID FROM docs WHERE MATCH (body) AGAINST ('apple' IN BOOLEAN MODE)\n";
-    let run = call(rt.alloc(), RUN, search, log_with(rt.alloc(), &[(33, 0)])?)?;
-    ended(
-        &rt,
-        &run,
-        &Status::Done,
-        "OK as of 0: none\n",
-        "a closed gate",
-    );
+    let log = log_with(rt.alloc(), &[(33, 0)])?;
+    let run = call(rt.alloc(), RUN, FIND_APPLE.as_bytes(), log)?;
+    ended(&rt, &run, &Status::Done, "OK as of 0: none\n", "a gate");
     Ok(())
+}
+
+/// To how many bytes the log is cut, and how a run then ends.
+const CUTS: [(usize, Option<u64>); 6] = [
+    (58, Some(58)),
+    (50, Some(33)),
+    (33, Some(33)),
+    (9, Some(8)),
+    (8, None),
+    (0, None),
+];
+
+#[test]
+fn a_log_that_was_cut_is_damaged_or_was_never_created(rt: HostRuntime) -> Result<(), Fail> {
+    for (length, at) in CUTS {
+        let mut bytes = Vec::from_slice(rt.alloc(), LOG)?;
+        bytes.truncate(length);
+        let status = match at {
+            Some(at) => Status::Damaged {
+                device: Device::Rows,
+                file: 0,
+                at,
+            },
+            None => Status::NotCreated,
+        };
+        let run = call(rt.alloc(), RUN, b"", disk_of(rt.alloc(), &bytes)?)?;
+        ended(&rt, &run, &status, "", "a log that was cut");
+    }
+    Ok(())
+}
+
+#[test]
+fn what_stands_behind_a_closed_gate_may_be_cut(rt: HostRuntime) -> Result<(), Fail> {
+    let mut bytes = Vec::from_slice(rt.alloc(), created(rt.alloc())?.file(0))?;
+    bytes.resize(100, 1)?;
+    bytes.truncate(40);
+    finds(&rt, rt.alloc(), &bytes, "OK as of 0: none\n")
 }

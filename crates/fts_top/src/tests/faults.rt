@@ -69,13 +69,20 @@ fn a_failing_call_of_the_index_device_ends_create(rt: HostRuntime) -> Result<(),
     Ok(())
 }
 
+/// Calls of the rows device by which a look of `create` at a database fails.
+const LOOK_FAULTS: [(Kind, u64); 2] = [(Kind::Len, 1), (Kind::Read, 1)];
+
 #[test]
-fn create_makes_both_logs(rt: HostRuntime) -> Result<(), Fail> {
+fn a_failing_look_of_create_leaves_the_database(rt: HostRuntime) -> Result<(), Fail> {
     let alloc = rt.alloc();
-    let made = call_on(alloc, CREATE, b"", empty_disk(alloc)?, empty_disk(alloc)?)?;
-    ended(&rt, &made, &Status::Done, "OK created\n", "create");
-    assert_eq!(rt; made.index.file(0), INDEX);
-    assert_eq!(rt; made.rows.file(0).len(), 34);
+    let made = created(alloc)?;
+    for fails in LOOK_FAULTS {
+        let rows = failing(alloc, made.file(0), fails)?;
+        let twice = call(alloc, CREATE, b"", rows)?;
+        ended(&rt, &twice, &Status::DiskFault, "", "create");
+        assert_eq!(rt; twice.rows.file(0), made.file(0), "{fails:?}");
+        assert_eq!(rt; twice.index.file(0), INDEX, "{fails:?}");
+    }
     Ok(())
 }
 

@@ -2,7 +2,7 @@
 ghost use Rattle.std.specs.Prelude.{◌<◌, ◌≤◌, length};
 ghost use Rattle.fts_disk.specs.Memory.{mem_calls};
 
-use super::calling::{Outcome, RUN, SEARCH, TWO, call, call_on, created, disk_of};
+use super::calling::{Outcome, RUN, SEARCH, TWO, call, call_on, created, disk_of, ended};
 use crate::Status;
 use std::alloc::Global;
 use std::test::Fail;
@@ -17,35 +17,62 @@ fn answered_before(call: usize) -> usize
     if call < 8 { 0 } else { 1 }
 }
 
-/// A search of what a stop left.
-fn search_after(alloc: Global, run: &Outcome, call: usize, choice: u64) -> Result<Outcome, Fail>
-    requires rows { call < length (mem_calls run.now.rows) }
-    requires index { 2 < length (mem_calls run.now.index) }
+/// A search of what a stop left, in these calls of the two devices.
+fn search_after(
+    alloc: Global,
+    run: &Outcome,
+    calls: (usize, usize),
+    choice: u64,
+) -> Result<Outcome, Fail>
+    requires rows { calls.0 < length (mem_calls run.now.rows) }
+    requires index { calls.1 < length (mem_calls run.now.index) }
 {
-    let rows = run.rows.pick_image(call, choice)?;
-    let index = run.index.pick_image(2, choice)?;
+    let rows = run.rows.pick_image(calls.0, choice)?;
+    let index = run.index.pick_image(calls.1, choice)?;
     Ok(call_on(alloc, RUN, SEARCH.as_bytes(), rows, index)?)
 }
 
-/// The rows device has four calls in the opening and four for each INSERT, and the index device has
-/// three in the opening.
+/// The run of two INSERTs. The rows device has four calls in the opening and four for each INSERT,
+/// and the index device three in the opening, behind those of the rows device.
+fn two_inserts(alloc: Global) -> Result<Outcome, Fail> {
+    let made = created(alloc)?;
+    Ok(call(alloc, RUN, TWO.as_bytes(), disk_of(alloc, made.file(0))?)?)
+}
+
 #[test]
 fn a_stop_leaves_each_commit_that_was_answered_and_perhaps_the_next(
     rt: HostRuntime,
 ) -> Result<(), Fail> {
-    let alloc = rt.alloc();
-    let made = created(alloc)?;
-    let run = call(alloc, RUN, TWO.as_bytes(), disk_of(alloc, made.file(0))?)?;
+    let run = two_inserts(rt.alloc())?;
     assert!(rt; run.rows.calls().len() == 12 && run.index.calls().len() == 3);
     for call in 0..12 {
         for choice in 0..16 {
-            let again = search_after(alloc, &run, call, choice)?;
+            let again = search_after(rt.alloc(), &run, (call, 2), choice)?;
             let answered = answered_before(call);
             let text = again.out.bytes();
             assert!(rt; again.status == Status::Done, "in call {call} by {choice}");
             assert!(rt;
                 text == FOUND[answered].as_bytes() || text == FOUND[answered + 1].as_bytes(),
                 "in call {call} by {choice}"
+            );
+        }
+    }
+    Ok(())
+}
+
+#[test]
+fn a_stop_while_the_index_log_is_opened_leaves_the_database(rt: HostRuntime) -> Result<(), Fail> {
+    let run = two_inserts(rt.alloc())?;
+    assert!(rt; run.rows.calls().len() == 12 && run.index.calls().len() == 3);
+    for call in 0..3 {
+        for choice in 0..16 {
+            let again = search_after(rt.alloc(), &run, (3, call), choice)?;
+            ended(
+                &rt,
+                &again,
+                &Status::Done,
+                FOUND[0],
+                "a stop in the opening",
             );
         }
     }
