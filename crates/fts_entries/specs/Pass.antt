@@ -4,17 +4,13 @@ use Rattle.std.specs.Option.{unwrap_or}
 use Rattle.fts_ilist.specs.Changes.{postings_without}
 use Rattle.fts_ilist.specs.Node.{Docs}
 use Rattle.fts_ilist.specs.Packing.{packed, joined}
-use Rattle.fts_aux.specs.Table.{IsNext, IsLast}
+use Rattle.fts_aux.specs.Table.{IsNext, IsLast, HasLoose}
 use Rattle.fts_entries.specs.Entry.{IndexState}
 
--- some word has nodes that packing would change
-abbrev pub HasLoose : IndexState → Type 0
-HasLoose s = (word : List ℕ) × (packed (joined (s.nodes word)) ≢ s.nodes word)
-
--- a pass can begin: none is open, and there is something to take out or to pack
+-- a pass can begin: none is open, and there is something to take out, or a word whose nodes packing would change
 pub record CanBegin (s : IndexState) : Type 0 where
   pub closed : s.is_open ≡ false
-  pub some : (s.deleted ≢ []) ⊎ HasLoose s
+  pub some : (s.deleted ≢ []) ⊎ HasLoose s.nodes
 
 -- the word behind which the pass goes on: its checkpoint, and before its first word the empty one, which has no nodes
 abbrev pub place_of : IndexState → List ℕ
