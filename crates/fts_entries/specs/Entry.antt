@@ -53,8 +53,8 @@ abbrev pub flushed_deaths : ℕ → List Turn → List ℕ
 flushed_deaths synced turns = filter (λ id. nat_le id synced) (deaths_of turns)
 
 -- the state after one more entry. A batch puts its nodes behind those that stand; of the ids that died in the commits
--- that it covers those enter DELETED that the tables may have of earlier batches. A pass begins over what is in DELETED,
--- gives each of its words other nodes, and takes its ids out of DELETED at its finish
+-- that it covers those enter DELETED that were flushed before. A pass begins over what is in DELETED, gives each of its
+-- words other nodes, and takes its ids out of DELETED at its finish
 abbrev pub after_entry : List Turn → IndexState → IndexEntry → IndexState
 after_entry turns s (sealed through synced batch) = record s {
   flushed = through;
