@@ -10,8 +10,8 @@ use Rattle.fts_ilist.specs.Packing.{joined}
 abbrev pub AgreeAbove : ℕ → List ℕ → List ℕ → Type 0
 AgreeAbove low ids others = (id : ℕ) → low < id → has ids id ≡ has others id
 
--- behind those that were there, the documents of a node that stay were put, and these are left; a walk over the ids that
--- are taken out still has those above a bound
+-- behind those that were there, the documents of a node that stay were put, and these are left; a walk over the ids
+-- that are taken out still has those above a bound
 pub record IsKeeping (being walk : List ℕ) (before all done rest : List Posting) : Type 0 where
   pub same : done ++ postings_without being rest ≡ before ++ postings_without being all
   pub low : ℕ
