@@ -15,8 +15,9 @@ use Rattle.fts_lists.proofs.Merging.{has-with_ids}
 use Rattle.fts_ilist.specs.Spelling.{Posting}
 use Rattle.fts_ilist.specs.Node.{Docs, nodes_for, NodesAfter, last_of}
 use Rattle.fts_ilist.specs.Packing.{packed, joined}
-use Rattle.fts_entries.specs.Entry.{Batch, IndexState, sealed, after_entry, unflushed, flushed_deaths}
-use Rattle.fts_entries.specs.Batch.{IsBatch, covers, covered_within, alive_of, largest_after}
+use Rattle.fts_lists.specs.Ids.{with_ids}
+use Rattle.fts_entries.specs.Entry.{Batch, IndexState, sealed, after_entry, unflushed, unflushed_through, flushed_deaths}
+use Rattle.fts_entries.specs.Batch.{IsBatch, covers, covered_within, alive_of, largest_after, next_through, after_batch}
 use Rattle.fts_entries.specs.Exact.{FitsTurns, IsExact, IdsAfter}
 use Rattle.fts_entries.specs.Words.{rows_postings}
 use Rattle.fts_entries.proofs.Filters.{leads}
@@ -139,3 +140,14 @@ module _ (rules : Rules) (limit : ℕ) (turns : List Turn) (s : IndexState) (thr
       (packed_ascend s.synced (rows_postings rules word (alive_of turns front))
       (subst (IdsAfter s.synced) (sym (rows_left rules word test (births_of front))) (after_left (λ p. test p.id) s.synced (rows_postings rules word (births_of front))
       (rows_after rules word s.synced (largest_after s.synced front) (births_of front) (births_ascend s.synced front halves.of_front))))))
+
+-- a batch leaves the state behind the next one
+pub same_state : (rules : Rules) (limit : ℕ) (turns : List Turn) (s : IndexState) (through synced : ℕ) (batch : Batch) → IsBatch rules limit turns s through synced batch
+    → after_entry turns s (sealed through synced batch) ≡ after_batch rules limit turns s
+same_state rules limit turns s through synced batch is =
+    let through_eq : through ≡ next_through limit turns s = is.through_is in
+    let synced_eq : synced ≡ largest_after 0 (take (next_through limit turns s) turns) = is.synced_is ∙ ap (λ (n : ℕ). largest_after 0 (take n turns)) through_eq in
+    let deleted_eq = ap (λ (n : ℕ). with_ids s.deleted (flushed_deaths s.synced (unflushed_through n turns s))) through_eq in
+    let nodes_eq : (word : List ℕ) → nodes_for word batch ≡ packed (rows_postings rules word (alive_of turns (unflushed_through (next_through limit turns s) turns s)))
+    = λ word. is.nodes word ∙ ap (λ (n : ℕ). packed (rows_postings rules word (alive_of turns (unflushed_through n turns s)))) through_eq in
+    λ i. record s { flushed = through_eq i; synced = synced_eq i; deleted = deleted_eq i; nodes = λ word. s.nodes word ++ nodes_eq word i }

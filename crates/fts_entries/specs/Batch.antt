@@ -1,5 +1,5 @@
 -- The next batch of an index.
-use Rattle.std.specs.Prelude.{◌≡◌, ◌≢◌, ℕ, ◌+◌, ◌<◌, nat_lt, if◌then◌else◌, max, List, [], ◌∷◌, length, take}
+use Rattle.std.specs.Prelude.{◌≡◌, ◌≢◌, ℕ, ◌+◌, ◌<◌, nat_lt, if◌then◌else◌, max, List, [], ◌∷◌, ◌++◌, length, take}
 use Rattle.std.specs.List.{All}
 use Rattle.std.specs.List.Sorted.{IsStrictlySortedBy}
 use Rattle.std.specs.Map.{keys_of}
@@ -9,7 +9,8 @@ use Rattle.fts_commits.specs.Turn.{Turn, births_of, deaths_of, rows_but}
 use Rattle.fts_types.specs.Row.{Row}
 use Rattle.fts_ilist.specs.Node.{nodes_for}
 use Rattle.fts_ilist.specs.Packing.{packed}
-use Rattle.fts_entries.specs.Entry.{Batch, IndexState, unflushed, unflushed_through}
+use Rattle.fts_lists.specs.Ids.{with_ids}
+use Rattle.fts_entries.specs.Entry.{Batch, IndexState, unflushed, unflushed_through, flushed_deaths}
 use Rattle.fts_entries.specs.Words.{rows_postings}
 
 -- how many of the first commits have at most so many births together, where some were counted before
@@ -44,3 +45,20 @@ pub record IsBatch (rules : Rules) (limit : ℕ) (turns : List Turn) (s : IndexS
   pub filled : All (λ g. g.1 ≢ []) batch
   pub nodes : (word : List ℕ) → nodes_for word batch
       ≡ packed (rows_postings rules word (alive_of turns (unflushed_through through turns s)))
+
+-- through which commit the next batch flushes
+abbrev pub next_through : ℕ → List Turn → IndexState → ℕ
+next_through limit turns s = s.flushed + covers limit (unflushed turns s)
+
+-- the state behind the next batch: what it flushes stands in the tables, and of the ids that died in its commits those
+-- that were flushed before them enter DELETED
+abbrev pub after_batch : Rules → ℕ → List Turn → IndexState → IndexState
+after_batch rules limit turns s =
+    let through = next_through limit turns s in
+    let covered = unflushed_through through turns s in
+    record s {
+      flushed = through;
+      synced = largest_after 0 (take through turns);
+      deleted = with_ids s.deleted (flushed_deaths s.synced covered);
+      nodes = λ word. s.nodes word ++ packed (rows_postings rules word (alive_of turns covered));
+    }

@@ -1,5 +1,5 @@
 -- The words of rows, as the index keeps them.
-use Rattle.std.specs.Prelude.{ℕ, List, [], ◌∷◌, map, filter}
+use Rattle.std.specs.Prelude.{ℕ, ◌+◌, List, [], ◌∷◌, length, map, filter, sum_by}
 use Rattle.std.specs.List.{flat_map}
 use Rattle.std.specs.Str.{bytes_eq}
 use Rattle.fts_words.specs.Indexed.{Rules, indexed_words, word_of}
@@ -23,3 +23,10 @@ row_postings rules word row = posting_at row.doc (positions_of rules row.texts w
 -- what rows put into the list of the word, one after another
 abbrev pub rows_postings : Rules → List ℕ → List Row → List Posting
 rows_postings rules word rows = flat_map (row_postings rules word) rows
+
+-- what a row counts in the cache: 16, and for each of its indexed words the word's length and 8
+abbrev pub row_size : Rules → Row → ℕ
+row_size rules row = 16 + sum_by (λ found. length (word_of row.texts found) + 8) (indexed_words rules row.texts)
+
+abbrev pub rows_size : Rules → List Row → ℕ
+rows_size rules rows = sum_by (row_size rules) rows

@@ -14,7 +14,7 @@ ghost use Rattle.fts_ilist.specs.Packing.{joined};
 ghost use Rattle.std.specs.List.{All};
 ghost use Rattle.std.specs.Prelude.{false};
 ghost use Rattle.fts_entries.specs.Entry.{no_entries, index_of, AreThrough};
-ghost use Rattle.fts_entries.specs.Batch.{IsBatch};
+ghost use Rattle.fts_entries.specs.Batch.{IsBatch, after_batch};
 ghost use Rattle.fts_entries.specs.Exact.{FitsTurns, IsExact};
 
 /// A batch keeps an index right. It does nothing: its contract is the theorem.
@@ -32,6 +32,10 @@ pub fn batches_keep()
         (through synced : ℕ) (batch : Batch)
         → IsBatch rules limit turns s through synced batch → AreTurns 0 turns → FitsTurns turns s
         → (word : List ℕ) → NodesAfter (last_of 0 (s.nodes word)) (nodes_for word batch) }
+    ensures state { (rules : Rules) (limit : ℕ) (turns : List Turn) (s : IndexState)
+        (through synced : ℕ) (batch : Batch)
+        → IsBatch rules limit turns s through synced batch
+        → after_entry turns s (sealed through synced batch) ≡ after_batch rules limit turns s }
 {}
 
 /// A commit keeps an index right, whose entries leave the same state as before it. It does nothing:

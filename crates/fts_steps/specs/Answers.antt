@@ -1,9 +1,15 @@
 use Rattle.std.specs.Prelude.{ℕ, Result, Ok, Err}
 use Rattle.fts_steps.specs.declared.commit.CommitError.{CommitError}
 use Rattle.fts_steps.specs.declared.commit.CommitError.TheVariants.{NoMemory, Refused, LogFull, DiskFault, Stopped}
+use Rattle.fts_steps.specs.declared.sync.SyncBatch.{SyncBatch}
+use Rattle.fts_steps.specs.declared.sync.SyncBatch.TheVariants.{Flushed, Nothing}
+use Rattle.fts_steps.specs.declared.sync.SyncError.{SyncError}
+use Rattle.fts_steps.specs.declared.sync.SyncError.TheVariants as sync
+use Rattle.fts_listing.specs.declared.listing.NumberedListing.{NumberedListing}
 use Rattle.fts_query.specs.declared.view.View.{View}
 use Rattle.fts_query.specs.Seen.{view_seen}
-use Rattle.fts_steps.specs.Step.{Answer, committed, refused, full, viewed, disk_fault, stopped, no_memory}
+use Rattle.fts_steps.specs.Step.{Answer, committed, refused, full, flushed, all_flushed, viewed, listed, disk_fault}
+use Rattle.fts_steps.specs.Step.{stopped, no_memory}
 
 -- the answer that a commit's result is
 abbrev pub commit_answer_of : Result ℕ CommitError → Answer
@@ -18,3 +24,15 @@ commit_answer_of (Err (Stopped faults)) = stopped faults
 abbrev pub view_answer_of : {E : Type 0} → Result View E → Answer
 view_answer_of (Ok view) = viewed (view_seen view)
 view_answer_of (Err error) = no_memory
+
+-- the answer that a batch's result is
+abbrev pub sync_answer_of : Result SyncBatch SyncError → Answer
+sync_answer_of (Ok (Flushed through commits)) = flushed through commits
+sync_answer_of (Ok (Nothing commits)) = all_flushed commits
+sync_answer_of (Err sync.NoMemory) = no_memory
+sync_answer_of (Err (sync.Stopped faults)) = stopped faults
+
+-- the answer that a listing's result is
+abbrev pub listing_answer_of : {E : Type 0} → Result NumberedListing E → Answer
+listing_answer_of (Ok listing) = listed listing.number listing.listing
+listing_answer_of (Err error) = no_memory

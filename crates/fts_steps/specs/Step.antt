@@ -14,23 +14,34 @@ use Rattle.fts_disk.specs.Crash.{Images}
 use Rattle.fts_disk.specs.Moments.{LeavesOnly}
 use Rattle.fts_disk.specs.declared.disk.Disk.{Ghosts}
 use Rattle.fts_steps.specs.State.{State, end_after}
-use Rattle.fts_steps.specs.Running.{Running, What, made, failed, Entry, grown}
+use Rattle.fts_listing.specs.declared.kind.ListingKind.{ListingKind}
+use Rattle.fts_listing.specs.declared.listing.Listing.{Listing}
+use Rattle.fts_listing.specs.Listing.{IsListed}
+use Rattle.fts_steps.specs.Running.{Running, What, made, batched, failed, Entry, grown, turns_of, next_flushed, cache_size}
 use Rattle.fts_steps.specs.Crash.{IsBetween, HoldsIndex}
 
--- what a step is asked: to make a commit, to tell what the rows have for leaves, or to find the rows in which a query
--- holds
+-- what a step is asked: to make a commit; to make a batch of the index; to tell what the rows have for leaves; to find
+-- the rows in which a query holds; to list what a view has; or to tell the size of the cache
 pub data Ask : Type 0 where
   to_commit : Commit → Ask
+  to_sync : Ask
   to_view : List Leaf → Ask
   to_find : Terms → Ask
+  to_list : ListingKind → Ask
+  to_measure : Ask
 
--- what it answers; a disk fault tells the sum of the counts of faults, and so does each refusal that follows from it
+-- what it answers. A batch tells through which commit the index is flushed now, and how many commits there are; where
+-- all are flushed, it tells how many there are. A disk fault tells the sum of the counts of faults, and so does each refusal that follows from it
 pub data Answer : Type 0 where
   committed : ℕ → Answer
   refused : Refusal → Answer
   full : ℕ → Answer
+  flushed : ℕ → ℕ → Answer
+  all_flushed : ℕ → Answer
   viewed : View → Answer
   found : ℕ → List ℕ → Answer
+  listed : ℕ → Listing → Answer
+  measured : ℕ → Answer
   disk_fault : ℕ → Answer
   stopped : ℕ → Answer
   no_memory : Answer
@@ -47,6 +58,13 @@ commit_answer limits state commit (Ok rows) =
     if nat_lt limits.log_bytes (end_after state commit) then full (end_after state commit) else committed
     (length state.commits + 1)
 
+-- the answer to a batch
+abbrev pub batch_answer : Running → Answer
+batch_answer running =
+    if nat_lt running.index.flushed (length running.state.commits)
+    then flushed (next_flushed running) (length running.state.commits)
+    else all_flushed (length running.state.commits)
+
 -- the view of a database for leaves
 abbrev pub state_view : State → List Leaf → View
 state_view state asked = view_of (rules_of state.settings) (replay state.commits).list (length state.commits) asked
@@ -56,13 +74,22 @@ abbrev pub unless_stopped : Option ℕ → Answer → Answer
 unless_stopped None answer = answer
 unless_stopped (Some faults) answer = stopped faults
 
--- the answer of a step that nothing outside disturbs
+-- the answer of a step that nothing outside disturbs; that of a listing is told by a relation of its own (`Lists`)
 abbrev pub plain_answer : Limits → Running → Ask → Answer
 plain_answer limits running (to_commit commit) = unless_stopped running.stopped
     (commit_answer limits running.state commit (after_commit limits commit (replay running.state.commits)))
+plain_answer limits running to_sync = unless_stopped running.stopped (batch_answer running)
 plain_answer limits running (to_view asked) = viewed (state_view running.state asked)
 plain_answer limits running (to_find terms) = found (length running.state.commits)
     (scan (rules_of running.state.settings) (replay running.state.commits).list terms)
+plain_answer limits running (to_list kind) = no_memory
+plain_answer limits running to_measure = measured (cache_size running)
+
+-- a listing tells what its view has, as of so many commits
+abbrev pub Lists : Running → Ask → ℕ → Listing → Type 0
+Lists running (to_list kind) number listing = (number ≡ length running.state.commits)
+    × IsListed running.state.settings (turns_of running.state) running.index kind listing
+Lists running ask number listing = ⊥
 
 -- the answers that a step may give: its plain one, want of memory, and a disk fault where it would have committed
 abbrev pub MayAnswer : Limits → Running → Ask → Answer → Type 0
@@ -72,14 +99,20 @@ MayAnswer limits running ask (disk_fault faults) =
 MayAnswer limits running ask (committed number) = plain_answer limits running ask ≡ committed number
 MayAnswer limits running ask (refused why) = plain_answer limits running ask ≡ refused why
 MayAnswer limits running ask (full end) = plain_answer limits running ask ≡ full end
+MayAnswer limits running ask (flushed through commits) =
+    plain_answer limits running ask ≡ flushed through commits
+MayAnswer limits running ask (all_flushed commits) = plain_answer limits running ask ≡ all_flushed commits
 MayAnswer limits running ask (viewed view) = plain_answer limits running ask ≡ viewed view
 MayAnswer limits running ask (found number docs) = plain_answer limits running ask ≡ found number docs
+MayAnswer limits running ask (listed number listing) = Lists running ask number listing
+MayAnswer limits running ask (measured size) = plain_answer limits running ask ≡ measured size
 MayAnswer limits running ask (stopped faults) = plain_answer limits running ask ≡ stopped faults
 
 -- what a step adds, by its answer
 abbrev pub changes_of : Ask → Answer → List What
 changes_of (to_commit commit) (committed number) = made commit ∷ []
 changes_of (to_commit commit) (disk_fault faults) = failed faults (commit ∷ []) ∷ []
+changes_of to_sync (flushed through commits) = batched ∷ []
 changes_of ask answer = []
 
 -- the entries that a step adds, by their number's owner

@@ -1,10 +1,13 @@
 //! The steps of an engine: what each is asked, what it answers, and the state that it leaves.
 //!
 //! A state is a database as a reader thinks of it: its settings, and the list of its commits. No
-//! index, cache or file appears in it. The definitions stand in `specs/`; the crate has the types
-//! of a commit's answer: its number, or a [`CommitError`].
+//! cache or file appears in it; beside it stands how far the index is flushed, and what its tables
+//! have. The definitions stand in `specs/`; the crate has the types of the answers of a commit (its
+//! number, or a [`CommitError`]) and of a batch ([`SyncBatch`], or a [`SyncError`]).
 #![tactic(auto)]
 
 mod commit;
+mod sync;
 
 pub use commit::CommitError;
+pub use sync::{SyncBatch, SyncError};

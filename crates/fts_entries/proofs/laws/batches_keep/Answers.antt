@@ -1,4 +1,4 @@
-use Rattle.fts_entries.proofs.Kept.{still_exact, still_fits, comes_after}
+use Rattle.fts_entries.proofs.Kept.{still_exact, still_fits, comes_after, same_state}
 use Rattle.fts_entries.proofs.laws.batches_keep.Goals as goal
 
 pub returns-clause-exact : goal.returns-clause-exact
@@ -9,3 +9,6 @@ returns-clause-fits c = still_fits
 
 pub returns-clause-behind : goal.returns-clause-behind
 returns-clause-behind c = comes_after
+
+pub returns-clause-state : goal.returns-clause-state
+returns-clause-state c = same_state

@@ -1,0 +1,12 @@
+//! What the views of an index list: the words of its tables and of its cache, and its numbers.
+//!
+//! The definitions stand in `specs/Listing.antt`: what a view lists is a relation between the
+//! commits, the state of the index and a [`Listing`], which has one solution. A listing keeps each
+//! word once, with the position lists of its documents; `fts_schema` prints it row by row.
+#![tactic(auto)]
+
+mod kind;
+mod listing;
+
+pub use kind::ListingKind;
+pub use listing::{Config, ListedWords, Listing, NumberedListing};
