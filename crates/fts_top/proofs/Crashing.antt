@@ -10,11 +10,13 @@ use Rattle.fts_disk.specs.Moments.{LeavesOnly, LeavesAsBefore}
 use Rattle.fts_disk.specs.declared.disk.Disk.{Ghosts}
 use Rattle.fts_disk.proofs.Runs.{leaves_weaker}
 use Rattle.fts_steps.specs.State.{State, with_commits, IsRows}
-use Rattle.fts_steps.specs.Running.{Running, What, made, failed, Entry, with_what, grown}
+use Rattle.fts_steps.specs.Running.{Running, What, made, batched, failed, Entry, with_what, grown}
 use Rattle.fts_steps.specs.Crash.{IsBetween, HoldsIndex}
-use Rattle.fts_steps.specs.Step.{Ask, to_commit, to_view, to_find, Answer, committed, refused, full, viewed, found, disk_fault, stopped, no_memory, unless_stopped, MayAnswer}
+use Rattle.fts_steps.specs.Step.{Ask, to_commit, to_sync, to_view, to_find, to_list, to_measure, Answer, committed, refused, full, flushed, all_flushed, viewed, found, listed, measured}
+use Rattle.fts_steps.specs.Step.{disk_fault, stopped, no_memory, unless_stopped, MayAnswer}
 use Rattle.fts_steps.specs.Step.{Call, Below, Sight, Leaves, after, after_call, after_all, entries_of, Follows, AreAlone}
-use Rattle.fts_top.specs.Run.{IsSure, MayCrash, MayCrashIndex}
+use Rattle.fts_top.specs.Batches.{IsSure}
+use Rattle.fts_top.specs.Run.{MayCrash, MayCrashIndex}
 
 -- a state that has grown by commits
 abbrev pub Grown : State → State → Type 0
@@ -34,6 +36,7 @@ grown_more old mid new first behind = (
 
 grown_by : (running : Running) (what : What) → Grown running.state (with_what running what).state
 grown_by running (made commit) = (commit ∷ [], refl)
+grown_by running batched = ([], none_more running.state)
 grown_by running (failed faults doubt) = ([], none_more running.state)
 
 grown_all : (running : Running) (entries : List Entry) → Grown running.state (grown running entries).state
@@ -54,6 +57,7 @@ grows running (call ∷ calls) =
 
 sure_by : (running : Running) (what : What) → IsSure running → IsSure (with_what running what)
 sure_by running (made commit) sure = sure
+sure_by running batched sure = sure
 sure_by running (failed faults doubt) sure = λ e. absurd (let no : ◌≡◌ {A = Option ℕ} (Some faults) None = e in cc)
 
 sure_all : (running : Running) (entries : List Entry) → IsSure running → IsSure (grown running entries)
@@ -104,10 +108,28 @@ adds_step limits running (to_commit commit) (refused why) sure may = adds_none r
 adds_step limits running (to_commit commit) (full end_) sure may = adds_none running
 adds_step limits running (to_commit commit) (viewed view) sure may = adds_none running
 adds_step limits running (to_commit commit) (found number docs) sure may = adds_none running
+adds_step limits running (to_commit commit) (flushed through commits) sure may = adds_none running
+adds_step limits running (to_commit commit) (all_flushed commits) sure may = adds_none running
+adds_step limits running (to_commit commit) (listed number listing) sure may = adds_none running
+adds_step limits running (to_commit commit) (measured size) sure may = adds_none running
 adds_step limits running (to_commit commit) (stopped faults) sure may = adds_none running
 adds_step limits running (to_commit commit) no_memory sure may = adds_none running
+adds_step limits running to_sync (committed number) sure may = adds_none running
+adds_step limits running to_sync (refused why) sure may = adds_none running
+adds_step limits running to_sync (full end_) sure may = adds_none running
+adds_step limits running to_sync (flushed through commits) sure may = adds_none running
+adds_step limits running to_sync (all_flushed commits) sure may = adds_none running
+adds_step limits running to_sync (viewed view) sure may = adds_none running
+adds_step limits running to_sync (found number docs) sure may = adds_none running
+adds_step limits running to_sync (listed number listing) sure may = adds_none running
+adds_step limits running to_sync (measured size) sure may = adds_none running
+adds_step limits running to_sync (disk_fault faults) sure may = adds_none running
+adds_step limits running to_sync (stopped faults) sure may = adds_none running
+adds_step limits running to_sync no_memory sure may = adds_none running
 adds_step limits running (to_view leaves) answer sure may = adds_none running
 adds_step limits running (to_find terms) answer sure may = adds_none running
+adds_step limits running (to_list kind) answer sure may = adds_none running
+adds_step limits running to_measure answer sure may = adds_none running
 
 adds_call : (limits : Limits) (running : Running) (call : Call) → IsSure running → call.more ≡ [] → MayAnswer limits (grown running call.more) call.ask call.answer
     → Adds running (after_call running call)
@@ -165,6 +187,18 @@ leaves_more below before mid new P Q R sooner later (inr first) (inr then_) =
     inr (joined below.disk (below.device before) (below.device mid) (below.device new) R
     (leaves_weaker below.disk (below.device before) (below.device mid) P R sooner first)
     (leaves_weaker below.disk (below.device mid) (below.device new) Q R later then_))
+
+-- what steps behind others leave of the rows log
+pub between_more : {S : Type 0} (sight : Sight S) (old mid new : S) (start middle now : Running) → Grown start.state middle.state → Adds middle now
+    → Leaves sight.rows (IsBetween start middle) old mid → Leaves sight.rows (IsBetween middle now) mid new → Leaves sight.rows (IsBetween start now) old new
+between_more sight old mid new start middle now grew more = leaves_more sight.rows old mid new (IsBetween start middle) (IsBetween middle now) (IsBetween start now)
+    (λ c between. earlier start middle now c more between) (λ c between. behind start middle now c grew between)
+
+-- and of the index log
+pub index_both : {S : Type 0} (sight : Sight S) (old mid new : S) (start middle : Running) → Grown start.state middle.state
+    → Leaves sight.index (HoldsIndex start.state) old mid → Leaves sight.index (HoldsIndex middle.state) mid new → Leaves sight.index (HoldsIndex start.state) old new
+index_both sight old mid new start middle grew = leaves_more sight.index old mid new (HoldsIndex start.state) (HoldsIndex middle.state) (HoldsIndex start.state)
+    (λ c held. held) (λ c held. subst (λ (state : State). HoldsIndex state c) grew.1 held)
 
 module _ {S : Type 0} (sight : Sight S) (before mid new : S) (start middle : Running) (grew : Grown start.state middle.state) where
   -- a line behind others leaves of the rows log

@@ -1,5 +1,5 @@
 -- What was done by the steps of an engine, seen by its devices.
-use Rattle.std.proofs.Common.{◌≡◌, ℕ, ◌+◌, List, [], refl, subst, inr}
+use Rattle.std.proofs.Common.{◌≡◌, ℕ, ◌+◌, Bool, List, [], refl, subst, inr}
 use Rattle.std.specs.Prelude.{false}
 use Rattle.fts_types.specs.declared.limits.Limits.{Limits}
 use Rattle.fts_types.specs.declared.settings.Settings.{Settings}
@@ -12,7 +12,6 @@ use Rattle.fts_steps.specs.Crash.{IsBetween, HoldsIndex}
 use Rattle.fts_steps.specs.Step.{Sight, Follows, after_all}
 use Rattle.fts_top.specs.declared.ends.Health.{Health}
 use Rattle.fts_top.specs.declared.ends.Health.TheVariants.{Failed}
-use Rattle.fts_top.specs.Health.{health_of_all}
 use Rattle.fts_top.specs.declared.ends.RunEnd.{RunEnd}
 use Rattle.fts_top.specs.declared.ends.RunEnd.TheVariants as end
 use Rattle.fts_top.specs.Run.{Sides, Front, Reads, Stops, Outcome}
@@ -46,24 +45,25 @@ module _ {S : Type 0} (sight : Sight S) (single : sight.is_shared ≡ false) (se
   abbrev done : Sides (Devices sight.rows.Device sight.index.Device)
   done = record { left = now.left; held = now.held; steps = last }
 
-  abbrev front_on : (ahead : List Line) → Front sight start script ahead before now
-      → Front (device_sight both settings limits) start script ahead begun done
-  front_on ahead front = record {
+  abbrev front_on : (sent : Bool) (ahead : List Line) → Front sight start sent script ahead before now
+      → Front (device_sight both settings limits) start sent script ahead begun done
+  front_on sent ahead front = record {
     lines = front.lines;
     calls = front.calls;
     replies = front.replies;
+    met = front.met;
     text = front.text;
     front = front.front;
     written = front.written;
-    talks = subst (λ (s : Settings). Talks s front.lines front.calls front.replies) same_settings front.talks;
+    talks = subst (λ (s : Settings). Talks s sent front.lines front.calls front.replies front.met) same_settings front.talks;
     alone = λ e. front.alone single;
     follows = subst (λ (n : Limits). Follows n start front.calls) same_limits front.follows;
     settings = refl;
     limits = refl;
     stands = held (after_all start front.calls) now.steps front.stands;
     going = λ e calm. front.going single calm;
-    counted = subst (λ (n : ℕ). CountsFault (health_of_all front.replies ≡ Failed) n (disk_faults both last)) calm
-        (subst (λ (n : ℕ). CountsFault (health_of_all front.replies ≡ Failed) (sight.faults before.steps) n) counts front.counted);
+    counted = subst (λ (n : ℕ). CountsFault (front.met ≡ Failed) n (disk_faults both last)) calm
+        (subst (λ (n : ℕ). CountsFault (front.met ≡ Failed) (sight.faults before.steps) n) counts front.counted);
     crash = λ e told sure.
         inr (crash_behind sight.rows.disk first.rows (sight.rows.device before.steps) (sight.rows.device now.steps) (IsBetween start (after_all start front.calls)) looked.rows
         (front.crash single told sure));
@@ -73,10 +73,10 @@ module _ {S : Type 0} (sight : Sight S) (single : sight.is_shared ≡ false) (se
   }
 
   abbrev reads_on : (met : Health) → Reads sight met start script before now → Reads (device_sight both settings limits) met start script begun done
-  reads_on met reads = record { front = front_on [] reads.front; whole = reads.whole; met_is = reads.met_is; empty = reads.empty }
+  reads_on met reads = record { front = front_on true [] reads.front; whole = reads.whole; met_is = reads.met_is; empty = reads.empty }
 
   abbrev stops_on : (n : ℕ) → Stops sight start script n before now → Stops (device_sight both settings limits) start script n begun done
-  stops_on n stops = record { ahead = stops.ahead; front = front_on stops.ahead stops.front; whole = stops.whole; begun = stops.begun }
+  stops_on n stops = record { ahead = stops.ahead; front = front_on true stops.ahead stops.front; whole = stops.whole; begun = stops.begun }
 
   -- the outcome of a run
   pub outcome_on : (result : RunEnd) → Outcome sight result start script before now
@@ -86,6 +86,6 @@ module _ {S : Type 0} (sight : Sight S) (single : sight.is_shared ≡ false) (se
   outcome_on end.DiskFault outcome = reads_on _ outcome
   outcome_on end.ReadFault outcome = stops_on 0 outcome
   outcome_on (end.ScriptTooLong lines bytes) outcome = (stops_on 1 outcome.0, outcome.1)
-  outcome_on end.WriteFault (n, late) = (n, record { ahead = late.ahead; front = front_on late.ahead late.front; cut = late.cut; rest = late.rest })
+  outcome_on end.WriteFault (n, late) = (n, record { ahead = late.ahead; front = front_on false late.ahead late.front; cut = late.cut; rest = late.rest })
   outcome_on end.NoMemory starves =
-      record { ahead = starves.ahead; front = front_on starves.ahead starves.front; written = starves.written; rest = starves.rest }
+      record { ahead = starves.ahead; sent = starves.sent; front = front_on starves.sent starves.ahead starves.front; written = starves.written; rest = starves.rest }

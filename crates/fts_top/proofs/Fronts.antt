@@ -1,4 +1,4 @@
-use Rattle.std.proofs.Common.{◌≡◌, ℕ, ◌+◌, List, [], ◌∷◌, ◌++◌, length, take, refl, ap, subst, sym, ◌∙◌, append_assoc, inl, inr, arith}
+use Rattle.std.proofs.Common.{◌≡◌, ℕ, ◌+◌, Bool, true, false, List, [], ◌∷◌, ◌++◌, length, take, refl, ap, subst, sym, ◌∙◌, append_assoc, inl, inr, arith}
 use Rattle.std.proofs.lemmas.List.{append-nil, length_push}
 use Rattle.std.specs.Prelude.{Ok, Err}
 use Rattle.fts_types.specs.declared.limits.Limits.{Limits}
@@ -8,29 +8,33 @@ use Rattle.fts_io.specs.Text.{Line}
 use Rattle.fts_schema.specs.declared.reply.Reply.{Reply}
 use Rattle.fts_schema.specs.Reply.{text_of}
 use Rattle.fts_steps.specs.Running.{Running}
-use Rattle.fts_steps.specs.Step.{Sight, Leaves, after_all, Follows}
+use Rattle.fts_steps.specs.Step.{Call, Sight, Leaves, after_all, Follows}
 use Rattle.fts_sessions.specs.Execute.{Executes, Says}
 use Rattle.fts_top.specs.declared.ends.Health.{Health}
 use Rattle.fts_top.specs.declared.ends.Health.TheVariants.{Sound, Short, Failed}
 use Rattle.fts_top.specs.declared.ends.Halt.{Halt}
 use Rattle.fts_top.specs.declared.ends.Halt.TheVariants as halt
-use Rattle.fts_top.specs.Health.{health_of, worse, health_of_all, end_of, read_end}
-use Rattle.fts_top.specs.Run.{MayCrash, MayCrashIndex, Sides, Stays, Front, IsWhole, IsCut, Reads, OneLine, Outcome}
+use Rattle.fts_top.specs.Batches.{MakesSteps, MakesBatches}
+use Rattle.fts_top.specs.Health.{health_of, health_of_steps, worse, end_of, read_end}
+use Rattle.fts_top.specs.Talk.{AreBatches, most_behind, committed_by}
+use Rattle.fts_top.specs.Run.{MayCrash, MayCrashIndex, Sides, Stays, Front, IsWhole, IsCut, Reads, IsDone, OneLine, Outcome}
 use Rattle.fts_top.proofs.Crashing.{grows, stays_sure, adds, crash_more, index_more}
-use Rattle.fts_top.proofs.Health.{health_more, failed_before, failed_now, counted_more, counted_reply}
-use Rattle.fts_top.proofs.Talking.{after_more, follows_more, alone_more, talks_more, texts_more, line_still}
+use Rattle.fts_top.proofs.Health.{failed_before, failed_now, counted_more, counted_reply, worse_sound}
+use Rattle.fts_top.proofs.Making.{no_steps, steps_of, both}
+use Rattle.fts_top.proofs.Talking.{after_more, follows_more, alone_more, talks_more, texts_more, line_still, steps_still}
 
 module _ {S : Type 0} (sight : Sight S) (start : Running) (script : List Line) where
   -- before the first line
-  abbrev pub nothing_yet : (here : Sides S) → sight.stands start here.steps → Front sight start script script here here
+  abbrev pub nothing_yet : (here : Sides S) → sight.stands start here.steps → Front sight start true script script here here
   nothing_yet here stands = record {
     lines = [];
     calls = [];
     replies = [];
+    met = Sound;
     text = [];
     front = refl;
     written = sym (append-nil here.held);
-    talks = (refl, refl);
+    talks = (refl, refl, refl);
     alone = λ e. tt;
     follows = tt;
     settings = refl;
@@ -43,12 +47,13 @@ module _ {S : Type 0} (sight : Sight S) (start : Running) (script : List Line) w
   }
 
   -- the same front, seen by equal lines, and by what holds as much
-  abbrev pub again : (ahead ahead' : List Line) (before now now' : Sides S) → Front sight start script ahead before now
-      → ahead ≡ ahead' → Stays now now' → Front sight start script ahead' before now'
-  again ahead ahead' before now now' front same_ahead stays = record {
+  abbrev pub again : (sent : Bool) (ahead ahead' : List Line) (before now now' : Sides S) → Front sight start sent script ahead before now
+      → ahead ≡ ahead' → Stays now now' → Front sight start sent script ahead' before now'
+  again sent ahead ahead' before now now' front same_ahead stays = record {
     lines = front.lines;
     calls = front.calls;
     replies = front.replies;
+    met = front.met;
     text = front.text;
     front = front.front ∙ ap (λ (a : List Line). front.lines ++ a) same_ahead;
     written = stays.unwritten ∙ front.written;
@@ -59,68 +64,97 @@ module _ {S : Type 0} (sight : Sight S) (start : Running) (script : List Line) w
     limits = ap sight.limits stays.unmade ∙ front.limits;
     stands = subst (λ (s : S). sight.stands (after_all start front.calls) s) (sym stays.unmade) front.stands;
     going = front.going;
-    counted = subst (λ (s : S). CountsFault (health_of_all front.replies ≡ Failed) (sight.faults before.steps) (sight.faults s)) (sym stays.unmade) front.counted;
+    counted = subst (λ (s : S). CountsFault (front.met ≡ Failed) (sight.faults before.steps) (sight.faults s)) (sym stays.unmade) front.counted;
     crash = λ single told sure.
         subst (λ (s : S). Leaves sight.rows (MayCrash sight start (after_all start front.calls) before.steps) before.steps s) (sym stays.unmade) (front.crash single told sure);
     index = λ single told.
         subst (λ (s : S). Leaves sight.index (MayCrashIndex sight start before.steps) before.steps s) (sym stays.unmade) (front.index single told);
   }
 
-  -- one line more was executed, and a part of its reply written
-  abbrev pub one_more : (line : Line) (ahead ahead' : List Line) (before middle now : Sides S) (reply : Reply) (part : List ℕ)
-      (front : Front sight start script ahead before middle) → ahead ≡ line ∷ ahead' → Executes sight line middle.steps reply now.steps
-      → now.held ≡ middle.held ++ part → Front sight start script ahead' before now
-  one_more line ahead ahead' before middle now reply part front same executes written =
+  -- one line more was executed, a part of its reply written, and these batches were made
+  abbrev pub one_more : (sent : Bool) (line : Line) (ahead ahead' : List Line) (before middle now : Sides S) (reply : Reply) (part : List ℕ) (executed : S)
+      (batches : List Call) (front : Front sight start true script ahead before middle) → ahead ≡ line ∷ ahead'
+      → Executes sight line middle.steps reply executed → AreBatches (sight.settings executed).cache_bytes (most_behind sent [] reply) batches
+      → MakesSteps sight batches executed now.steps → CountsFault (health_of_steps batches ≡ Failed) (sight.faults executed) (sight.faults now.steps)
+      → now.held ≡ middle.held ++ part → Front sight start sent script ahead' before now
+  one_more sent line ahead ahead' before middle now reply part executed batches front same executes are makes counts written =
       let says = subst (λ (s : Settings). Says s line executes.calls reply) front.settings executes.says in
+      let are' = subst (λ (s : Settings). AreBatches s.cache_bytes (most_behind sent [] reply) batches) (executes.settings ∙ front.settings) are in
+      let here = executes.calls ++ batches in
+      let mid = after_all start front.calls in
+      let steps : MakesSteps sight here middle.steps now.steps
+      = both sight executes.calls batches middle.steps executed now.steps (steps_of sight line reply middle.steps executed executes) makes in
+      let here_met = worse (health_of reply) (health_of_steps batches) in
       record {
         lines = front.lines ++ line ∷ [];
-        calls = front.calls ++ executes.calls;
+        calls = front.calls ++ here;
         replies = front.replies ++ reply ∷ [];
+        met = worse front.met here_met;
         text = front.text ++ part;
         front = front.front ∙ ap (λ (a : List Line). front.lines ++ a) same ∙ sym (append_assoc front.lines (line ∷ []) ahead');
         written = written ∙ ap (λ (t : List ℕ). t ++ part) front.written ∙ append_assoc before.held front.text part;
-        talks = talks_more (sight.settings before.steps) front.lines front.calls front.replies line executes.calls reply front.talks says;
-        alone = λ single. alone_more front.calls executes.calls (front.alone single) (executes.alone single);
-        follows = follows_more (sight.limits before.steps) start front.calls executes.calls front.follows
-            (subst (λ (n : Limits). Follows n (after_all start front.calls) executes.calls) front.limits (executes.follows (after_all start front.calls) front.stands));
-        settings = executes.settings ∙ front.settings;
-        limits = executes.limits ∙ front.limits;
-        stands = subst (λ (r : Running). sight.stands r now.steps) (sym (after_more start front.calls executes.calls))
-            (executes.stands (after_all start front.calls) front.stands);
+        talks = talks_more (sight.settings before.steps) sent front.lines front.calls front.replies front.met line executes.calls batches reply front.talks says are';
+        alone = λ single. alone_more front.calls here (front.alone single) (steps.alone single);
+        follows = follows_more (sight.limits before.steps) start front.calls here front.follows
+            (subst (λ (n : Limits). Follows n mid here) front.limits (steps.follows mid front.stands));
+        settings = steps.settings ∙ front.settings;
+        limits = steps.limits ∙ front.limits;
+        stands = subst (λ (r : Running). sight.stands r now.steps) (sym (after_more start front.calls here)) (steps.stands mid front.stands);
         going = λ single calm.
-            ap (λ (r : Running). r.stopped) (after_more start front.calls executes.calls)
-            ∙ line_still (sight.settings before.steps) line executes.calls reply (after_all start front.calls) says (executes.alone single)
-            (λ is. calm (health_more front.replies reply ∙ failed_now (health_of_all front.replies) (health_of reply) (ap health_of is)))
-            ∙ front.going single (λ is. calm (health_more front.replies reply ∙ failed_before (health_of_all front.replies) (health_of reply) is));
-        counted = subst (λ (h : Health). CountsFault (h ≡ Failed) (sight.faults before.steps) (sight.faults now.steps)) (sym (health_more front.replies reply))
-            (counted_more (health_of_all front.replies) (health_of reply) (sight.faults before.steps) (sight.faults middle.steps) (sight.faults now.steps) front.counted
-            (counted_reply reply (sight.faults middle.steps) (sight.faults now.steps) executes.faults));
+            let here_calm : here_met ≡ Failed → ⊥ = λ is. calm (failed_now front.met here_met is) in
+            ap (λ (r : Running). r.stopped) (after_more start front.calls here)
+            ∙ ap (λ (r : Running). r.stopped) (after_more mid executes.calls batches)
+            ∙ steps_still (after_all mid executes.calls) batches (makes.alone single) (λ is. here_calm (failed_now (health_of reply) (health_of_steps batches) is))
+            ∙ line_still (sight.settings before.steps) line executes.calls reply mid says (executes.alone single)
+            (λ is. here_calm (failed_before (health_of reply) (health_of_steps batches) (ap health_of is)))
+            ∙ front.going single (λ is. calm (failed_before front.met here_met is));
+        counted = counted_more front.met here_met (sight.faults before.steps) (sight.faults middle.steps) (sight.faults now.steps) front.counted
+            (counted_more (health_of reply) (health_of_steps batches) (sight.faults middle.steps) (sight.faults executed) (sight.faults now.steps)
+            (counted_reply reply (sight.faults middle.steps) (sight.faults executed) executes.faults) counts);
         crash = λ single told sure.
-            let mid = after_all start front.calls in
-            let follows = executes.follows mid front.stands in
-            subst (λ (now_is : Running). Leaves sight.rows (MayCrash sight start now_is before.steps) before.steps now.steps) (sym (after_more start front.calls executes.calls))
-            (crash_more sight before.steps middle.steps now.steps start mid (grows start front.calls) (after_all mid executes.calls)
-            (adds (sight.limits middle.steps) mid executes.calls (stays_sure start front.calls sure) (executes.alone single) follows)
-            (front.crash single told sure) (executes.crash single told mid front.stands));
+            let sure' = stays_sure start front.calls sure in
+            subst (λ (now_is : Running). Leaves sight.rows (MayCrash sight start now_is before.steps) before.steps now.steps) (sym (after_more start front.calls here))
+            (crash_more sight before.steps middle.steps now.steps start mid (grows start front.calls) (after_all mid here)
+            (adds (sight.limits middle.steps) mid here sure' (steps.alone single) (steps.follows mid front.stands))
+            (front.crash single told sure) (steps.crash single told mid sure' front.stands));
         index = λ single told.
-            index_more sight before.steps middle.steps now.steps start (after_all start front.calls) (grows start front.calls)
-            (front.index single told) (executes.index single told (after_all start front.calls) front.stands);
+            index_more sight before.steps middle.steps now.steps start mid (grows start front.calls)
+            (front.index single told) (steps.index single told mid front.stands);
       }
+
+  -- a line whose reply was not sent whole: no batch follows
+  abbrev pub unsent : (line : Line) (ahead ahead' : List Line) (before middle now : Sides S) (reply : Reply) (part : List ℕ)
+      (front : Front sight start true script ahead before middle) → ahead ≡ line ∷ ahead' → Executes sight line middle.steps reply now.steps
+      → now.held ≡ middle.held ++ part → Front sight start false script ahead' before now
+  unsent line ahead ahead' before middle now reply part front same executes written =
+      one_more false line ahead ahead' before middle now reply part now.steps [] front same executes refl (no_steps sight now.steps)
+      (record { rose = λ is. absurd cc; calm = λ no. refl; never_falls = omega arith }) written
+
+  -- a line that was done
+  abbrev pub one_done : (line : Line) (ahead ahead' : List Line) (met : Health) (before middle now : Sides S)
+      (front : Front sight start true script ahead before middle) → ahead ≡ line ∷ ahead' → (done : IsDone sight line met middle now)
+      → Front sight start true script ahead' before now
+  one_done line ahead ahead' met before middle now front same done =
+      one_more true line ahead ahead' before middle now done.reply (text_of done.reply) done.middle done.batches.calls front same done.executes done.batches.are
+      done.batches.steps
+      (subst (λ (h : Health). CountsFault (h ≡ Failed) (sight.faults done.middle) (sight.faults now.steps)) (sym done.batches.met_is) done.batches.faults)
+      done.written
 
   -- a run so far: each reply was written whole, and the lines met this
   pub record SoFar (ahead : List Line) (met : Health) (count : ℕ) (before now : Sides S) : Type 0 where
-    pub front : Front sight start script ahead before now
+    pub front : Front sight start true script ahead before now
     pub whole : IsWhole front.replies front.text
-    pub met_is : health_of_all front.replies ≡ met
+    pub met_is : front.met ≡ met
     pub counted : length front.lines ≡ count
 
   -- one line more
   pub goes_on : (ahead behind : List Line) (met now_met next : Health) (count more : ℕ) (before middle now : Sides S) → SoFar ahead met count before middle
       → OneLine sight (Ok now_met) ahead behind middle now → next ≡ worse met now_met → more ≡ count + 1 → SoFar behind next more before now
   goes_on ahead behind met now_met next count more before middle now far turn worst one = record {
-    front = one_more turn.0 ahead behind before middle now turn.2.0 (text_of turn.2.0) far.front turn.1 turn.2.1 turn.2.2;
-    whole = ap (λ (t : List ℕ). t ++ text_of turn.2.0) far.whole ∙ sym (texts_more far.front.replies turn.2.0);
-    met_is = health_more far.front.replies turn.2.0 ∙ ap (λ (h : Health). worse h (health_of turn.2.0)) far.met_is ∙ ap (worse met) (sym turn.2.3) ∙ sym worst;
+    front = one_done turn.0 ahead behind now_met before middle now far.front turn.1 turn.2;
+    whole = ap (λ (t : List ℕ). t ++ text_of turn.2.reply) far.whole ∙ sym (texts_more far.front.replies turn.2.reply);
+    met_is = ap (λ (h : Health). worse h (worse (health_of turn.2.reply) (health_of_steps turn.2.batches.calls))) far.met_is
+        ∙ ap (λ (h : Health). worse met (worse (health_of turn.2.reply) h)) turn.2.batches.met_is ∙ ap (worse met) (sym turn.2.met_is) ∙ sym worst;
     counted = length_push far.front.lines turn.0 ∙ ap (λ (k : ℕ). k + 1) far.counted ∙ sym one;
   }
 
@@ -136,20 +170,20 @@ module _ {S : Type 0} (sight : Sight S) (start : Running) (script : List Line) w
       → ((number bytes : ℕ) → why ≡ halt.TooLong number bytes → number ≡ count)
       → Outcome sight (end_of why met) start script before now
   ends halt.End ahead behind met count before middle now far turn number = read met before now (record {
-    front = again ahead [] before middle now far.front turn.0 turn.2;
+    front = again true ahead [] before middle now far.front turn.0 turn.2;
     whole = far.whole;
     met_is = far.met_is;
     empty = turn.1;
   })
   ends halt.ReadFault ahead behind met count before middle now far turn number =
-      record { ahead = ahead; front = again ahead ahead before middle now far.front refl turn.1; whole = far.whole; begun = turn.0 }
+      record { ahead = ahead; front = again true ahead ahead before middle now far.front refl turn.1; whole = far.whole; begun = turn.0 }
   ends (halt.TooLong lines bytes) ahead behind met count before middle now far turn number =
-      (record { ahead = ahead; front = again ahead ahead before middle now far.front refl turn.1; whole = far.whole; begun = turn.0 }, number lines bytes refl ∙ sym far.counted)
+      (record { ahead = ahead; front = again true ahead ahead before middle now far.front refl turn.1; whole = far.whole; begun = turn.0 }, number lines bytes refl ∙ sym far.counted)
   ends halt.WriteFault ahead behind met count before middle now far turn number = (
     turn.2.0,
     record {
       ahead = behind;
-      front = one_more turn.0 ahead behind before middle now turn.2.1.reply (take turn.2.0 (text_of turn.2.1.reply)) far.front turn.1 turn.2.1.executes turn.2.1.written;
+      front = unsent turn.0 ahead behind before middle now turn.2.1.reply (take turn.2.0 (text_of turn.2.1.reply)) far.front turn.1 turn.2.1.executes turn.2.1.written;
       cut = cut_of far.front.replies far.front.text turn.2.0 turn.2.1.reply far.whole;
       rest = turn.3;
     },
@@ -158,13 +192,14 @@ module _ {S : Type 0} (sight : Sight S) (start : Running) (script : List Line) w
       cut_of : (replies : List Reply) (text : List ℕ) (n : ℕ) (reply : Reply) → IsWhole replies text → IsCut n (replies ++ reply ∷ []) (text ++ take n (text_of reply))
       cut_of replies text n reply whole = record { earlier = replies; last = reply; replies_are = refl; text_is = ap (λ (t : List ℕ). t ++ take n (text_of reply)) whole }
   ends halt.NoMemory ahead behind met count before middle now far (rest, inl turn) number =
-      record { ahead = behind; front = again ahead behind before middle now far.front turn.0 turn.1; written = inl far.whole; rest = rest }
+      record { ahead = behind; sent = true; front = again true ahead behind before middle now far.front turn.0 turn.1; written = far.whole; rest = rest }
   ends halt.NoMemory ahead behind met count before middle now far (rest, inr (line, one, met_no_fault)) number =
       let replies = met_no_fault.0 in
       record {
         ahead = behind;
-        front = one_more line ahead behind before middle now replies.reply (take 0 (text_of replies.reply)) far.front one replies.executes replies.written;
-        written = inr (
+        sent = false;
+        front = unsent line ahead behind before middle now replies.reply (take 0 (text_of replies.reply)) far.front one replies.executes replies.written;
+        written = (
           record {
             earlier = far.front.replies;
             last = replies.reply;

@@ -8,14 +8,14 @@ use Rattle.fts_sessions.specs.Calm.{IsCalm}
 use Rattle.fts_top.specs.declared.ends.Health.{Health}
 use Rattle.fts_top.specs.declared.ends.Health.TheVariants.{Sound, Short, Failed}
 use Rattle.fts_top.specs.declared.ends.Halt.{Halt}
-use Rattle.fts_top.specs.Health.{health_of, worse, health_of_all}
+use Rattle.fts_top.specs.Health.{health_of, worse}
 
-worse_sound : (a : Health) → worse a Sound ≡ a
+pub worse_sound : (a : Health) → worse a Sound ≡ a
 worse_sound Sound = refl
 worse_sound Short = refl
 worse_sound Failed = refl
 
-worse_more : (a b c : Health) → worse (worse a b) c ≡ worse a (worse b c)
+pub worse_more : (a b c : Health) → worse (worse a b) c ≡ worse a (worse b c)
 worse_more Failed b c = refl
 worse_more Sound b c = refl
 worse_more Short Failed c = refl
@@ -23,12 +23,6 @@ worse_more Short Sound c = refl
 worse_more Short Short Failed = refl
 worse_more Short Short Short = refl
 worse_more Short Short Sound = refl
-
--- one reply more
-pub health_more : (replies : List Reply) (reply : Reply) → health_of_all (replies ++ reply ∷ []) ≡ worse (health_of_all replies) (health_of reply)
-health_more [] reply = worse_sound (health_of reply)
-health_more (first ∷ replies) reply =
-    ap (worse (health_of first)) (health_more replies reply) ∙ sym (worse_more (health_of first) (health_of_all replies) (health_of reply))
 
 -- the worse of two is a fault where one is
 pub failed_before : (a b : Health) → a ≡ Failed → worse a b ≡ Failed
@@ -115,6 +109,8 @@ fault_met (reply.QueryTooLong size) is = absurd cc
 fault_met (reply.QueryTooDeep at_) is = absurd cc
 fault_met reply.LineTooLong is = absurd cc
 fault_met (reply.Stopped faults) is = absurd cc
+fault_met (reply.Synced through) is = absurd cc
+fault_met (reply.Listed number listing) is = absurd cc
 
 -- the count of a line, by its reply
 pub counted_reply : (told : Reply) (old new : ℕ) → CountsFault (told ≡ reply.DiskFault) old new → CountsFault (health_of told ≡ Failed) old new

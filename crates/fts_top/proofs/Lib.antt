@@ -7,3 +7,4 @@ pub mod Filing
 pub mod Asking
 pub mod Health
 pub mod Crashing
+pub mod Making

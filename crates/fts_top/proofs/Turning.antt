@@ -8,8 +8,11 @@ use Rattle.fts_sessions.specs.Request.{unread}
 use Rattle.fts_sessions.specs.Execute.{Executes}
 use Rattle.fts_top.specs.declared.ends.Unsent.{Unsent}
 use Rattle.fts_top.specs.declared.ends.Unsent.TheVariants as unsent
+use Rattle.fts_top.specs.declared.ends.Health.TheVariants.{Sound}
+use Rattle.fts_top.specs.Batches.{MakesBatches}
 use Rattle.fts_top.specs.Ends.{halt_of_unsent}
 use Rattle.fts_top.specs.Run.{Sides, OneLine, Sends, IsLeft}
+use Rattle.fts_top.proofs.Making.{no_steps}
 
 module _ {S : Type 0} (sight : Sight S) where
   -- a line too long makes no step, and has its reply
@@ -24,6 +27,16 @@ module _ {S : Type 0} (sight : Sight S) where
     index = λ e told running stands. inl refl;
     settings = refl;
     limits = refl;
+    faults = record { rose = λ is. absurd cc; calm = λ no. refl; never_falls = omega arith };
+  }
+
+  -- no batch follows it
+  pub no_batches : (here : S) → MakesBatches sight 0 Sound here here
+  no_batches here = record {
+    calls = [];
+    are = refl;
+    steps = no_steps sight here;
+    met_is = refl;
     faults = record { rose = λ is. absurd cc; calm = λ no. refl; never_falls = omega arith };
   }
 

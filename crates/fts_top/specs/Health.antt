@@ -1,7 +1,8 @@
--- What the lines of a script met, and how the script then ends.
+-- What the lines of a script and the batches behind them met, and how the script then ends.
 use Rattle.std.specs.Prelude.{List, [], ◌∷◌}
 use Rattle.fts_schema.specs.declared.reply.Reply.{Reply}
 use Rattle.fts_schema.specs.declared.reply.Reply.TheVariants as reply
+use Rattle.fts_steps.specs.Step.{Answer, no_memory, disk_fault, Call}
 use Rattle.fts_top.specs.declared.ends.Health.{Health}
 use Rattle.fts_top.specs.declared.ends.Health.TheVariants.{Sound, Short, Failed}
 use Rattle.fts_top.specs.declared.ends.Halt.{Halt}
@@ -23,10 +24,16 @@ worse Short Short = Short
 worse Short Sound = Short
 worse Sound other = other
 
--- what the lines with these replies met
-abbrev pub health_of_all : List Reply → Health
-health_of_all [] = Sound
-health_of_all (reply ∷ replies) = worse (health_of reply) (health_of_all replies)
+-- what a step met, by its answer
+abbrev pub health_of_answer : Answer → Health
+health_of_answer no_memory = Short
+health_of_answer (disk_fault faults) = Failed
+health_of_answer answer = Sound
+
+-- what these steps met
+abbrev pub health_of_steps : List Call → Health
+health_of_steps [] = Sound
+health_of_steps (call ∷ calls) = worse (health_of_answer call.answer) (health_of_steps calls)
 
 -- the end of a script that was read to its end
 abbrev pub read_end : Health → RunEnd

@@ -1,6 +1,7 @@
 pub mod Talk
 pub mod Ends
 pub mod Health
+pub mod Batches
 pub mod Run
 pub mod Once
 pub mod Number

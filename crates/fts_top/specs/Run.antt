@@ -1,5 +1,5 @@
-use Rattle.std.specs.Prelude.{◌≡◌, ◌⊎◌, ◌<◌, ◌+◌, ◌^◌, ℕ, false, List, [], ◌∷◌, ◌++◌, length, take, IsTrue}
-use Rattle.std.specs.Prelude.{None, Result, Ok, Err}
+use Rattle.std.specs.Prelude.{◌≡◌, ◌⊎◌, ◌<◌, ◌+◌, ◌^◌, ℕ, Bool, true, false, List, [], ◌∷◌, ◌++◌, length, take, IsTrue}
+use Rattle.std.specs.Prelude.{Result, Ok, Err}
 use Rattle.fts_faults.specs.Count.{CountsFault}
 use Rattle.fts_io.specs.Text.{Line}
 use Rattle.fts_io.specs.Reading.{OnlyBegun, lines_from}
@@ -19,8 +19,9 @@ use Rattle.fts_top.specs.declared.ends.RunEnd.{RunEnd}
 use Rattle.fts_top.specs.declared.ends.RunEnd.TheVariants as end
 use Rattle.fts_top.specs.declared.ends.Unsent.{Unsent}
 use Rattle.fts_top.specs.declared.ends.Unsent.TheVariants as unsent
-use Rattle.fts_top.specs.Health.{health_of, health_of_all}
-use Rattle.fts_top.specs.Talk.{Talks, texts_of}
+use Rattle.fts_top.specs.Health.{health_of, worse}
+use Rattle.fts_top.specs.Talk.{Talks, committed_by, texts_of}
+use Rattle.fts_top.specs.Batches.{IsSure, MakesBatches}
 
 -- a run at one time: what the source has left, what the sink holds, and the steps
 pub record Sides (S : Type 0) : Type 0 where
@@ -45,31 +46,27 @@ abbrev pub MayCrashIndex : {S : Type 0} → Sight S → Running → S → Images
 MayCrashIndex sight start before c =
     sight.index.disk.images (sight.index.device before) c ⊎ HoldsIndex start.state c
 
--- where no fault stopped it, nothing is in doubt
-abbrev pub IsSure : Running → Type 0
-IsSure running = running.stopped ≡ None → running.doubt ≡ []
-
--- the lines from the front of the script that were executed, what is ahead, and the text that was written. While no
--- line met a fault, commits are taken; a fault was counted exactly where one met it. A crash at any moment leaves what
--- it could leave before, or the rows log with a front of the commits that were made, and the index log
-pub record Front {S : Type 0} (sight : Sight S) (start : Running) (script ahead : List Line) (before after : Sides S)
-    : Type 0 where
+-- the lines from the front of the script that were executed, what is ahead, and the text that was written; `sent` says
+-- that the last reply was sent, and the batches behind it were made. While no line met a fault, commits are taken; a
+-- fault was counted exactly where one met it. A crash at any moment leaves what it could leave before, or the rows log
+-- with a front of the commits that were made, and the index log
+pub record Front {S : Type 0} (sight : Sight S) (start : Running) (sent : Bool) (script ahead : List Line)
+    (before after : Sides S) : Type 0 where
   pub lines : List Line
   pub calls : List Call
   pub replies : List Reply
+  pub met : Health
   pub text : List ℕ
   pub front : script ≡ lines ++ ahead
   pub written : after.held ≡ before.held ++ text
-  pub talks : Talks (sight.settings before.steps) lines calls replies
+  pub talks : Talks (sight.settings before.steps) sent lines calls replies met
   pub alone : sight.is_shared ≡ false → AreAlone calls
   pub follows : Follows (sight.limits before.steps) start calls
   pub settings : sight.settings after.steps ≡ sight.settings before.steps
   pub limits : sight.limits after.steps ≡ sight.limits before.steps
   pub stands : sight.stands (after_all start calls) after.steps
-  pub going : sight.is_shared ≡ false → (health_of_all replies ≡ health.Failed → ⊥)
-      → (after_all start calls).stopped ≡ start.stopped
-  pub counted : CountsFault (health_of_all replies ≡ health.Failed) (sight.faults before.steps)
-      (sight.faults after.steps)
+  pub going : sight.is_shared ≡ false → (met ≡ health.Failed → ⊥) → (after_all start calls).stopped ≡ start.stopped
+  pub counted : CountsFault (met ≡ health.Failed) (sight.faults before.steps) (sight.faults after.steps)
   pub crash : sight.is_shared ≡ false → IsTrue sight.rows.disk.tells → IsSure start
       → Leaves sight.rows (MayCrash sight start (after_all start calls) before.steps) before.steps after.steps
   pub index : sight.is_shared ≡ false → IsTrue sight.index.disk.tells
@@ -97,9 +94,9 @@ Begun n ahead left = (kept : List ℕ) × (length kept ≡ n) × OnlyBegun ahead
 -- the script was read to its end, and its lines met this
 pub record Reads {S : Type 0} (sight : Sight S) (met : Health) (start : Running) (script : List Line)
     (before after : Sides S) : Type 0 where
-  pub front : Front sight start script [] before after
+  pub front : Front sight start true script [] before after
   pub whole : IsWhole front.replies front.text
-  pub met_is : health_of_all front.replies ≡ met
+  pub met_is : front.met ≡ met
   pub empty : after.left ≡ []
 
 -- whole lines from the front were executed, and of those ahead no whole one was read: of the first some bytes,
@@ -107,7 +104,7 @@ pub record Reads {S : Type 0} (sight : Sight S) (met : Health) (start : Running)
 pub record Stops {S : Type 0} (sight : Sight S) (start : Running) (script : List Line) (n : ℕ) (before after : Sides S)
     : Type 0 where
   pub ahead : List Line
-  pub front : Front sight start script ahead before after
+  pub front : Front sight start true script ahead before after
   pub whole : IsWhole front.replies front.text
   pub begun : Begun n ahead after.left
 
@@ -115,18 +112,23 @@ pub record Stops {S : Type 0} (sight : Sight S) (start : Running) (script : List
 pub record Late {S : Type 0} (sight : Sight S) (start : Running) (script : List Line) (n : ℕ) (before after : Sides S)
     : Type 0 where
   pub ahead : List Line
-  pub front : Front sight start script ahead before after
+  pub front : Front sight start false script ahead before after
   pub cut : IsCut n front.replies front.text
   pub rest : IsLeft ahead after.left
+
+-- each reply was sent, or all but the last, which tells no fault
+abbrev pub IsSent : Bool → List Reply → List ℕ → Type 0
+IsSent true replies text = IsWhole replies text
+IsSent false replies text = (cut : IsCut 0 replies text) × (cut.last ≡ DiskFault → ⊥)
 
 -- memory ran out for a line or for a reply: the lines before it were executed and each reply written; or it too was
 -- executed, which met no fault, and nothing of its reply written
 pub record Starves {S : Type 0} (sight : Sight S) (start : Running) (script : List Line) (before after : Sides S)
     : Type 0 where
   pub ahead : List Line
-  pub front : Front sight start script ahead before after
-  pub written : IsWhole front.replies front.text
-      ⊎ ((cut : IsCut 0 front.replies front.text) × (cut.last ≡ DiskFault → ⊥))
+  pub sent : Bool
+  pub front : Front sight start sent script ahead before after
+  pub written : IsSent sent front.replies front.text
   pub rest : IsLeft ahead after.left
 
 -- what a run has done with these lines, by its end
@@ -146,11 +148,20 @@ pub record Replies {S : Type 0} (sight : Sight S) (line : Line) (n : ℕ) (befor
   pub executes : Executes sight line before.steps reply after.steps
   pub written : after.held ≡ before.held ++ take n (text_of reply)
 
+-- a line was executed and its reply written, and then the batches were made that follow it
+pub record IsDone {S : Type 0} (sight : Sight S) (line : Line) (met : Health) (before after : Sides S) : Type 0 where
+  pub reply : Reply
+  pub middle : S
+  pub executes : Executes sight line before.steps reply middle
+  pub written : after.held ≡ before.held ++ text_of reply
+  pub later : Health
+  pub batches : MakesBatches sight (committed_by reply) later middle after.steps
+  pub met_is : met ≡ worse (health_of reply) later
+
 -- one line of a run, which goes on or ends: from the lines ahead to those behind it
 abbrev pub OneLine : {S : Type 0} → Sight S → Result Health Halt → List Line → List Line → Sides S → Sides S → Type 0
-OneLine sight (Ok met) ahead behind before after = (line : Line) × (ahead ≡ line ∷ behind)
-    × ((reply : Reply) × Executes sight line before.steps reply after.steps
-    × (after.held ≡ before.held ++ text_of reply) × (met ≡ health_of reply))
+OneLine sight (Ok met) ahead behind before after =
+    (line : Line) × (ahead ≡ line ∷ behind) × IsDone sight line met before after
 OneLine sight (Err halt.End) ahead behind before after = (ahead ≡ []) × (after.left ≡ []) × Stays before after
 OneLine sight (Err halt.ReadFault) ahead behind before after = Begun 0 ahead after.left × Stays before after
 OneLine sight (Err (halt.TooLong lines bytes)) ahead behind before after = Begun 1 ahead after.left × Stays before after

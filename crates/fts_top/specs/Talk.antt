@@ -1,29 +1,71 @@
-use Rattle.std.specs.Prelude.{◌≡◌, ℕ, List, [], ◌∷◌, ◌++◌}
+use Rattle.std.specs.Prelude.{◌≡◌, ℕ, zero, suc, Bool, true, false, nat_lt, List, [], ◌∷◌, ◌++◌}
 use Rattle.fts_types.specs.declared.settings.Settings.{Settings}
 use Rattle.fts_io.specs.Text.{Line}
 use Rattle.fts_schema.specs.declared.reply.Reply.{Reply}
+use Rattle.fts_schema.specs.declared.reply.Reply.TheVariants.{Committed}
 use Rattle.fts_schema.specs.Reply.{text_of}
-use Rattle.fts_steps.specs.Step.{Call}
+use Rattle.fts_steps.specs.Step.{Answer, flushed, measured, to_measure, to_sync, Call}
 use Rattle.fts_sessions.specs.Execute.{Says}
+use Rattle.fts_top.specs.declared.ends.Health.{Health}
+use Rattle.fts_top.specs.declared.ends.Health.TheVariants.{Sound}
+use Rattle.fts_top.specs.Health.{health_of, health_of_steps, worse}
 
 -- the text of replies, one after another
 abbrev pub texts_of : List Reply → List ℕ
 texts_of [] = []
 texts_of (reply ∷ replies) = text_of reply ++ texts_of replies
 
--- a line makes the first of these steps and has the first of these replies, and then the rest follows
-pub record First (settings : Settings) (line : Line) (Rest : List Call → List Reply → Type 0) (calls : List Call)
-    (replies : List Reply) : Type 0 where
+-- the number of the commit that a reply tells, 0 where it tells none
+abbrev pub committed_by : Reply → ℕ
+committed_by (Committed number) = number
+committed_by reply = 0
+
+-- what follows where a batch flushed something, and nothing where it did not
+abbrev pub unless_refused : Answer → (List Call → Type 0) → List Call → Type 0
+unless_refused (flushed through commits) Rest calls = Rest calls
+unless_refused answer Rest calls = calls ≡ []
+
+-- a batch, and what follows it, where the cache is too large
+abbrev pub if_above : Bool → (List Call → Type 0) → List Call → Type 0
+if_above false Rest calls = calls ≡ []
+if_above true Rest [] = ⊥
+if_above true Rest (call ∷ calls) = (call.ask ≡ to_sync) × unless_refused call.answer Rest calls
+
+-- while the cache is above so many bytes, one batch after another is made, up to the first that flushes nothing; and at
+-- most so many
+abbrev pub AreBatches : ℕ → ℕ → List Call → Type 0
+AreBatches bytes zero calls = calls ≡ []
+AreBatches bytes (suc most) [] = ⊥
+AreBatches bytes (suc most) (call ∷ calls) =
+    (size : ℕ) × (call.ask ≡ to_measure) × (call.answer ≡ measured size)
+    × if_above (nat_lt bytes size) (AreBatches bytes most) calls
+
+-- how many batches may follow a reply: as many as there are commits where it tells one, since each flushes one at
+-- least; none behind the last reply that was begun and not sent
+abbrev pub most_behind : Bool → List Line → Reply → ℕ
+most_behind sent (line ∷ lines) reply = committed_by reply
+most_behind true [] reply = committed_by reply
+most_behind false [] reply = 0
+
+-- a line makes the first of these steps and has the first of these replies, batches follow, and then the rest
+pub record First (settings : Settings) (line : Line) (most : Reply → ℕ) (Rest : List Call → List Reply → Health → Type 0)
+    (calls : List Call) (replies : List Reply) (met : Health) : Type 0 where
   pub here : List Call
+  pub batches : List Call
   pub more : List Call
   pub reply : Reply
   pub rest : List Reply
+  pub later : Health
   pub says : Says settings line here reply
-  pub calls_are : calls ≡ here ++ more
+  pub are : AreBatches settings.cache_bytes (most reply) batches
+  pub calls_are : calls ≡ here ++ (batches ++ more)
   pub replies_are : replies ≡ reply ∷ rest
-  pub goes_on : Rest more rest
+  pub met_is : met ≡ worse (worse (health_of reply) (health_of_steps batches)) later
+  pub goes_on : Rest more rest later
 
--- these lines make these steps and have these replies
-abbrev pub Talks : Settings → List Line → List Call → List Reply → Type 0
-Talks settings [] calls replies = (calls ≡ []) × (replies ≡ [])
-Talks settings (line ∷ lines) calls replies = First settings line (Talks settings lines) calls replies
+-- these lines make these steps and have these replies; `sent` says that the last reply was sent, and batches followed
+-- it; and what the lines and the batches met
+abbrev pub Talks : Settings → Bool → List Line → List Call → List Reply → Health → Type 0
+Talks settings sent [] calls replies met = (calls ≡ []) × (replies ≡ []) × (met ≡ Sound)
+Talks settings sent (line ∷ lines) calls replies met =
+    First settings line (most_behind sent lines) (Talks settings sent lines) calls replies met

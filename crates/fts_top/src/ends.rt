@@ -75,6 +75,8 @@ pub fn health_of(reply: &Reply) -> Health
         Reply::QueryTooDeep { .. } => Health::Sound,
         Reply::LineTooLong => Health::Sound,
         Reply::Stopped { .. } => Health::Sound,
+        Reply::Synced { .. } => Health::Sound,
+        Reply::Listed { .. } => Health::Sound,
     }
 }
 

@@ -9,6 +9,7 @@
 //! A run costs what its lines cost, one write for each reply, and the opening.
 #![tactic(auto)]
 
+mod batches;
 mod ends;
 mod laws;
 mod once;

@@ -6,6 +6,7 @@ ghost use Rattle.fts_steps.specs.Running.{Running};
 ghost use Rattle.fts_top.specs.Health.{IsRead};
 ghost use Rattle.fts_top.specs.Run.{Outcome, OneLine, PassesLimit, Sends, sides};
 
+use crate::batches::batches_behind;
 use crate::ends::{Halt, Health, RunEnd, Unsent, health_of};
 use fts_io::{Gate, Lines, Next, Sink, Source, write_whole};
 use fts_schema::{Reply, fixed_text, reply_text};
@@ -87,7 +88,7 @@ fn one_line<I: Source, O: Sink, S: EngineSteps, G: Gate>(
         Next::Line(line) => {
             let reply = session.execute(steps, gate, &line);
             match send(alloc, out, &reply) {
-                Ok(()) => Ok(health_of(&reply)),
+                Ok(()) => Ok(health_of(&reply).worse(batches_behind(steps, &reply))),
                 Err(unsent) => Err(Halt::from(unsent)),
             }
         }

@@ -5,7 +5,8 @@ use Rattle.fts_io.specs.Reading.{ahead}
 use Rattle.fts_schema.specs.declared.reply.Reply.TheVariants.{LineTooLong}
 use Rattle.fts_top.specs.declared.ends.Halt.{Halt}
 use Rattle.fts_top.specs.Run.{OneLine, sides}
-use Rattle.fts_top.proofs.Turning.{skips, not_sent}
+use Rattle.fts_top.specs.declared.ends.Health.TheVariants.{Sound}
+use Rattle.fts_top.proofs.Turning.{skips, no_batches, not_sent}
 use Rattle.fts_top.proofs.script.one_line.Goals as goal
 
 pub returns-in-Line-clause-line : goal.returns-in-Line-clause-line
@@ -27,7 +28,15 @@ pub returns-in-Ok-send-clause-line : goal.returns-in-Ok-send-clause-line
 returns-in-Ok-send-clause-line g c tells_input tells_out = (
   too_long,
   c.in-TooLong.ensures.lines tells_input,
-  (LineTooLong, skips g.S.EngineSteps.sight c.args.steps.now, c.in-Ok-send.ensures.sends tells_out, refl),
+  record {
+    reply = LineTooLong;
+    middle = c.args.steps.now;
+    executes = skips g.S.EngineSteps.sight c.args.steps.now;
+    written = c.in-Ok-send.ensures.sends tells_out;
+    later = Sound;
+    batches = no_batches g.S.EngineSteps.sight c.args.steps.now;
+    met_is = refl;
+  },
 )
 
 pub returns-in-TooLong-clause-line : goal.returns-in-TooLong-clause-line

@@ -1,0 +1,50 @@
+ghost use Rattle.fts_top.specs.Batches.{MakesBatches, MakesRound};
+ghost use Rattle.fts_top.specs.Talk.{committed_by};
+
+use crate::ends::Health;
+use fts_schema::Reply;
+use fts_sessions::EngineSteps;
+use fts_steps::{SyncBatch, SyncError};
+
+/// Makes the batches that follow a reply, and tells what they met. Behind a commit one batch after
+/// another is made while the index's cache is above its limit, up to the first that flushes
+/// nothing; behind other replies none.
+pub fn batches_behind<S: EngineSteps>(steps: &mut S, reply: &Reply) -> Health
+    ensures { MakesBatches S.sight (committed_by reply.now) result steps.old steps.new }
+{
+    match reply {
+        Reply::Committed { number } => make_batches(steps, *number),
+        _ => Health::Sound,
+    }
+}
+
+// Makes batches while the cache is too large. Each flushes a commit at least, so `most` is how many
+// commits there are.
+fn make_batches<S: EngineSteps>(steps: &mut S, most: u64) -> Health
+    ensures { MakesBatches S.sight most result steps.old steps.new }
+{
+    let mut left = most;
+    'rounds: while left > 0 {
+        match one_round(steps) {
+            Some(met) => return met,
+            None => left -= 1,
+        }
+    }
+    Health::Sound
+}
+
+// Makes a batch if the cache is too large: `None` where more may follow, and else what was met.
+fn one_round<S: EngineSteps>(steps: &mut S) -> Option<Health>
+    ensures { MakesRound S.sight result steps.old steps.new }
+{
+    let size = steps.cache_size();
+    if size <= steps.cache_bytes() {
+        return Some(Health::Sound);
+    }
+    match steps.sync_batch() {
+        Ok(SyncBatch::Flushed { .. }) => None,
+        Ok(SyncBatch::Nothing { .. }) => Some(Health::Sound),
+        Err(SyncError::NoMemory) => Some(Health::Short),
+        Err(SyncError::Stopped { .. }) => Some(Health::Sound),
+    }
+}
