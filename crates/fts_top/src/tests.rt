@@ -4,6 +4,7 @@ mod columns;
 mod commands;
 mod damage;
 mod faults;
+mod index;
 mod large;
 mod limits;
 mod queries;

@@ -1,0 +1,192 @@
+use super::calling::{answers, call, created, empty_disk};
+use std::alloc::AllocError;
+use std::test::Fail;
+
+/// A row, its words in the cache, then in the tables, and what the index tells of itself.
+const JUICE: &str = "INSERT INTO docs (id, body) VALUES (1, 'The apple, the juice')
+SELECT FTS_DOC_ID FROM docs WHERE MATCH (body) AGAINST ('apple' IN BOOLEAN MODE)
+SELECT * FROM INFORMATION_SCHEMA.INNODB_FT_INDEX_CACHE
+SYNC
+SELECT * FROM INFORMATION_SCHEMA.INNODB_FT_INDEX_TABLE
+SELECT * FROM INFORMATION_SCHEMA.INNODB_FT_INDEX_CACHE
+SELECT FTS_DOC_ID FROM docs WHERE MATCH (body) AGAINST ('apple' IN BOOLEAN MODE)
+";
+
+const OF_JUICE: &str = "OK commit 1
+OK as of 1: 1
+WORD|FIRST_DOC_ID|LAST_DOC_ID|DOC_COUNT|DOC_ID|POSITION
+apple|1|1|1|1|4
+juice|1|1|1|1|15
+OK 2 rows as of 1
+OK sync as of 1
+WORD|FIRST_DOC_ID|LAST_DOC_ID|DOC_COUNT|DOC_ID|POSITION
+apple|1|1|1|1|4
+juice|1|1|1|1|15
+OK 2 rows as of 1
+WORD|FIRST_DOC_ID|LAST_DOC_ID|DOC_COUNT|DOC_ID|POSITION
+OK 0 rows as of 1
+OK as of 1: 1
+";
+
+/// What an index tells of itself, before and behind a batch, and names that are no view's.
+const NUMBERS: &str = "INSERT INTO docs (id, body) VALUES (1, 'apple')
+SELECT * FROM information_schema . innodb_ft_config;
+sync ;
+SELECT * FROM INFORMATION_SCHEMA.INNODB_FT_CONFIG
+SELECT * FROM INFORMATION_SCHEMA . Innodb_ft_words
+SELECT * FROM docs.INNODB_FT_CONFIG
+";
+
+const OF_NUMBERS: &str = "OK commit 1
+KEY|VALUE
+max_token_size|84
+min_token_size|3
+optimize_word|
+synced_commit|0
+synced_doc_id|0
+use_stopword|1
+OK 6 rows as of 1
+OK sync as of 1
+KEY|VALUE
+max_token_size|84
+min_token_size|3
+optimize_word|
+synced_commit|1
+synced_doc_id|1
+use_stopword|1
+OK 6 rows as of 1
+ERROR no such table INFORMATION_SCHEMA.Innodb_ft_words
+ERROR no such table docs.INNODB_FT_CONFIG
+";
+
+/// Words with apostrophes, in the cache.
+const APOSTROPHES: &str = "INSERT INTO docs (id, body) VALUES (1, 'aaa''bbb')
+INSERT INTO docs (id, body) VALUES (2, 'aaa''''bbb')
+INSERT INTO docs (id, body) VALUES (3, '''aaa''bbb''')
+SELECT * FROM INFORMATION_SCHEMA.INNODB_FT_INDEX_CACHE
+";
+
+const OF_APOSTROPHES: &str = "OK commit 1
+OK commit 2
+OK commit 3
+WORD|FIRST_DOC_ID|LAST_DOC_ID|DOC_COUNT|DOC_ID|POSITION
+aaa|2|2|1|2|0
+aaa'bbb|1|3|2|1|0
+aaa'bbb|1|3|2|3|1
+bbb|2|2|1|2|5
+OK 4 rows as of 3
+";
+
+/// No row, and no words in a row: what is flushed is commits.
+const NO_WORDS: &str = "SYNC
+SELECT * FROM INFORMATION_SCHEMA.INNODB_FT_INDEX_TABLE
+INSERT INTO docs (id, body) VALUES (1, '')
+SYNC
+SYNC
+SELECT * FROM INFORMATION_SCHEMA.INNODB_FT_INDEX_TABLE
+";
+
+const OF_NO_WORDS: &str = "OK sync as of 0
+WORD|FIRST_DOC_ID|LAST_DOC_ID|DOC_COUNT|DOC_ID|POSITION
+OK 0 rows as of 0
+OK commit 1
+OK sync as of 1
+OK sync as of 1
+WORD|FIRST_DOC_ID|LAST_DOC_ID|DOC_COUNT|DOC_ID|POSITION
+OK 0 rows as of 1
+";
+
+const SCRIPTS: [(&str, &str); 4] = [
+    (JUICE, OF_JUICE),
+    (NUMBERS, OF_NUMBERS),
+    (APOSTROPHES, OF_APOSTROPHES),
+    (NO_WORDS, OF_NO_WORDS),
+];
+
+#[test]
+fn words_go_from_the_cache_to_the_tables(rt: HostRuntime) -> Result<(), Fail> {
+    for (script, text) in SCRIPTS {
+        let rows = created(rt.alloc())?;
+        let _ = answers(&rt, rt.alloc(), rows, script.as_bytes(), text)?;
+    }
+    Ok(())
+}
+
+/// A database whose batches have a document each.
+const ONE_A_BATCH: &str = "shop create --columns body --batch-docs 1";
+
+const TWO_NODES: &str = "INSERT INTO docs (id, body) VALUES (1, 'apple pie')
+INSERT INTO docs (id, body) VALUES (2, 'apple')
+SYNC
+SELECT * FROM INFORMATION_SCHEMA.INNODB_FT_INDEX_TABLE
+SELECT FTS_DOC_ID FROM docs WHERE MATCH (body) AGAINST ('apple' IN BOOLEAN MODE)
+SELECT FTS_DOC_ID FROM docs WHERE MATCH (body) AGAINST ('+apple -p*' IN BOOLEAN MODE)
+";
+
+const OF_TWO_NODES: &str = "OK commit 1
+OK commit 2
+OK sync as of 2
+WORD|FIRST_DOC_ID|LAST_DOC_ID|DOC_COUNT|DOC_ID|POSITION
+apple|1|1|1|1|0
+apple|2|2|1|2|0
+pie|1|1|1|1|6
+OK 3 rows as of 2
+OK as of 2: 1 2
+OK as of 2: 2
+";
+
+#[test]
+fn each_batch_has_nodes_of_its_own(rt: HostRuntime) -> Result<(), Fail> {
+    let alloc = rt.alloc();
+    let rows = call(alloc, ONE_A_BATCH, b"", empty_disk(alloc)?)?.rows;
+    let _ = answers(&rt, alloc, rows, TWO_NODES.as_bytes(), OF_TWO_NODES)?;
+    Ok(())
+}
+
+/// The same, and a cache that is too large above 1,000 bytes.
+const SMALL_CACHE: &str = "shop create --columns body --batch-docs 1 --cache-bytes 1000";
+
+/// An INSERT of so many words of four letters, each of which counts 12 in the cache, beside 16 for
+/// the row.
+fn pears(script: &mut Vec<u8>, key: u8, count: usize) -> Result<(), AllocError> {
+    script.extend_from_slice(b"INSERT INTO docs (id, body) VALUES (")?;
+    script.push(key)?;
+    script.extend_from_slice(b", '")?;
+    for _ in 0..count {
+        script.extend_from_slice(b"pear ")?;
+    }
+    script.extend_from_slice(b"')\nSELECT * FROM INFORMATION_SCHEMA.INNODB_FT_CONFIG\n")
+}
+
+/// The first row's size is 1,000, which is not too large; a word more is, so the first commit is
+/// flushed, and the second stays.
+const OF_PEARS: &str = "OK commit 1
+KEY|VALUE
+max_token_size|84
+min_token_size|3
+optimize_word|
+synced_commit|0
+synced_doc_id|0
+use_stopword|1
+OK 6 rows as of 1
+OK commit 2
+KEY|VALUE
+max_token_size|84
+min_token_size|3
+optimize_word|
+synced_commit|1
+synced_doc_id|1
+use_stopword|1
+OK 6 rows as of 2
+";
+
+#[test]
+fn a_batch_follows_a_commit_while_the_cache_is_too_large(rt: HostRuntime) -> Result<(), Fail> {
+    let alloc = rt.alloc();
+    let rows = call(alloc, SMALL_CACHE, b"", empty_disk(alloc)?)?.rows;
+    let mut script = Vec::new(alloc);
+    pears(&mut script, b'1', 82)?;
+    pears(&mut script, b'2', 1)?;
+    let _ = answers(&rt, alloc, rows, &script, OF_PEARS)?;
+    Ok(())
+}
