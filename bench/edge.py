@@ -679,7 +679,7 @@ def script_on_a_terminal_tells_in_one_line(room):
 def script_without_a_toolchain(room):
     how = script_over(room, None)
     ran = subprocess.run([room.at("tree/fts"), "x"], capture_output=True, text=True, **how)
-    line = "fts: the package rattle-kit-13b is missing: install it, with its rt in PATH\n"
+    line = "fts: the package rattle-kit-13f is missing: install it, with its rt in PATH\n"
     same((ran.returncode, ran.stdout, ran.stderr), (102, "", line), "status and lines")
     return f"status 102, {line.strip()}"
 
