@@ -15,6 +15,7 @@ use Rattle.fts_steps.specs.Crash.{IsBetween, HoldsIndex}
 use Rattle.fts_steps.specs.Step.{Ask, to_commit, to_sync, to_view, to_find, to_list, to_measure, Answer, committed, refused, full, flushed, all_flushed, viewed, found, listed, measured}
 use Rattle.fts_steps.specs.Step.{disk_fault, stopped, no_memory, unless_stopped, MayAnswer}
 use Rattle.fts_steps.specs.Step.{Call, Below, Sight, Leaves, after, after_call, after_all, entries_of, Follows, AreAlone}
+use Rattle.fts_sessions.proofs.Flushing.{joined, leaves_more}
 use Rattle.fts_top.specs.Batches.{IsSure}
 use Rattle.fts_top.specs.Run.{MayCrash, MayCrashIndex}
 
@@ -164,29 +165,6 @@ behind start mid now c grew between = record {
   rows = subst (λ (state : State). IsRows state (c 0)) (ap (λ (state : State). with_commits state between.front) grew.1 ∙ with_more start.state grew.0 between.front)
       between.rows;
 }
-
--- one run behind another
-joined : {D : Type 0} (disk : Ghosts D) (old mid new : D) (P : Images) → LeavesOnly disk old mid P → LeavesOnly disk mid new P → LeavesOnly disk old new P
-joined disk old mid new P first then_ = record {
-  later = let a = first.later in let b = then_.later in omega arith;
-  each = λ c left. ⊎_elim (λ past. first.each c past) (λ held. held) (then_.before (disk.moment old) c first.later left);
-  before = λ t c le left. ⊎_elim (λ past. first.before t c le past) inr (then_.before t c (let a = first.later in omega (arith, le, a)) left);
-}
-
--- what is left of one run and of one behind it
-leaves_more : {S : Type 0} (below : Below S) (before mid new : S) (P Q R : Images) → ((c : Files) → P c → R c) → ((c : Files) → Q c → R c)
-    → Leaves below P before mid → Leaves below Q mid new → Leaves below R before new
-leaves_more below before mid new P Q R sooner later (inl same) (inl again) = inl (again ∙ same)
-leaves_more below before mid new P Q R sooner later (inl same) (inr left) =
-    inr (subst (λ (d : below.Device). LeavesOnly below.disk d (below.device new) R) same
-    (leaves_weaker below.disk (below.device mid) (below.device new) Q R later left))
-leaves_more below before mid new P Q R sooner later (inr left) (inl same) =
-    inr (subst (λ (d : below.Device). LeavesOnly below.disk (below.device before) d R) (sym same)
-    (leaves_weaker below.disk (below.device before) (below.device mid) P R sooner left))
-leaves_more below before mid new P Q R sooner later (inr first) (inr then_) =
-    inr (joined below.disk (below.device before) (below.device mid) (below.device new) R
-    (leaves_weaker below.disk (below.device before) (below.device mid) P R sooner first)
-    (leaves_weaker below.disk (below.device mid) (below.device new) Q R later then_))
 
 -- what steps behind others leave of the rows log
 pub between_more : {S : Type 0} (sight : Sight S) (old mid new : S) (start middle now : Running) → Grown start.state middle.state → Adds middle now

@@ -37,7 +37,7 @@ failed_now Short Short is = absurd cc
 failed_now Short Failed is = refl
 failed_now Failed b is = refl
 
-failed_in : (a b : Health) → worse a b ≡ Failed → (a ≡ Failed) ⊎ (b ≡ Failed)
+pub failed_in : (a b : Health) → worse a b ≡ Failed → (a ≡ Failed) ⊎ (b ≡ Failed)
 failed_in Sound b is = inr is
 failed_in Short Sound is = absurd cc
 failed_in Short Short is = absurd cc

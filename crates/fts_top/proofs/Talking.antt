@@ -1,4 +1,4 @@
-use Rattle.std.proofs.Common.{◌≡◌, ℕ, Bool, true, false, List, [], ◌∷◌, ◌++◌, refl, ap, subst, sym, ◌∙◌, append_assoc, inl, inr}
+use Rattle.std.proofs.Common.{◌≡◌, ℕ, Bool, true, false, List, [], ◌∷◌, ◌++◌, refl, ap, subst, sym, ◌∙◌, append_assoc, length, inl, inr, ⊎_elim}
 use Rattle.std.proofs.lemmas.List.{append-nil}
 use Rattle.fts_types.specs.declared.limits.Limits.{Limits}
 use Rattle.fts_types.specs.declared.settings.Settings.{Settings}
@@ -10,14 +10,15 @@ use Rattle.fts_steps.specs.Running.{Running, Entry, grown}
 use Rattle.fts_steps.specs.Step.{Ask, to_commit, to_sync, to_view, to_find, to_list, to_measure, Answer, committed, refused, full, flushed, all_flushed, viewed, found, listed, measured}
 use Rattle.fts_steps.specs.Step.{disk_fault, stopped, no_memory}
 use Rattle.fts_steps.specs.Step.{Call, after, after_call, after_all, Follows, AreAlone}
-use Rattle.fts_sessions.specs.Request.{Request}
-use Rattle.fts_sessions.specs.Conversation.{Converses, reply_to, ends}
+use Rattle.fts_sessions.specs.Request.{Request, inserts, searches, syncs, lists, blank, unknown, unread}
+use Rattle.fts_sessions.specs.Conversation.{Converses, next, sync_next, target_of, asks, ends}
+use Rattle.fts_sessions.proofs.Flushing.{last_behind}
 use Rattle.fts_sessions.specs.Execute.{Says}
 use Rattle.fts_top.specs.declared.ends.Health.{Health}
 use Rattle.fts_top.specs.declared.ends.Health.TheVariants.{Sound, Failed}
 use Rattle.fts_top.specs.Health.{health_of, health_of_answer, health_of_steps, worse}
 use Rattle.fts_top.specs.Talk.{Talks, AreBatches, most_behind, committed_by, texts_of}
-use Rattle.fts_top.proofs.Health.{worse_sound, worse_more, failed_before, failed_now}
+use Rattle.fts_top.proofs.Health.{worse_sound, worse_more, failed_before, failed_now, failed_in}
 
 -- steps one after another
 pub after_more : (running : Running) (calls more : List Call) → after_all running (calls ++ more) ≡ after_all (after_all running calls) more
@@ -118,3 +119,61 @@ steps_still running (call ∷ calls) alone calm =
     steps_still (after_call running call) calls alone.1 (λ is. calm (failed_now (health_of_answer call.answer) (health_of_steps calls) is))
     ∙ answer_still (grown running call.more) call.ask call.answer (λ is. calm (failed_before (health_of_answer call.answer) (health_of_steps calls) is))
     ∙ ap (λ (more : List Entry). (grown running more).stopped) alone.0
+
+-- ---- a line that met no fault
+
+fault_next : (settings : Settings) (request : Request) (answers : List Answer) (faults : ℕ) (ask : Ask) → next settings request answers ≡ asks ask
+    → next settings request (answers ++ disk_fault faults ∷ []) ≡ ends DiskFault
+fault_next settings syncs [] faults ask is = refl
+fault_next settings syncs (answer ∷ answers) faults ask is =
+    ap (sync_next (target_of answer) (length (answer ∷ (answers ++ disk_fault faults ∷ [])))) (last_behind answer answers (disk_fault faults))
+fault_next settings (inserts table names values) [] faults ask is = refl
+fault_next settings (inserts table names values) (answer ∷ answers) faults ask is = absurd cc
+fault_next settings (searches table names search) [] faults ask is = refl
+fault_next settings (searches table names search) (answer ∷ answers) faults ask is = absurd cc
+fault_next settings (lists schema view) [] faults ask is = refl
+fault_next settings (lists schema view) (answer ∷ answers) faults ask is = absurd cc
+fault_next settings blank [] faults ask is = refl
+fault_next settings blank (answer ∷ answers) faults ask is = absurd cc
+fault_next settings (unknown place) [] faults ask is = refl
+fault_next settings (unknown place) (answer ∷ answers) faults ask is = absurd cc
+fault_next settings unread [] faults ask is = refl
+fault_next settings unread (answer ∷ answers) faults ask is = absurd cc
+
+is_fault : (answer : Answer) → health_of_answer answer ≡ Failed → (faults : ℕ) × (answer ≡ disk_fault faults)
+is_fault (disk_fault faults) is = (faults, refl)
+is_fault (committed number) is = absurd cc
+is_fault (refused why) is = absurd cc
+is_fault (full end_) is = absurd cc
+is_fault (flushed through commits) is = absurd cc
+is_fault (all_flushed commits) is = absurd cc
+is_fault (viewed view) is = absurd cc
+is_fault (found number docs) is = absurd cc
+is_fault (listed number listing) is = absurd cc
+is_fault (measured size) is = absurd cc
+is_fault (stopped faults) is = absurd cc
+is_fault no_memory is = absurd cc
+
+-- the steps behind one that failed: there are none, and the reply tells the fault
+fault_told : (settings : Settings) (request : Request) (answers : List Answer) (calls : List Call) (reply : Reply) → next settings request answers ≡ ends DiskFault
+    → Converses settings request answers calls reply → reply ≡ DiskFault
+fault_told settings request answers [] reply ended says = (let same : ends reply ≡ ends DiskFault = sym says ∙ ended in cc)
+fault_told settings request answers (call ∷ calls) reply ended says = absurd (let no : asks call.ask ≡ ends DiskFault = sym says.0 ∙ ended in cc)
+
+converses_calm : (settings : Settings) (request : Request) (answers : List Answer) (calls : List Call) (reply : Reply) → Converses settings request answers calls reply
+    → (reply ≡ DiskFault → ⊥) → health_of_steps calls ≡ Failed → ⊥
+converses_calm settings request answers [] reply says calm is = (let no : ◌≡◌ {A = Health} Sound Failed = is in cc)
+converses_calm settings request answers (call ∷ calls) reply says calm is = ⊎_elim
+    (λ here.
+    let fault = is_fault call.answer here in
+    calm (fault_told settings request (answers ++ call.answer ∷ []) calls reply
+    (ap (λ (answer : Answer). next settings request (answers ++ answer ∷ [])) fault.1 ∙ fault_next settings request answers fault.0 call.ask says.0) says.1))
+    (λ behind. converses_calm settings request (answers ++ call.answer ∷ []) calls reply says.1 calm behind)
+    (failed_in (health_of_answer call.answer) (health_of_steps calls) is)
+
+-- a line that met no fault stops nothing
+pub line_still : (settings : Settings) (line : Line) (calls : List Call) (reply : Reply) (running : Running) → Says settings line calls reply → AreAlone calls
+    → (reply ≡ DiskFault → ⊥) → (after_all running calls).stopped ≡ running.stopped
+line_still settings line calls reply running (inl (request, is, converses)) alone calm =
+    steps_still running calls alone (converses_calm settings request [] calls reply converses calm)
+line_still settings line calls reply running (inr (none, want)) alone calm = ap (λ (c : List Call). (after_all running c).stopped) none
