@@ -1,11 +1,12 @@
 #!/usr/bin/env python3
-"""Times searches of each kind, beside FTS5: bench/queries.py [ROWS] [--svg FILE]
+"""Times searches of each kind, beside FTS5: bench/queries.py [ROWS] [--sync] [--svg FILE]
 
 ROWS mails of 200 words each (100,000 by default), the common words often, as in prose. Each kind
 is asked 40 times, and both find the same rows. fts reads a statement from a pipe and writes the
 ids into another; FTS5, in this process, makes one text of them (group_concat). Told is the
 processor's time for one search, the least of five turns. It needs Python 3 with its sqlite3 and
-Linux, and works below TMPDIR. With --svg it draws the times as bars.
+Linux, and works below TMPDIR. With --sync all is flushed before the searches. With --svg it draws
+the times as bars.
 """
 import argparse
 import os
@@ -98,8 +99,8 @@ def kinds_of(texts):
 
 
 class Fts:
-    def __init__(self, program, folder):
-        create = [program, folder, "create", "--columns", "body"]
+    def __init__(self, program, folder, *options):
+        create = [program, folder, "create", "--columns", "body", *options]
         subprocess.run(create, check=True, stdout=subprocess.DEVNULL)
         pipes = {"stdin": subprocess.PIPE, "stdout": subprocess.PIPE}
         self.process = subprocess.Popen([program, folder, "run"], **pipes)
@@ -148,11 +149,14 @@ def asked_of(base, queries):
     return [len((it or "").split()) for it in texts], took
 
 
-def measured(program, texts, folder):
+def measured(program, texts, folder, sync):
     fts = Fts(program, os.path.join(folder, "db"))
     insert = "INSERT INTO docs (id, body) VALUES (%d, '%s')\n"
     _, took = fts.ask([insert % (row + 1, " ".join(text)) for row, text in enumerate(texts)])
     print(f"an INSERT: {took:.0f} us", file=sys.stderr)
+    if sync:
+        _, took = fts.ask(["SYNC\n"])
+        print(f"SYNC: {took / 1e3:.0f} ms", file=sys.stderr)
     base = fts5_of(folder, texts)
     for kind, make in kinds_of(texts).items():
         mine, theirs = zip(*(make() for _ in range(ASKED)))
@@ -187,6 +191,7 @@ def svg_of(rows):
 def main():
     parser = argparse.ArgumentParser(description="Times searches of each kind beside FTS5.")
     parser.add_argument("rows", nargs="?", type=int, default=100_000)
+    parser.add_argument("--sync", action="store_true", help="flush all before the searches")
     parser.add_argument("--svg", metavar="FILE", help="draw the times as bars")
     parser.add_argument("--program", default=os.path.join(TOP, "crates/fts/out/fts"))
     words = parser.parse_args()
@@ -194,7 +199,7 @@ def main():
     rows = []
     print("| Search | Rows found | fts | FTS5 | FTS5 takes |\n|---|---|---|---|---|")
     with tempfile.TemporaryDirectory() as folder:
-        for row in measured(words.program, texts, folder):
+        for row in measured(words.program, texts, folder, words.sync):
             kind, found, mine, theirs = row
             times = f"{mine:,.0f} µs | {theirs:,.0f} µs | {theirs / mine:.1f} times"
             print(f"| {kind} | {found:,} | {times} |", flush=True)

@@ -1,0 +1,71 @@
+#!/usr/bin/env python3
+"""Times INSERTs with batches between them, and SYNC: bench/batches.py [ROWS ..]
+
+Mails as in bench/queries.py, each INSERT a commit, into a database with the default cache, above
+which batches follow a commit, and into one with the largest cache. Told is the processor's time
+for one INSERT, by tenths of the rows, and the most memory that was held. Then SYNC, each time of
+1,000 mails more. It needs Python 3 and Linux, and works below TMPDIR.
+"""
+import argparse
+import os
+import tempfile
+
+from queries import TOP, Fts, texts_of
+
+INSERT = "INSERT INTO docs (id, body) VALUES (%d, '%s')\n"
+CACHES = {"the default cache": [], "the largest cache": ["--cache-bytes", "80000000"]}
+
+
+def held(fts):
+    """The most memory that it held, in megabytes."""
+    with open(f"/proc/{fts.process.pid}/status", encoding="ascii") as it:
+        return next(int(line.split()[1]) for line in it if line.startswith("VmHWM")) / 1024
+
+
+def inserts(texts, first):
+    return [INSERT % (first + row, " ".join(text)) for row, text in enumerate(texts)]
+
+
+def end(fts):
+    fts.process.stdin.close()
+    fts.process.wait()
+
+
+def by_tenths(program, folder, texts, options):
+    fts = Fts(program, folder, *options)
+    tenth = len(texts) // 10
+    times = [fts.ask(inserts(texts[k : k + tenth], k + 1))[1] for k in range(0, 10 * tenth, tenth)]
+    memory = held(fts)
+    end(fts)
+    return times, memory
+
+
+def syncs(program, folder, texts):
+    fts = Fts(program, folder, *CACHES["the largest cache"])
+    for first in range(0, len(texts), 1_000):
+        fts.ask(inserts(texts[first : first + 1_000], first + 1))
+        yield fts.ask(["SYNC\n"])[1] / 1e3
+    end(fts)
+
+
+def main():
+    parser = argparse.ArgumentParser(description="Times INSERTs with batches, and SYNC.")
+    parser.add_argument("rows", nargs="*", type=int, default=[10_000])
+    parser.add_argument("--program", default=os.path.join(TOP, "crates/fts/out/fts"))
+    words = parser.parse_args()
+    for rows in words.rows:
+        texts = texts_of(rows)
+        size = sum(len(" ".join(text)) for text in texts) / 1e6
+        print(f"{rows:,} mails, {size:.0f} MB of texts")
+        for name, options in CACHES.items():
+            with tempfile.TemporaryDirectory() as folder:
+                times, memory = by_tenths(words.program, f"{folder}/db", texts, options)
+            told = " ".join(f"{took:.0f}" for took in times)
+            print(f"an INSERT, {name}: {told} us, {memory:.0f} MB held", flush=True)
+        with tempfile.TemporaryDirectory() as folder:
+            told = " ".join(f"{it:.0f}" for it in syncs(words.program, f"{folder}/db", texts[:10_000]))
+            print(f"SYNC, each of 1,000 mails: {told} ms", flush=True)
+
+
+if __name__ == "__main__":
+    main()
