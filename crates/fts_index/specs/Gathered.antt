@@ -9,7 +9,7 @@ use Rattle.fts_ilist.specs.Spelling.{Posting}
 use Rattle.fts_ilist.specs.Packing.{joined}
 use Rattle.fts_cache.specs.Cache.{postings_of}
 use Rattle.fts_aux.specs.Tables.{nodes}
-use Rattle.fts_lists.specs.State as lists
+use Rattle.fts_lists.specs.State.{ids_of}
 use Rattle.fts_lists.specs.declared.lists.DeleteList.TheVariants.{Deleted, DeletedCache}
 use Rattle.fts_meaning.specs.Leaf.{Leaf, no_leaf, of_word, of_prefix, of_words}
 use Rattle.fts_meaning.specs.View as view
@@ -20,18 +20,18 @@ use Rattle.fts_index.specs.declared.gather.Gathered.{Gathered}
 use Rattle.fts_index.specs.declared.index.Index.{Index}
 
 -- the ids of postings
-abbrev pub ids_of : List Posting → List ℕ
-ids_of postings = map (λ p. p.id) postings
+abbrev pub doc_ids : List Posting → List ℕ
+doc_ids postings = map (λ p. p.id) postings
 
 -- whether the document has the word in the tables, and is not deleted
 abbrev pub table_has : Index → ℕ → List ℕ → Bool
-table_has index id word = (has (ids_of (joined (nodes index.tables word))) id
-    && not (has (lists.ids_of Deleted index.lists) id)) && not (has (lists.ids_of DeletedCache index.lists) id)
+table_has index id word = (has (doc_ids (joined (nodes index.tables word))) id
+    && not (has (ids_of Deleted index.lists) id)) && not (has (ids_of DeletedCache index.lists) id)
 
 -- whether it has the word in the cache, and did not die
 abbrev pub cache_has : Index → ℕ → List ℕ → Bool
 cache_has index id word =
-    has (ids_of (postings_of index.cache word)) id && not (has (lists.ids_of DeletedCache index.lists) id)
+    has (doc_ids (postings_of index.cache word)) id && not (has (ids_of DeletedCache index.lists) id)
 
 -- whether it has the word
 abbrev pub doc_has : Index → ℕ → List ℕ → Bool

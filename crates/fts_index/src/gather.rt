@@ -1,14 +1,14 @@
 //! What an index tells of the leaves of a query.
-ghost use Rattle.std.specs.Prelude.{◌≡◌, ◌∷◌, ◌++◌, ◌↔◌, ◌&&◌, ◌||◌, ℕ, not, IfOk, OnOk, IsTrue};
+ghost use Rattle.std.specs.Prelude.{◌≡◌, ◌∷◌, ◌++◌, ◌+◌, ◌↔◌, ◌&&◌, ◌||◌, ℕ, not, IfOk, OnOk, IsTrue};
 ghost use Rattle.std.specs.Prelude.{map};
 ghost use Rattle.std.specs.List.{list_any};
 ghost use Rattle.fts_ids.specs.Ids.{has, Ascend, AscendFrom};
 ghost use Rattle.fts_ilist.specs.Node.{NodesAfter};
 ghost use Rattle.fts_ilist.specs.Packing.{joined};
-ghost use Rattle.fts_lists.specs.State as lists;
+ghost use Rattle.fts_lists.specs.State.{ids_of};
 ghost use Rattle.fts_lists.specs.declared.lists.DeleteList.TheVariants.{Deleted, DeletedCache};
 ghost use Rattle.fts_query.specs.Seen.{leaf_seen, leaves_seen};
-ghost use Rattle.fts_index.specs.Gathered.{ids_of, doc_has_words, AreAskedFor, AreTold, HasPrefix};
+ghost use Rattle.fts_index.specs.Gathered.{doc_ids, doc_has_words, AreAskedFor, AreTold, HasPrefix};
 ghost use Rattle.fts_index.specs.Gathered.{is_needed, table_has, cache_has, doc_has};
 
 use crate::index::Index;
@@ -31,7 +31,7 @@ pub struct Gathered {
 
 /// Puts the ids of documents behind others. Their positions are passed over.
 fn push_ids(ids: &mut Vec<DocId>, mut documents: Cursor<'_>) -> Result<(), AllocError>
-    ensures { OnOk result (ids.new.items ≡ ids.old.items ++ ids_of documents.entry) }
+    ensures { OnOk result (ids.new.items ≡ ids.old.items ++ doc_ids documents.entry) }
 {
     while let Some(id) = documents.doc() {
         ids.push(id)?;
@@ -44,7 +44,7 @@ fn push_ids(ids: &mut Vec<DocId>, mut documents: Cursor<'_>) -> Result<(), Alloc
 fn node_ids(alloc: Global, nodes: NodeSlice<'_>) -> Result<Vec<DocId>, AllocError>
     requires { NodesAfter 0 nodes }
     ensures ascend { IfOk result (λ ids. Ascend ids.items) }
-    ensures ids { IfOk result (λ ids. ids.items ≡ ids_of (joined nodes.entry)) }
+    ensures ids { IfOk result (λ ids. ids.items ≡ doc_ids (joined nodes.entry)) }
 {
     let mut ids = Vec::new(alloc);
     for node in nodes {
@@ -58,7 +58,7 @@ fn without_deleted(lists: &Lists, ids: Vec<DocId>) -> Result<Vec<DocId>, AllocEr
     requires { Ascend ids.items }
     ensures ascend { IfOk result (λ left. Ascend left.items) }
     ensures each { IfOk result (λ left. (id : ℕ) → has left.items id
-        ≡ (has ids.items id && not (has (lists.ids_of Deleted lists.now) id))) }
+        ≡ (has ids.items id && not (has (ids_of Deleted lists.now) id))) }
 {
     if lists.is_empty(DeleteList::Deleted) {
         return Ok(ids);
@@ -71,7 +71,7 @@ fn left_alive(alloc: Global, lists: &Lists, ids: &[DocId]) -> Result<Vec<DocId>,
     requires { Ascend ids.now }
     ensures ascend { IfOk result (λ left. Ascend left.items) }
     ensures each { IfOk result (λ left. (id : ℕ) → has left.items id
-        ≡ (has ids.now id && not (has (lists.ids_of DeletedCache lists.now) id))) }
+        ≡ (has ids.now id && not (has (ids_of DeletedCache lists.now) id))) }
 {
     let mut left = Vec::new(alloc);
     for id in ids {
@@ -87,7 +87,7 @@ fn without_dead(lists: &Lists, ids: Vec<DocId>) -> Result<IdList, AllocError>
     requires { Ascend ids.items }
     ensures ascend { IfOk result Ascend }
     ensures each { IfOk result (λ left. (id : ℕ) → has left id
-        ≡ (has ids.items id && not (has (lists.ids_of DeletedCache lists.now) id))) }
+        ≡ (has ids.items id && not (has (ids_of DeletedCache lists.now) id))) }
 {
     if lists.is_empty(DeleteList::DeletedCache) {
         return Ok(IdList::new(ids));
@@ -120,12 +120,13 @@ fn stands_before(front: &[DocId], rest: &[DocId]) -> bool
     requires rest { Ascend rest.now }
     ensures { IsTrue result → (id : ℕ) → IsTrue (has front.now id) → AscendFrom (id + 1) rest.now }
 {
-    let Some(last) = front.last() else {
+    if front.is_empty() {
         return true;
-    };
+    }
+    let last = front[front.len() - 1];
     match rest {
         [] => true,
-        [first, ..] => last < first,
+        [first, ..] => last < *first,
     }
 }
 

@@ -5,8 +5,13 @@ ghost use Rattle.fts_ids.specs.Ids.{Ascend};
 ghost use Rattle.fts_cache.specs.Cache.{HasRoom};
 ghost use Rattle.fts_index.specs.Births.{AreBirths};
 ghost use Rattle.fts_index.specs.Document.{HaveWordsOf};
-ghost use Rattle.fts_index.specs.Index.{IdsAscendFrom};
-ghost use Rattle.fts_index.specs.Parts.{AddsDocuments};
+ghost use Rattle.fts_index.specs.Index.{IdsAscendFrom, FitsIndex, FitsSync};
+ghost use Rattle.fts_index.specs.Parts.{AddsDocuments, HasSame, IsCommitted, IsFlushed};
+ghost use Rattle.std.specs.Prelude.{◌<◌, ◌≤◌, OnOk};
+ghost use Rattle.std.specs.VecDeque.{deque_len, deque_capacity};
+ghost use Rattle.fts_aux.specs.Tables as tables;
+ghost use Rattle.fts_lists.specs.State.{room_of};
+ghost use Rattle.fts_lists.specs.declared.lists.DeleteList.TheVariants.{Deleted, DeletedCache};
 
 use crate::document::document_words;
 use crate::gather::{Gathered, needed, told};
@@ -15,6 +20,7 @@ use crate::pending::Pending;
 use crate::sync::{SyncPlan, covered_deaths, covers, move_dead, pop_covered};
 use fts_aux::Tables;
 use fts_cache::{Cache, DocWords};
+use fts_ilist::WordNodes;
 use fts_listing::{Listing, ListingKind};
 use fts_lists::{DeleteList, Lists};
 use fts_query::Leaf;
@@ -70,6 +76,62 @@ fn add_documents(cache: &mut Cache, documents: &[DocWords])
     }
 }
 
+/// Makes room for a commit with these documents and so many deaths.
+fn make_room(index: &mut Index, documents: &[DocWords], deaths: usize) -> Result<(), AllocError>
+    ensures same { HasSame index.old index.new }
+    ensures documents { OnOk result (HasRoom index.new.cache documents.now) }
+    ensures deaths { OnOk result (deaths ≤ room_of DeletedCache index.new.lists) }
+    ensures queue { OnOk result (deque_len index.new.pending < deque_capacity index.new.pending) }
+{
+    index.pending.reserve(1)?;
+    index.lists.reserve(DeleteList::DeletedCache, deaths)?;
+    index.cache.reserve(documents)?;
+    Ok(())
+}
+
+/// Makes room for a batch of these nodes, in whose commits so many died.
+fn make_batch_room(index: &mut Index, nodes: &[WordNodes], dead: usize) -> Result<(), AllocError>
+    ensures same { HasSame index.old index.new }
+    ensures nodes { OnOk result (tables.HasRoomOf index.new.tables nodes.now) }
+    ensures dead { OnOk result (dead ≤ room_of Deleted index.new.lists) }
+{
+    index.lists.reserve(DeleteList::Deleted, dead)?;
+    index.tables.reserve(nodes)?;
+    Ok(())
+}
+
+/// Adds what a commit does to each part of an index.
+fn add_commit(index: &mut Index, plan: CommitPlan)
+    requires { FitsIndex index.old plan }
+    ensures { IsCommitted index.old plan index.new }
+{
+    let CommitPlan { documents, pending } = plan;
+    add_documents(&mut index.cache, &documents);
+    index
+        .lists
+        .add_all(DeleteList::DeletedCache, &pending.deaths);
+    index.pending.push_back(pending).unwrap();
+}
+
+/// Makes a batch in each part of an index.
+fn flush(index: &mut Index, plan: SyncPlan)
+    requires { FitsSync index.old plan }
+    ensures { IsFlushed index.old plan index.new }
+{
+    let SyncPlan {
+        count,
+        through,
+        synced,
+        nodes,
+        dead,
+    } = plan;
+    index.tables.install_batch(&nodes);
+    index.cache.drop_until(synced);
+    move_dead(&mut index.lists, &dead);
+    pop_covered(&mut index.pending, count);
+    index.lists.set_flushed(through, synced);
+}
+
 impl Index {
     ghost use Rattle.fts_words.specs.Indexed.{Rules};
     ghost use Rattle.fts_commits.specs.Commit.{Rows};
@@ -83,7 +145,7 @@ impl Index {
     ghost use Rattle.fts_index.specs.Births.{turn_of};
     ghost use Rattle.fts_index.specs.Gathered.{IsGathered};
     ghost use Rattle.fts_index.specs.Index.{StandsFor, Indexes, AreCommits, CanTurn, WillTurn};
-    ghost use Rattle.fts_index.specs.Index.{FitsIndex, FitsSync, PlansBatch};
+    ghost use Rattle.fts_index.specs.Index.{PlansBatch};
 
     /// An index of no commits. What it holds later lies in this allocator.
     pub fn new(alloc: Global) -> Self
@@ -119,9 +181,7 @@ impl Index {
     {
         let documents = documents_of(self.alloc, settings, births)?;
         let deaths = deaths.to_vec(self.alloc)?;
-        self.pending.reserve(1)?;
-        self.lists.reserve(DeleteList::DeletedCache, deaths.len())?;
-        self.cache.reserve(&documents)?;
+        make_room(self, &documents, deaths.len())?;
         let pending = Pending {
             births: births.len(),
             deaths,
@@ -138,11 +198,7 @@ impl Index {
             → StandsFor rules turns s self.old → WillTurn rules turn self.old plan
             → CanTurn turns turn → StandsFor rules (turns ++ turn ∷ []) s self.new }
     {
-        let CommitPlan { documents, pending } = plan;
-        add_documents(&mut self.cache, &documents);
-        self.lists
-            .add_all(DeleteList::DeletedCache, &pending.deaths);
-        self.pending.push_back(pending).unwrap();
+        add_commit(self, plan);
     }
 
     /// The next batch, which flushes the first commits that are not flushed: as many as have at most
@@ -170,8 +226,7 @@ impl Index {
             .ok_or(AllocError)?;
         let dead = covered_deaths(self.alloc, &self.pending, count)?;
         let nodes = batch(self.alloc, &self.cache, synced, &self.lists)?;
-        self.lists.reserve(DeleteList::Deleted, dead.len())?;
-        self.tables.reserve(&nodes)?;
+        make_batch_room(self, &nodes, dead.len())?;
         Ok(Some(SyncPlan {
             count,
             through,
@@ -190,18 +245,7 @@ impl Index {
             → IsBatch rules limit turns s plan.through plan.synced plan.nodes.items
             → StandsFor rules turns (after_batch rules limit turns s) self.new }
     {
-        let SyncPlan {
-            count,
-            through,
-            synced,
-            nodes,
-            dead,
-        } = plan;
-        self.tables.install_batch(&nodes);
-        self.cache.drop_until(synced);
-        move_dead(&mut self.lists, &dead);
-        pop_covered(&mut self.pending, count);
-        self.lists.set_flushed(through, synced);
+        flush(self, plan);
     }
 
     /// What the index tells of these leaves. It costs the documents of their words; for a prefix,

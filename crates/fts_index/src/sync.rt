@@ -5,7 +5,7 @@ ghost use Rattle.fts_ids.specs.Ids.{has, Ascend};
 ghost use Rattle.fts_lists.specs.State.{ids_of, room_of};
 ghost use Rattle.fts_lists.specs.declared.lists.DeleteList.TheVariants.{Deleted, DeletedCache};
 ghost use Rattle.fts_index.specs.Index.{pending_seen};
-ghost use Rattle.fts_index.specs.Parts.{counted_within, deaths_through};
+ghost use Rattle.fts_index.specs.Parts.{counted_within, deaths_through, MovesDead};
 
 use crate::pending::Pending;
 use fts_ilist::Nodes;
@@ -113,16 +113,7 @@ fn up_to(ids: &[DocId], last: DocId) -> &[DocId]
 pub(crate) fn move_dead(lists: &mut Lists, dead: &[DocId])
     requires ascend { Ascend dead.now }
     requires room { length dead.now ≤ room_of Deleted lists.old }
-    ensures ascend_then { Ascend (ids_of Deleted lists.old) }
-    ensures ascend_now { Ascend (ids_of Deleted lists.new) }
-    ensures deleted { (id : ℕ) → has (ids_of Deleted lists.new) id
-        ≡ (has (ids_of Deleted lists.old) id || (nat_le id lists.old.synced && has dead.now id)) }
-    ensures dead { (id : ℕ) → has (ids_of DeletedCache lists.new) id
-        ≡ (not (has dead.now id) && has (ids_of DeletedCache lists.old) id) }
-    ensures others { lists.new ≡ record lists.old {
-      deleted = lists.new.deleted;
-      deleted_cache = lists.new.deleted_cache;
-    } }
+    ensures { MovesDead lists.old dead.now lists.new }
 {
     // That the ids of DELETED ascend is known once they are read.
     let _deleted = lists.deleted();

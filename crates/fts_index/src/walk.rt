@@ -38,11 +38,12 @@ fn first_word<'a>(
     ensures { IfOk result (λ found. IsWalked (nodes tables.now) []
         (map (λ p. (p.0.now, p.1)) found.items)) }
 {
-    let mut words = Vec::new(alloc);
     let nodes = tables.nodes_of(b"");
-    if !nodes.is_empty() {
-        words.push((empty, nodes))?;
+    let mut words = Vec::new(alloc);
+    if nodes.is_empty() {
+        return Ok(words);
     }
+    words.push((empty, nodes))?;
     Ok(words)
 }
 
