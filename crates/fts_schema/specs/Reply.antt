@@ -4,7 +4,8 @@ use Rattle.fts_schema.specs.declared.reply.Reply.{Reply}
 use Rattle.fts_schema.specs.declared.reply.Reply.TheVariants.{Committed, Found, Refused, NoSuchTable, NoSuchColumn}
 use Rattle.fts_schema.specs.declared.reply.Reply.TheVariants.{WrongColumns, LogFull, Nothing, Syntax, QuerySyntax}
 use Rattle.fts_schema.specs.declared.reply.Reply.TheVariants.{QueryTooLong, QueryTooDeep, LineTooLong, NoMemory}
-use Rattle.fts_schema.specs.declared.reply.Reply.TheVariants.{DiskFault, Stopped}
+use Rattle.fts_schema.specs.declared.reply.Reply.TheVariants.{DiskFault, Stopped, Synced, Listed}
+use Rattle.fts_schema.specs.Listing.{listing_text}
 
 -- each document id in decimal, a space before it
 abbrev pub ids_text : List ℕ → List ℕ
@@ -16,10 +17,13 @@ abbrev pub docs_text : List ℕ → List ℕ
 docs_text [] = codes " none"
 docs_text (id ∷ ids) = ids_text (id ∷ ids)
 
--- the text of a reply, with its LF; a blank line or a comment has none
+-- the text of a reply, with its LF; that of a listing has a line for each row and two more, and a blank line or a
+-- comment has none
 abbrev pub text_of : Reply → List ℕ
 text_of (Committed number) = codes "OK commit " ++ (decimal number ++ 10 ∷ [])
 text_of (Found number docs) = codes "OK as of " ++ (decimal number ++ 58 ∷ (docs_text docs ++ 10 ∷ []))
+text_of (Synced through) = codes "OK sync as of " ++ (decimal through ++ 10 ∷ [])
+text_of (Listed number listing) = listing_text number listing
 text_of (Refused refusal) = codes "ERROR " ++ (refusal_text refusal ++ 10 ∷ [])
 text_of (NoSuchTable name) = codes "ERROR no such table " ++ (name ++ 10 ∷ [])
 text_of (NoSuchColumn name) = codes "ERROR no such column " ++ (name ++ 10 ∷ [])

@@ -3,9 +3,14 @@
 //! `reply_text(alloc, &Reply::Committed { number: 1 })?` is `OK commit 1` and a line's end.
 //! `docs/LANGUAGE.md`, "Replies", has them all.
 //!
+//! [`listing_text`] is that of what a view lists, row by row.
+//!
 //! A text costs its bytes.
 #![tactic(auto)]
 
+mod listing;
 mod reply;
+mod rows;
 
+pub use listing::listing_text;
 pub use reply::{Reply, created_text, fixed_text, reply_text};

@@ -2,17 +2,23 @@ ghost use Rattle.std.specs.Prelude.{◌≡◌, ◌∷◌, ◌++◌, [], ℕ, Lis
 ghost use Rattle.std.specs.Prelude.{OnOk, IfOk, IfSome, IfNone};
 ghost use Rattle.fts_schema.specs.Reply.{text_of, is_fixed, ids_text};
 
+use crate::listing::listing_text;
 use fts_commits::Refusal;
+use fts_listing::Listing;
 use fts_types::{DocIds, Text};
 use std::alloc::{AllocError, Global};
 
 /// The reply to one line of a script.
-#[derive(Debug, Drop)]
+#[derive(Drop)]
 pub enum Reply {
     /// The line's changes are commit `number`; commits count from 1.
     Committed { number: u64 },
     /// As of commit `number`, 0 before the first, the search found the documents `docs`.
     Found { number: u64, docs: DocIds },
+    /// The index is flushed through commit `through`.
+    Synced { through: u64 },
+    /// As of commit `number`, 0 before the first, the view has what `listing` says.
+    Listed { number: u64, listing: Listing },
     /// The rows refuse the line's commit, which changes nothing.
     Refused { refusal: Refusal },
     /// With the commit the log would end at byte `end`, from 0, which is above its limit. Nothing
@@ -22,7 +28,8 @@ pub enum Reply {
     Nothing,
     /// The line is no statement, which shows at byte `at`, from 1.
     Syntax { at: u64 },
-    /// There is no table of this name, which is as the line writes it.
+    /// There is no table of this name, which is as the line writes it; that of a view has its
+    /// schema's name and a point before it.
     NoSuchTable { name: Text },
     /// The table has no column of this name, which is as the line writes it.
     NoSuchColumn { name: Text },
@@ -61,6 +68,8 @@ pub fn fixed_text(reply: &Reply) -> Option<&'static str>
         Reply::DiskFault => Some("ERROR disk fault\n"),
         Reply::Committed { .. } => None,
         Reply::Found { .. } => None,
+        Reply::Synced { .. } => None,
+        Reply::Listed { .. } => None,
         Reply::Refused { .. } => None,
         Reply::LogFull { .. } => None,
         Reply::Syntax { .. } => None,
@@ -73,7 +82,8 @@ pub fn fixed_text(reply: &Reply) -> Option<&'static str>
     }
 }
 
-/// The text of a reply: one line with its LF, or nothing for a line that is not answered.
+/// The text of a reply: one line with its LF, or nothing for a line that is not answered. That of a
+/// listing has a line for each row, and two more.
 ///
 /// The only error is want of memory.
 pub fn reply_text(alloc: Global, reply: &Reply) -> Result<Vec<u8>, AllocError>
@@ -99,6 +109,8 @@ fn written_text(alloc: Global, reply: &Reply) -> Result<Vec<u8>, AllocError>
         ),
         Reply::Committed { number } => bytes_of(format!(in alloc; "OK commit {number}\n")),
         Reply::Found { number, docs } => bytes_of(found_text(alloc, *number, docs.as_slice())),
+        Reply::Synced { through } => bytes_of(format!(in alloc; "OK sync as of {through}\n")),
+        Reply::Listed { number, listing } => listing_text(alloc, *number, listing),
         Reply::Refused { refusal } => bytes_of(format!(in alloc; "ERROR {refusal}\n")),
         Reply::LogFull { end } => bytes_of(format!(in alloc; "ERROR log full at {end}\n")),
         Reply::Syntax { at } => bytes_of(format!(in alloc; "ERROR syntax at {at}\n")),

@@ -267,6 +267,7 @@ sample_is (Keyword word.Into) = refl
 sample_is (Keyword word.Match) = refl
 sample_is (Keyword word.Mode) = refl
 sample_is (Keyword word.Select) = refl
+sample_is (Keyword word.Sync) = refl
 sample_is (Keyword word.Values) = refl
 sample_is (Keyword word.Where) = refl
 sample_is (Mark b) = same_byte b

@@ -6,7 +6,7 @@ use Rattle.fts_sql.specs.Token.{Token, name, number, string, mark}
 use Rattle.fts_sql.specs.declared.piece.Piece.{Piece}
 use Rattle.fts_sql.specs.declared.value.Value.TheVariants.{Number, Text}
 use Rattle.fts_sql.specs.declared.statement.Statement.{Statement}
-use Rattle.fts_sql.specs.declared.statement.Statement.TheVariants.{Insert, Match}
+use Rattle.fts_sql.specs.declared.statement.Statement.TheVariants.{Insert, Match, Sync, List as ListView}
 use Rattle.fts_sql.specs.declared.form.Form.{Form}
 use Rattle.fts_sql.specs.declared.form.Form.TheVariants as form
 use Rattle.fts_sql.specs.Table.{taken_by, Says}
@@ -155,6 +155,8 @@ open_row = writes_none insert_front none
     none : (one : Form) → takes (after (start one) insert_front []) ≡ None
     none form.Insert = refl
     none form.Match = refl
+    none form.Sync = refl
+    none form.List = refl
 
 open_front : Viable insert_front
 open_front = begins form.Insert insert_front refl
@@ -166,6 +168,8 @@ no_column = begins_none (name (codes "insert") ∷ name (codes "into") ∷ name 
     none : (one : Form) → is_front (after (start one) (name (codes "insert") ∷ name (codes "into") ∷ name (codes "t") ∷ mark 40 ∷ mark 41 ∷ []) []) ≡ false
     none form.Insert = refl
     none form.Match = refl
+    none form.Sync = refl
+    none form.List = refl
 
 -- SELECT FTS_DOC_ID FROM t WHERE MATCH (a) AGAINST ('q' IN BOOLEAN MODE)
 
@@ -187,3 +191,43 @@ match_open = writes_none match_front none
     none : (one : Form) → takes (after (start one) match_front []) ≡ None
     none form.Insert = refl
     none form.Match = refl
+    none form.Sync = refl
+    none form.List = refl
+
+-- SYNC
+
+sync_row : Writes Sync (name (codes "sync") ∷ [])
+sync_row = (form.Sync, _, says form.Sync (name (codes "sync") ∷ []) _ refl, refl)
+
+sync_closed : Writes Sync (name (codes "SYNC") ∷ mark 59 ∷ [])
+sync_closed = (form.Sync, _, says form.Sync (name (codes "SYNC") ∷ mark 59 ∷ []) _ refl, refl)
+
+-- SELECT * FROM s.v
+
+abbrev list_front : List Token
+list_front = name (codes "SELECT") ∷ mark 42 ∷ name (codes "from") ∷ name (codes "s") ∷ mark 46 ∷ []
+
+list_row : Writes (ListView (codes "s") (codes "V")) (list_front ++ name (codes "V") ∷ [])
+list_row = (form.List, _, says form.List (list_front ++ name (codes "V") ∷ []) _ refl, refl)
+
+list_closed : Writes (ListView (codes "s") (codes "V")) (list_front ++ name (codes "V") ∷ mark 59 ∷ [])
+list_closed = (form.List, _, says form.List (list_front ++ name (codes "V") ∷ mark 59 ∷ []) _ refl, refl)
+
+list_open : (statement : Statement) → Writes statement list_front → ⊥
+list_open = writes_none list_front none
+  where
+    none : (one : Form) → takes (after (start one) list_front []) ≡ None
+    none form.Insert = refl
+    none form.Match = refl
+    none form.Sync = refl
+    none form.List = refl
+
+-- SELECT * FTS_DOC_ID ..
+no_column_behind : Viable (name (codes "select") ∷ mark 42 ∷ name (codes "fts_doc_id") ∷ []) → ⊥
+no_column_behind = begins_none (name (codes "select") ∷ mark 42 ∷ name (codes "fts_doc_id") ∷ []) none
+  where
+    none : (one : Form) → is_front (after (start one) (name (codes "select") ∷ mark 42 ∷ name (codes "fts_doc_id") ∷ []) []) ≡ false
+    none form.Insert = refl
+    none form.Match = refl
+    none form.Sync = refl
+    none form.List = refl

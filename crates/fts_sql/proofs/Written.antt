@@ -19,22 +19,40 @@ use Rattle.fts_sql.proofs.Tables.{one_taken, no_tokens, spot_completes, are_part
 abbrev place_of : Form → ℕ
 place_of form.Insert = 0
 place_of form.Match = 1
+place_of form.Sync = 2
+place_of form.List = 3
 
 pub is_listed : (one : Form) (d : Form) → (place_of one < length FORMS) × (get_or FORMS (place_of one) d ≡ one)
 is_listed form.Insert d = (omega arith, refl)
 is_listed form.Match d = (omega arith, refl)
+is_listed form.Sync d = (omega arith, refl)
+is_listed form.List d = (omega arith, refl)
 
 -- each table can be read from the left
 pub tables_are : (one : Form) → is_table (table_of one) ≡ true
 tables_are form.Insert = refl
 tables_are form.Match = refl
+tables_are form.Sync = refl
+tables_are form.List = refl
 
 -- two of them part
 one_or_parted : (one other : Form) → (one ≡ other) ⊎ (are_parted (table_of one) (table_of other) ≡ true)
 one_or_parted form.Insert form.Insert = inl refl
 one_or_parted form.Insert form.Match = inr refl
+one_or_parted form.Insert form.Sync = inr refl
+one_or_parted form.Insert form.List = inr refl
 one_or_parted form.Match form.Insert = inr refl
 one_or_parted form.Match form.Match = inl refl
+one_or_parted form.Match form.Sync = inr refl
+one_or_parted form.Match form.List = inr refl
+one_or_parted form.Sync form.Insert = inr refl
+one_or_parted form.Sync form.Match = inr refl
+one_or_parted form.Sync form.Sync = inl refl
+one_or_parted form.Sync form.List = inr refl
+one_or_parted form.List form.Insert = inr refl
+one_or_parted form.List form.Match = inr refl
+one_or_parted form.List form.Sync = inr refl
+one_or_parted form.List form.List = inl refl
 
 one_form : (tokens : List Token) (one other : Form) (a b : List Token) → Says (table_of one) a tokens [] → Says (table_of other) b tokens [] → one ≡ other
 one_form tokens one other a b h k =
@@ -79,6 +97,8 @@ viable_nothing =
 pub none_written : (statement : Statement) → Writes statement [] → ⊥
 none_written statement (form.Insert, all, (t, more, e, is, says), same) = no_tokens t more (sym e)
 none_written statement (form.Match, all, (t, more, e, is, says), same) = no_tokens t more (sym e)
+none_written statement (form.Sync, all, (t, more, e, is, says), same) = no_tokens t more (sym e)
+none_written statement (form.List, all, (t, more, e, is, says), same) = no_tokens t more (sym e)
 
 take_take : (k m : ℕ) (tokens : List Token) → k ≤ m → take k (take m tokens) ≡ take k tokens
 take_take zero m tokens less = refl

@@ -2,10 +2,10 @@ use Rattle.std.specs.Prelude.{◌≡◌, ℕ, List, [], ◌∷◌, drop}
 use Rattle.fts_sql.specs.declared.value.Value.{Value}
 use Rattle.fts_sql.specs.declared.value.Value.TheVariants.{Number, Text}
 use Rattle.fts_sql.specs.declared.statement.Statement.{Statement}
-use Rattle.fts_sql.specs.declared.statement.Statement.TheVariants.{Insert, Match}
+use Rattle.fts_sql.specs.declared.statement.Statement.TheVariants.{Insert, Match, Sync, List as ListView}
 use Rattle.fts_sql.specs.declared.form.Form.{Form}
 use Rattle.fts_sql.specs.declared.form.Form.TheVariants as form
-use Rattle.fts_sql.specs.declared.form.TheConstants.{INSERT, MATCH}
+use Rattle.fts_sql.specs.declared.form.TheConstants.{INSERT, MATCH, SYNC, LIST}
 use Rattle.fts_sql.specs.declared.piece.Part.{Part}
 use Rattle.fts_sql.specs.Token.{Token, name, number, string, mark}
 use Rattle.fts_sql.specs.Line.{Placed, placed, whole, Reads}
@@ -44,11 +44,15 @@ first_string (mark b ∷ tokens) = first_string tokens
 abbrev pub table_of : Form → List Part
 table_of form.Insert = INSERT
 table_of form.Match = MATCH
+table_of form.Sync = SYNC
+table_of form.List = LIST
 
 -- the statement of a form that takes these tokens
 abbrev pub statement_of : Form → List Token → Statement
 statement_of form.Insert taken = Insert (first_name taken) (names_in (drop 1 taken)) (values_in taken)
 statement_of form.Match taken = Match (first_name taken) (names_in (drop 1 taken)) (first_string taken)
+statement_of form.Sync taken = Sync
+statement_of form.List taken = ListView (first_name taken) (first_name (drop 1 taken))
 
 -- the tokens write the statement
 abbrev pub Writes : Statement → List Token → Type 0

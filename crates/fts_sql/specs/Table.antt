@@ -20,6 +20,7 @@ letters word.Into = codes "into"
 letters word.Match = codes "match"
 letters word.Mode = codes "mode"
 letters word.Select = codes "select"
+letters word.Sync = codes "sync"
 letters word.Values = codes "values"
 letters word.Where = codes "where"
 

@@ -11,7 +11,14 @@ use memchr::memchr;
 use std::alloc::{AllocError, Global};
 
 /// The first of the tokens, if it is a name, as it is written; else nothing.
-pub fn first_name<'l>(tokens: &[Token<'l>]) -> &'l [u8]
+pub fn copy_first_name(alloc: Global, tokens: &[Token]) -> Result<Text, AllocError>
+    ensures { IfOk result (λ name. name ≡ taken.first_name (map token_of tokens.now)) }
+{
+    Ok(Text::new(first_name(tokens).to_vec(alloc)?))
+}
+
+// The same, not copied.
+fn first_name<'l>(tokens: &[Token<'l>]) -> &'l [u8]
     ensures { result.now ≡ taken.first_name (map token_of tokens.now) }
 {
     match tokens {

@@ -6,7 +6,9 @@ ghost use Rattle.fts_sql.specs.Reading.{token_of};
 ghost use Rattle.fts_sql.specs.Statement.{table_of, statement_of};
 ghost use Rattle.fts_sql.specs.Reader.{tokens_at, IsRead};
 
-use crate::copy::{behind_first, copy_names, copy_unquoted, copy_values, first_name, first_string};
+use crate::copy::{
+    behind_first, copy_first_name, copy_names, copy_unquoted, copy_values, first_string,
+};
 use crate::line::Placed;
 use crate::piece::Part::{self, Once, Optional, Repeated};
 use crate::piece::Piece::{Keyword, Mark, Name, String, Value};
@@ -14,7 +16,6 @@ use crate::reader::{Reached, read};
 use crate::statement::Statement;
 use crate::token::Token;
 use crate::word::Word;
-use fts_types::Text;
 use std::alloc::{AllocError, Global};
 
 /// A form of statement.
@@ -22,10 +23,12 @@ use std::alloc::{AllocError, Global};
 pub enum Form {
     Insert,
     Match,
+    Sync,
+    List,
 }
 
 /// The forms that there are.
-pub const FORMS: [Form; 2] = [Form::Insert, Form::Match];
+pub const FORMS: [Form; 4] = [Form::Insert, Form::Match, Form::Sync, Form::List];
 
 /// `INSERT INTO table (column, ..) VALUES (value, ..)`
 pub const INSERT: [Part; 13] = [
@@ -66,6 +69,20 @@ pub const MATCH: [Part; 18] = [
     Optional(Mark(b';')),
 ];
 
+/// `SYNC`
+pub const SYNC: [Part; 2] = [Once(Keyword(Word::Sync)), Optional(Mark(b';'))];
+
+/// `SELECT * FROM schema.view`
+pub const LIST: [Part; 7] = [
+    Once(Keyword(Word::Select)),
+    Once(Mark(b'*')),
+    Once(Keyword(Word::From)),
+    Once(Name),
+    Once(Mark(b'.')),
+    Once(Name),
+    Optional(Mark(b';')),
+];
+
 impl Form {
     /// How far the tokens are those of the form.
     pub fn read<'l>(self, alloc: Global, tokens: &[Placed<'l>]) -> Result<Reached<'l>, AllocError>
@@ -75,6 +92,8 @@ impl Form {
         match self {
             Form::Insert => read(alloc, &INSERT, tokens),
             Form::Match => read(alloc, &MATCH, tokens),
+            Form::Sync => read(alloc, &SYNC, tokens),
+            Form::List => read(alloc, &LIST, tokens),
         }
     }
 
@@ -83,18 +102,21 @@ impl Form {
         ensures { IfOk result
             (λ statement. statement ≡ statement_of self (map token_of taken.now)) }
     {
-        let table = Text::new(first_name(taken).to_vec(alloc)?);
-        let columns = copy_names(alloc, behind_first(taken))?;
         match self {
             Form::Insert => Ok(Statement::Insert {
-                table,
-                columns,
+                table: copy_first_name(alloc, taken)?,
+                columns: copy_names(alloc, behind_first(taken))?,
                 values: copy_values(alloc, taken)?,
             }),
             Form::Match => Ok(Statement::Match {
-                table,
-                columns,
+                table: copy_first_name(alloc, taken)?,
+                columns: copy_names(alloc, behind_first(taken))?,
                 query: copy_unquoted(alloc, first_string(taken))?,
+            }),
+            Form::Sync => Ok(Statement::Sync),
+            Form::List => Ok(Statement::List {
+                schema: copy_first_name(alloc, taken)?,
+                view: copy_first_name(alloc, behind_first(taken))?,
             }),
         }
     }

@@ -21,6 +21,13 @@ pub enum Statement {
         columns: Names,
         query: Text,
     },
+    /// `SYNC`
+    Sync,
+    /// `SELECT * FROM schema.view`
+    List {
+        schema: Text,
+        view: Text,
+    },
 }
 
 /// Why there is no statement.

@@ -15,6 +15,7 @@ pub enum Word {
     Match,
     Mode,
     Select,
+    Sync,
     Values,
     Where,
 }
@@ -42,6 +43,7 @@ impl Word {
             Word::Match => b"match",
             Word::Mode => b"mode",
             Word::Select => b"select",
+            Word::Sync => b"sync",
             Word::Values => b"values",
             Word::Where => b"where",
         }

@@ -17,7 +17,8 @@ use Rattle.fts_steps.specs.State.{State, end_after}
 use Rattle.fts_listing.specs.declared.kind.ListingKind.{ListingKind}
 use Rattle.fts_listing.specs.declared.listing.Listing.{Listing}
 use Rattle.fts_listing.specs.Listing.{IsListed}
-use Rattle.fts_steps.specs.Running.{Running, What, made, batched, failed, Entry, grown, turns_of, next_flushed, cache_size}
+use Rattle.fts_steps.specs.Running.{Running, What, made, batched, failed, Entry, grown, turns_of, next_flushed}
+use Rattle.fts_steps.specs.Running.{cache_size}
 use Rattle.fts_steps.specs.Crash.{IsBetween, HoldsIndex}
 
 -- what a step is asked: to make a commit; to make a batch of the index; to tell what the rows have for leaves; to find
@@ -31,7 +32,8 @@ pub data Ask : Type 0 where
   to_measure : Ask
 
 -- what it answers. A batch tells through which commit the index is flushed now, and how many commits there are; where
--- all are flushed, it tells how many there are. A disk fault tells the sum of the counts of faults, and so does each refusal that follows from it
+-- all are flushed, it tells how many there are. A disk fault tells the sum of the counts of faults, and so does each
+-- refusal that follows from it
 pub data Answer : Type 0 where
   committed : ℕ → Answer
   refused : Refusal → Answer

@@ -25,6 +25,7 @@ fn numbers_are_told(rt: HostRuntime) -> Result<(), Fail> {
     let alloc = rt.alloc();
     for (reply, wanted) in [
         (Reply::Committed { number: 1 }, "OK commit 1\n"),
+        (Reply::Synced { through: 7 }, "OK sync as of 7\n"),
         (Reply::LogFull { end: 4096 }, "ERROR log full at 4096\n"),
         (Reply::Syntax { at: 1 }, "ERROR syntax at 1\n"),
         (Reply::QuerySyntax { at: 1 }, "ERROR query syntax at 1\n"),
@@ -112,6 +113,14 @@ fn a_name_is_told_as_it_is_written(rt: HostRuntime) -> Result<(), Fail> {
         Reply::NoSuchColumn { name },
         "ERROR no such column nope\n",
     )
+}
+
+#[test]
+fn a_listing_is_told(rt: HostRuntime) -> Result<(), Fail> {
+    let listing = Listing::Stopwords;
+    let reply = reply_text(rt.alloc(), &Reply::Listed { number: 3, listing })?;
+    assert!(rt; reply.as_slice().ends_with(b"www\nOK 36 rows as of 3\n"));
+    Ok(())
 }
 
 #[test]

@@ -64,6 +64,39 @@ fn fronts_of_a_match(rt: HostRuntime) {
     }
 }
 
+const LIST: &str = "SELECT * FROM INFORMATION_SCHEMA.INNODB_FT_CONFIG;";
+
+/// The answer to each front of `LIST`, by its length.
+const LIST_PLACES: [u64; 51] = [
+    NONE, 1, 1, 1, 1, 1, 7, 8, 9, 10, 10, 10, 10, 14, 15, 16, 17, 18, 19, 20, 21, 22, 23, 24, 25,
+    26, 27, 28, 29, 30, 31, 32, 33, 34, 0, 0, 0, 0, 0, 0, 0, 0, 0, 0, 0, 0, 0, 0, 0, 0, 0,
+];
+
+#[test]
+fn fronts_of_a_listing(rt: HostRuntime) {
+    for (length, wanted) in LIST_PLACES.iter().enumerate() {
+        assert_eq!(rt;
+            place(rt.alloc(), front(LIST, length)),
+            *wanted,
+            "at {length}"
+        );
+    }
+}
+
+/// The answer to each front of `SYNC ;`, by its length.
+const SYNC_PLACES: [u64; 7] = [NONE, 1, 1, 1, 0, 0, 0];
+
+#[test]
+fn fronts_of_a_sync(rt: HostRuntime) {
+    for (length, wanted) in SYNC_PLACES.iter().enumerate() {
+        assert_eq!(rt;
+            place(rt.alloc(), front("SYNC ;", length)),
+            *wanted,
+            "at {length}"
+        );
+    }
+}
+
 const TAKEN: [&str; 8] = [
     "insert into DOCS (ID, Body) values (1, 'it''s'); ",
     "INSERT INTO docs (id) VALUES (1)",
@@ -82,6 +115,42 @@ fn statements_are_taken(rt: HostRuntime) {
     }
 }
 
+const TAKEN_OF_THE_INDEX: [&str; 6] = [
+    "select*from a . b",
+    "SELECT * FROM information_schema.innodb_ft_config",
+    "Select\t*\tFrom from.select ; ",
+    " sync\r",
+    "Sync;",
+    "SYNC\t;\t",
+];
+
+#[test]
+fn statements_of_the_index_are_taken(rt: HostRuntime) {
+    for line in TAKEN_OF_THE_INDEX {
+        assert_eq!(rt; place(rt.alloc(), line.as_bytes()), 0, "in {line}");
+    }
+}
+
+/// Lines that are nearly one, and the place of the fault.
+const NEARLY: [(&str, u64); 9] = [
+    ("SELECT * FROM docs", 19),
+    ("SELECT * FROM a.", 17),
+    ("SELECT * FROM a b", 17),
+    ("SELECT * FROM a.b.c", 18),
+    ("SELECT * FROM a.'b'", 17),
+    ("SELECT * FTS_DOC_ID", 10),
+    ("SELECT FTS_DOC_ID FROM a.b", 25),
+    ("SYNC docs", 6),
+    ("SYNC;;", 6),
+];
+
+#[test]
+fn statements_of_the_index_have_faults(rt: HostRuntime) {
+    for (line, wanted) in NEARLY {
+        assert_eq!(rt; place(rt.alloc(), line.as_bytes()), wanted, "in {line}");
+    }
+}
+
 const BLANK: [&str; 7] = ["", " ", " \t\r", "-- note", "  --", "\t\r-- INSERT", "---"];
 
 #[test]
@@ -96,7 +165,7 @@ const MISPLACED: [(&str, u64); 16] = [
     ("SELEC", 1),
     ("DELETE FROM docs WHERE id = 1", 1),
     ("BEGIN", 1),
-    ("SELECT * FROM docs", 8),
+    ("SELECT id FROM docs", 8),
     ("7: INSERT INTO docs (id) VALUES (1)", 1),
     (";", 1),
     ("INSERTINTO docs (id) VALUES (1)", 1),
@@ -197,6 +266,18 @@ fn a_match_has_its_parts(rt: HostRuntime) -> Result<(), Fail> {
             && columns.text(1) == b"b".as_slice()
     );
     assert_eq!(rt; query.as_slice(), b"+pie".as_slice());
+    Ok(())
+}
+
+#[test]
+fn a_listing_has_its_parts(rt: HostRuntime) -> Result<(), Fail> {
+    let Some(Statement::List { schema, view }) = parse_statement(rt.alloc(), b"select*from A . b")?
+    else {
+        assert!(rt; false);
+        return Ok(());
+    };
+    assert_eq!(rt; schema.as_slice(), b"A".as_slice());
+    assert_eq!(rt; view.as_slice(), b"b".as_slice());
     Ok(())
 }
 

@@ -1,0 +1,57 @@
+-- Rows are written one list behind another.
+use Rattle.std.proofs.Common.{◌≡◌, ℕ, ◌+◌, List, [], ◌∷◌, ◌++◌, length, refl, sym, ap, ◌∙◌, arith}
+use Rattle.std.specs.Prelude.{Result, Ok, Err, OnOk}
+use Rattle.std.proofs.lemmas.List.{append_assoc, append-nil, length-append}
+use Rattle.fts_schema.specs.Listing.{lines}
+use Rattle.fts_schema.specs.Rows.{Puts}
+use Rattle.fts_schema.specs.declared.rows.Rows.{Rows}
+
+-- so far all rows but the rest were written behind those at the start
+pub record IsPutting (start now : Rows) (rest all : List (List ℕ)) : Type 0 where
+  pub text : now.text.items ++ lines rest ≡ start.text.items ++ lines all
+  pub count : now.count + length rest ≡ start.count + length all
+
+pub lines-append : (rows more : List (List ℕ)) → lines (rows ++ more) ≡ lines rows ++ lines more
+lines-append [] more = refl
+lines-append (row ∷ rows) more =
+    ap (λ (text : List ℕ). (row ++ 10 ∷ []) ++ text) (lines-append rows more) ∙ sym (append_assoc (row ++ 10 ∷ []) (lines rows) (lines more))
+
+-- it begins with all of them
+pub begins : (start : Rows) (all : List (List ℕ)) → IsPutting start start all all
+begins start all = record { text = refl; count = refl }
+
+-- some more are written
+pub goes_on : (start now next : Rows) (piece rest all : List (List ℕ)) → IsPutting start now (piece ++ rest) all → Puts now next piece → IsPutting start next rest all
+goes_on start now next piece rest all is puts = record {
+  text = ap (λ (text : List ℕ). text ++ lines rest) puts.text ∙ append_assoc now.text.items (lines piece) (lines rest)
+      ∙ ap (λ (text : List ℕ). now.text.items ++ text) (sym (lines-append piece rest)) ∙ is.text;
+  count = let all_of = length-append piece rest in omega (arith, puts.count, is.count, all_of);
+}
+
+-- and ends with none
+pub ends : (start now : Rows) (all : List (List ℕ)) → IsPutting start now [] all → Puts start now all
+ends start now all is = record {
+  text = sym (append-nil now.text.items) ∙ is.text;
+  count = let count = is.count in omega (arith, count);
+}
+
+-- five pieces, one behind another
+pub five : (a b c d e before at1 at2 at3 at4 after : List ℕ) → at1 ≡ before ++ a → at2 ≡ at1 ++ b → at3 ≡ at2 ++ c → at4 ≡ at3 ++ d → after ≡ at4 ++ e
+    → after ≡ before ++ (a ++ (b ++ (c ++ (d ++ e))))
+five a b c d e before at1 at2 at3 at4 after is1 is2 is3 is4 is5 =
+    is5 ∙ ap (λ (t : List ℕ). t ++ e) is4 ∙ append_assoc at3 d e ∙ ap (λ (t : List ℕ). t ++ (d ++ e)) is3 ∙ append_assoc at2 c (d ++ e)
+    ∙ ap (λ (t : List ℕ). t ++ (c ++ (d ++ e))) is2 ∙ append_assoc at1 b (c ++ (d ++ e)) ∙ ap (λ (t : List ℕ). t ++ (b ++ (c ++ (d ++ e)))) is1
+    ∙ append_assoc before a (b ++ (c ++ (d ++ e)))
+
+-- rows are written, and then more
+pub puts_both : (old mid new : Rows) (rows more : List (List ℕ)) → Puts old mid rows → Puts mid new more → Puts old new (rows ++ more)
+puts_both old mid new rows more first later = record {
+  text = later.text ∙ ap (λ (text : List ℕ). text ++ lines more) first.text ∙ append_assoc old.text.items (lines rows) (lines more)
+      ∙ ap (λ (text : List ℕ). old.text.items ++ text) (sym (lines-append rows more));
+  count = let all_of = length-append rows more in omega (arith, first.count, later.count, all_of);
+}
+
+-- what follows from what a success tells
+pub ok_so : {T E : Type 0} → (result : Result T E) (P Q : Type 0) → (P → Q) → OnOk result P → OnOk result Q
+ok_so (Ok value) P Q so is = so is
+ok_so (Err error) P Q so is = tt
