@@ -16,7 +16,7 @@ use Rattle.fts_words.specs.Indexed.{Rules, column_text, column_offset, word_of, 
 use Rattle.fts_words.proofs.RunLemmas.{AllPairs-head, AllPairs-tail}
 use Rattle.fts_words.proofs.WordLemmas.{raw_words_within}
 use Rattle.fts_words.proofs.PlacedLemmas.{column_offset_next, indexed_words_each, indexed_words_ascend}
-use Rattle.fts_index.specs.declared.occurrence.Occurrence.{Occurrence}
+use Rattle.fts_index.specs.declared.keyed.Occurrence.{Occurrence}
 use Rattle.fts_entries.specs.Words.{positions_of}
 use Rattle.fts_index.specs.Occurrences.{Spot, spot_of, spot_in, AreListed, stands_before, positions_among, AreSorted}
 use Rattle.fts_index.proofs.Sorting.{by_words, same_positions}

@@ -3,6 +3,7 @@ mod Lowering
 mod RowWords
 mod Bounds
 mod Runs
+mod Keys
 pub mod Found
 pub mod Births
 pub mod Adding

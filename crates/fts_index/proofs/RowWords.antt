@@ -9,7 +9,7 @@ use Rattle.fts_words.specs.Indexed.{Rules, IsIndexedWord, column_text, indexed_w
 use Rattle.fts_words.proofs.WordLemmas.{raw_words_within}
 use Rattle.fts_words.proofs.PlacedLemmas.{indexed_words_each}
 use Rattle.fts_token.specs.Row.{LiesIn}
-use Rattle.fts_index.specs.declared.occurrence.Occurrence.{Occurrence}
+use Rattle.fts_index.specs.declared.keyed.Occurrence.{Occurrence}
 use Rattle.fts_index.specs.Occurrences.{Spot, spot_of, spot_at, spot_in}
 use Rattle.fts_index.proofs.Lowering.{lowered_spot, lowered_lies}
 

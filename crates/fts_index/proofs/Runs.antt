@@ -19,7 +19,7 @@ use Rattle.fts_ilist.specs.Spelling.{Posting, PositionsFrom}
 use Rattle.fts_cache.specs.Document.{Document, WordPositions, document_size, found_words, postings_from, IsBefore, EndsBefore, CanPush}
 use Rattle.fts_cache.proofs.Queues.{which_word, is_same}
 use Rattle.fts_cache.proofs.Documents.{size_push, found_here, found_later}
-use Rattle.fts_index.specs.declared.occurrence.Occurrence.{Occurrence}
+use Rattle.fts_index.specs.declared.keyed.Occurrence.{Occurrence}
 use Rattle.fts_entries.specs.Words.{posting_at, row_postings, row_size}
 use Rattle.fts_index.specs.Occurrences.{comes_before, is_of, positions_among, AreSorted}
 use Rattle.fts_index.proofs.Sorting.{ranks}

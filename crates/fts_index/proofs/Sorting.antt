@@ -11,7 +11,7 @@ use Rattle.std.proofs.lemmas.Map.Keys.{IsDistinct-IsPermutation}
 use Rattle.std.proofs.lemmas.Slice.Eq.{bytes_eq-Decides}
 use Rattle.fts_words.specs.Order.{byte_order}
 use Rattle.fts_words.proofs.RunLemmas.{AllPairs-head, AllPairs-tail}
-use Rattle.fts_index.specs.declared.occurrence.Occurrence.{Occurrence}
+use Rattle.fts_index.specs.declared.keyed.Occurrence.{Occurrence}
 use Rattle.fts_index.specs.Occurrences.{Spot, spot_of, comes_before, stands_before, is_of, positions_among}
 
 -- the order of words

@@ -1,3 +1,4 @@
+pub mod Key
 pub mod Occurrences
 pub mod Document
 pub mod Births

@@ -7,7 +7,7 @@ use Rattle.fts_words.specs.declared.placed.PlacedWord.{PlacedWord}
 use Rattle.fts_words.specs.Order.{byte_order}
 use Rattle.fts_words.specs.RawWords.{bytes_of}
 use Rattle.fts_words.specs.Indexed.{Rules, column_text, indexed_words, word_of}
-use Rattle.fts_index.specs.declared.occurrence.Occurrence.{Occurrence}
+use Rattle.fts_index.specs.declared.keyed.Occurrence.{Occurrence}
 use Rattle.fts_entries.specs.Words.{positions_of}
 
 -- a word, and where it starts in its row

@@ -5,7 +5,8 @@ ghost use Rattle.fts_types.specs.Rules.{rules_of};
 ghost use Rattle.fts_index.specs.Occurrences.{is_of};
 ghost use Rattle.fts_index.specs.Document.{HasWordsOf};
 
-use crate::occurrence::{Occurrence, lowered_texts, occurrences};
+use crate::keyed::Occurrence;
+use crate::occurrence::{lowered_texts, occurrences};
 use fts_cache::DocWords;
 use fts_types::{Row, Settings};
 use std::alloc::{AllocError, Global};

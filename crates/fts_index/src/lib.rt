@@ -12,6 +12,7 @@
 mod document;
 mod gather;
 mod index;
+mod keyed;
 mod listing;
 mod occurrence;
 mod pending;

@@ -7,18 +7,11 @@ ghost use Rattle.fts_types.specs.Rules.{rules_of};
 ghost use Rattle.fts_index.specs.Occurrences.{spot_of, spot_at, AreListed, stands_before};
 ghost use Rattle.fts_index.specs.Occurrences.{AreSorted};
 
+use crate::keyed::Occurrence;
 use fts_token::{indexed_words, lowered};
 use fts_types::{RowTexts, Settings};
 use fts_words::PlacedWord;
 use std::alloc::{AllocError, Global};
-
-/// An indexed word, and where it starts in its row. It borrows the word from the row's lowered
-/// texts.
-#[derive(Clone, Copy, Debug)]
-pub(crate) struct Occurrence<'a> {
-    pub word: &'a [u8],
-    pub position: u32,
-}
 
 /// The texts of a row with their letters lowered.
 pub(crate) fn lowered_texts(alloc: Global, texts: &RowTexts) -> Result<RowTexts, AllocError>
@@ -36,10 +29,7 @@ fn found_in<'a>(lower: &'a RowTexts, found: &PlacedWord) -> Occurrence<'a>
     requires { LiesIn lower.now found.now }
     ensures { spot_of result ≡ spot_at lower.now found.now }
 {
-    Occurrence {
-        word: found.span.of(lower.text(found.column)),
-        position: found.position,
-    }
+    Occurrence::new(found.span.of(lower.text(found.column)), found.position)
 }
 
 /// The indexed words of a row, in their order.
@@ -66,7 +56,7 @@ fn sort(all: &mut [Occurrence<'_>])
     ensures same { IsPermutation all.old all.new }
     ensures sorted { IsSortedBy stands_before all.new }
 {
-    all.sort_unstable_by(|a, b| a.word.cmp(&b.word).then(a.position.cmp(&b.position)));
+    all.sort_unstable_by(|a, b| a.compare(b));
 }
 
 /// The indexed words of a row by the order of their bytes, the same word by its positions.

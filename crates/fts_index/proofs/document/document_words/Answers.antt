@@ -2,7 +2,7 @@ use Rattle.std.proofs.Common.{ℕ, List, map, refl, ap, subst, sym, ◌∙◌}
 use Rattle.fts_types.specs.Rules.{rules_of}
 use Rattle.fts_types.specs.Row.{row_of}
 use Rattle.fts_index.specs.Occurrences.{AreSorted}
-use Rattle.fts_index.specs.declared.occurrence.Occurrence.{Occurrence}
+use Rattle.fts_index.specs.declared.keyed.Occurrence.{Occurrence}
 use Rattle.fts_index.proofs.Runs.{building_begins, turn}
 use Rattle.fts_index.proofs.document.document_words.Goals as goal
 

@@ -2,7 +2,7 @@ use Rattle.std.proofs.Common.{◌≡◌, ◌∙◌, List, length, drop, sym, sub
 use Rattle.std.proofs.lemmas.List.{take-append-le, take_all}
 use Rattle.std.proofs.lemmas.List.Sorted.{length_permutation}
 use Rattle.fts_types.specs.Rules.{rules_of}
-use Rattle.fts_index.specs.declared.occurrence.Occurrence.{Occurrence}
+use Rattle.fts_index.specs.declared.keyed.Occurrence.{Occurrence}
 use Rattle.fts_index.specs.Occurrences.{AreSorted}
 use Rattle.fts_index.proofs.Bounds.{listed_sorted}
 use Rattle.fts_index.proofs.occurrence.occurrences.Goals as goal
