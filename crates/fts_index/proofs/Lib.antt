@@ -13,3 +13,4 @@ pub mod Syncing
 pub mod Walks
 pub mod Listings
 pub mod Sizes
+pub mod Made
