@@ -3,3 +3,5 @@ pub mod Document
 pub mod Births
 pub mod Index
 pub mod Gathered
+pub mod Parts
+pub mod Made
