@@ -12,12 +12,14 @@ use Rattle.fts_sql.specs.Line.{IsBlank}
 use Rattle.fts_sql.specs.Statement.{IsStatement}
 use Rattle.fts_sql.specs.Fault.{IsFaultAt}
 use Rattle.fts_sql.specs.declared.statement.Statement.TheVariants.{Match}
-use Rattle.fts_steps.specs.Step.{Ask, Answer, committed, refused, full, viewed, found, disk_fault, stopped, no_memory, is_disk_fault, Sight}
+use Rattle.fts_listing.specs.declared.kind.ListingKind.{ListingKind}
+use Rattle.fts_steps.specs.Step.{Ask, Answer, committed, refused, full, flushed, all_flushed, viewed, found, listed, measured, disk_fault, stopped, no_memory, is_disk_fault, Sight}
 use Rattle.fts_sessions.specs.Query.{Search, looks_for, too_long, syntax_at, too_deep_at}
-use Rattle.fts_sessions.specs.Request.{Request, IsRequest, inserts, searches, blank, unknown, unread}
+use Rattle.fts_sessions.specs.Request.{Request, IsRequest, inserts, searches, syncs, lists, blank, unknown, unread}
 use Rattle.fts_sessions.specs.Table.{are_names, first_unknown, change_of}
-use Rattle.fts_sessions.specs.Conversation.{Next, asks, ends, search_begins, unknown_column, unknown_name, insert_begins, if_all_named, unless_unknown, begins, reply_to}
-use Rattle.fts_sessions.specs.Execute.{Says, Executes, Makes, Does, Searches}
+use Rattle.fts_sessions.specs.View.{view_of_schema}
+use Rattle.fts_sessions.specs.Conversation.{Next, asks, ends, search_begins, unknown_column, unknown_name, insert_begins, list_begins, if_all_named, unless_unknown, begins, next, reply_to}
+use Rattle.fts_sessions.specs.Execute.{Says, Executes, GoesOn, Makes, Does, Searches}
 
 -- a request that ends without a step tells no fault
 searched_calm : (search : Search) → search_begins search ≡ ends DiskFault → ⊥
@@ -43,12 +45,18 @@ named_calm : (here : Bool) (columns : List (List ℕ)) (table : List ℕ) (names
 named_calm true columns table names follows more at_docs is = column_calm (first_unknown columns names) follows more (rw at_docs at is)
 named_calm false columns table names follows more at_docs is = (let no = (rw at_docs at is) in cc)
 
+list_calm : (schema view : List ℕ) (which : Option ListingKind) → list_begins schema view which ≡ ends DiskFault → ⊥
+list_calm schema view None is = cc
+list_calm schema view (Some which) is = cc
+
 calm : (settings : Settings) (request : Request) → begins settings request ≡ ends DiskFault → ⊥
 calm settings (inserts table names values) is =
     named_calm _ settings.columns table names (insert_begins (change_of settings.columns names values)) (insert_calm (change_of settings.columns names values)) refl is
 calm settings (searches table names search) is =
     let named = are_names settings.columns names in
     named_calm _ settings.columns table names (if_all_named named (search_begins search)) (named_all_calm named (search_begins search) (searched_calm search)) refl is
+calm settings syncs is = cc
+calm settings (lists schema view) is = list_calm schema view (view_of_schema schema view) is
 calm settings blank is = cc
 calm settings (unknown place) is = cc
 calm settings unread is = cc
@@ -58,8 +66,12 @@ fault_answered : (answer : Answer) → reply_to answer ≡ DiskFault → is_disk
 fault_answered (committed number) is = absurd cc
 fault_answered (refused why) is = absurd cc
 fault_answered (full end_) is = absurd cc
+fault_answered (flushed through commits) is = absurd cc
+fault_answered (all_flushed commits) is = absurd cc
 fault_answered (viewed view) is = absurd cc
 fault_answered (found number docs) is = absurd cc
+fault_answered (listed number listing) is = absurd cc
+fault_answered (measured size) is = absurd cc
 fault_answered (disk_fault faults) is = refl
 fault_answered (stopped faults) is = absurd cc
 fault_answered no_memory is = absurd cc
@@ -68,13 +80,17 @@ fault_told : (answer : Answer) → is_disk_fault answer ≡ true → reply_to an
 fault_told (committed number) is = absurd cc
 fault_told (refused why) is = absurd cc
 fault_told (full end_) is = absurd cc
+fault_told (flushed through commits) is = absurd cc
+fault_told (all_flushed commits) is = absurd cc
 fault_told (viewed view) is = absurd cc
 fault_told (found number docs) is = absurd cc
+fault_told (listed number listing) is = absurd cc
+fault_told (measured size) is = absurd cc
 fault_told (disk_fault faults) is = refl
 fault_told (stopped faults) is = absurd cc
 fault_told no_memory is = absurd cc
 
-told_fault : (answer : Answer) (reply : Reply) (before after : ℕ) → reply_to answer ≡ reply → CountsFault (IsTrue (is_disk_fault answer)) before after
+pub told_fault : (answer : Answer) (reply : Reply) (before after : ℕ) → reply_to answer ≡ reply → CountsFault (IsTrue (is_disk_fault answer)) before after
     → CountsFault (reply ≡ DiskFault) before after
 told_fault answer reply before after told counts = record {
   rose = λ is. counts.rose (fault_answered answer (told ∙ is));
@@ -110,10 +126,27 @@ module _ {S : Type 0} (sight : Sight S) (line : List ℕ) where
   unknown_line here at is = no_step here here (Syntax at) (inl (unknown at, is, refl)) (λ is. cc) refl
 
   module _ (request : Request) (is : IsRequest (whole line) request) where
+    -- a request that went on from its beginning is its line
+    pub gone_on : (old new : S) (reply : Reply) → GoesOn sight (sight.settings old) request [] old reply new → Executes sight (whole line) old reply new
+    gone_on old new reply went = record {
+      calls = went.calls;
+      says = inl (request, is, went.says);
+      alone = went.alone;
+      follows = went.follows;
+      stands = went.stands;
+      crash = went.crash;
+      index = went.index;
+      settings = went.settings;
+      limits = went.limits;
+      faults = went.faults;
+    }
+
+  -- a request that tells the answer to its first step
+  module _ (request : Request) (is : IsRequest (whole line) request) (tells : (settings : Settings) (answer : Answer) → next settings request (answer ∷ []) ≡ ends (reply_to answer)) where
     one_step : (old new : S) (reply : Reply) (ask : Ask) → begins (sight.settings old) request ≡ asks ask → Makes sight ask old reply new → Executes sight (whole line) old reply new
     one_step old new reply ask e made = record {
       calls = record { more = made.made.more; ask = ask; answer = made.answer } ∷ [];
-      says = inl (request, is, (e, ap ends made.told));
+      says = inl (request, is, (e, tells (sight.settings old) made.answer ∙ ap ends made.told));
       alone = λ single. (made.made.alone single, tt);
       follows = λ running stands. (made.made.may running stands, tt);
       stands = λ running stands. made.made.stands running stands;
@@ -138,5 +171,5 @@ module _ {S : Type 0} (sight : Sight S) (line : List ℕ) where
   -- and so of a search
   pub searched : (table : List ℕ) (names : List (List ℕ)) (query : List ℕ) → IsStatement line (Match table names query) → (old new : S) (reply : Reply)
       → Searches sight table names query old reply new → Executes sight (whole line) old reply new
-  searched table names query is old new reply (inl (search, of_text, does)) = done (searches table names search) (query, is, of_text) old new reply does
+  searched table names query is old new reply (inl (search, of_text, does)) = done (searches table names search) (query, is, of_text) (λ settings answer. refl) old new reply does
   searched table names query is old new reply (inr gave) = gives_up old new reply gave.0 gave.1

@@ -1,5 +1,6 @@
 pub mod Naming
 pub mod Executing
+pub mod Flushing
 pub mod Values
 pub mod OneSearch
 pub mod Searching

@@ -1,21 +1,26 @@
-use Rattle.std.proofs.Common.{◌≡◌, ℕ, List, [], ◌∷◌, ◌++◌, refl, ap, subst, sym, ◌∙◌}
+use Rattle.std.proofs.Common.{◌≡◌, ◌⊎◌, ℕ, List, [], ◌∷◌, ◌++◌, refl, ap, subst, sym, ◌∙◌, inl, inr, ⊎_elim}
 use Rattle.fts_types.specs.declared.limits.Limits.{Limits}
 use Rattle.fts_types.specs.declared.settings.Settings.{Settings}
 use Rattle.fts_io.specs.Text.{Line, whole, too_long}
 use Rattle.fts_schema.specs.declared.reply.Reply.{Reply}
+use Rattle.fts_schema.specs.declared.reply.Reply.TheVariants.{NoMemory, DiskFault}
 use Rattle.fts_sql.specs.Statement.{IsStatement}
 use Rattle.fts_sql.specs.declared.value.Value.{Value}
-use Rattle.fts_sql.specs.declared.statement.Statement.TheVariants.{Insert, Match}
+use Rattle.fts_sql.specs.declared.statement.Statement.{Statement}
+use Rattle.fts_sql.specs.declared.statement.Statement.TheVariants.{Insert, Match, Sync, List as ListView}
 use Rattle.fts_sql.proofs.Laws.{one_statement}
 use Rattle.fts_sql.proofs.Single.{one_fault, statement_or_fault, blank_or_statement}
-use Rattle.fts_steps.specs.Running.{Running, Entry, grown}
-use Rattle.fts_steps.specs.Step.{Ask, Answer, Call, MayAnswer, Follows, AreAlone, plain_answer}
-use Rattle.fts_steps.specs.Step.{committed, refused, full, viewed, found, disk_fault, stopped, no_memory}
+use Rattle.fts_listing.specs.declared.listing.Listing.{Listing}
+use Rattle.fts_listing.proofs.One.{listed_one}
+use Rattle.fts_steps.specs.Running.{Running, Entry, grown, turns_of}
+use Rattle.fts_steps.specs.Step.{Ask, to_commit, to_sync, to_view, to_find, to_list, to_measure, Answer, Call, MayAnswer, Lists, Follows, AreAlone, plain_answer, after_call}
+use Rattle.fts_steps.specs.Step.{committed, refused, full, flushed, all_flushed, viewed, found, listed, measured, disk_fault, stopped, no_memory}
 use Rattle.fts_sessions.specs.Query.{Search, IsSearch}
-use Rattle.fts_sessions.specs.Request.{Request, IsRequest, inserts, searches, blank, unknown, unread}
-use Rattle.fts_sessions.specs.Conversation.{Converses, reply_to, asks, ends}
+use Rattle.fts_sessions.specs.Request.{Request, IsRequest, inserts, searches, syncs, lists, blank, unknown, unread}
+use Rattle.fts_sessions.specs.Conversation.{Converses, reply_to, asks, ends, next, sync_next}
 use Rattle.fts_sessions.specs.Calm.{IsCalm}
 use Rattle.fts_sessions.proofs.OneSearch.{one_search}
+use Rattle.fts_sessions.proofs.Flushing.{last_behind}
 
 -- a search is one request, since its statement says its query, and this one search
 one_searched : (bytes table table' query query' : List ℕ) (names names' : List (List ℕ)) (search search' : Search) → IsStatement bytes (Match table names query)
@@ -38,55 +43,76 @@ one_inserted bytes table table' names names' values values' h k =
     let both : values ≡ values' = cc in
     ap (λ (t : List ℕ). inserts t names values) tables ∙ ap (λ (n : List (List ℕ)). inserts table' n values) all ∙ ap (inserts table' names') both
 
-insert_or_match : (bytes table table' query : List ℕ) (names names' : List (List ℕ)) (values : List Value) → IsStatement bytes (Insert table names values)
-    → IsStatement bytes (Match table' names' query) → ⊥
-insert_or_match bytes table table' query names names' values h k =
-    let same = one_statement bytes (Insert table names values) (Match table' names' query) h k in cc
+-- two statements that are not one
+apart : (bytes : List ℕ) (one other : Statement) → IsStatement bytes one → IsStatement bytes other → (one ≡ other → ⊥) → ⊥
+apart bytes one other h k differ = differ (one_statement bytes one other h k)
+
+-- a listing is one request
+one_listed : (bytes schema schema' view view' : List ℕ) → IsStatement bytes (ListView schema view) → IsStatement bytes (ListView schema' view') → lists schema view ≡ lists schema' view'
+one_listed bytes schema schema' view view' h k =
+    let same = one_statement bytes (ListView schema view) (ListView schema' view') h k in
+    let schemas : schema ≡ schema' = cc in
+    let views : view ≡ view' = cc in
+    ap (λ (name : List ℕ). lists name view) schemas ∙ ap (lists schema') views
 
 -- a line is one request
 pub one_request : (line : Line) (r s : Request) → IsRequest line r → IsRequest line s → r ≡ s
 one_request (whole bytes) (inserts t n v) (inserts t' n' v') h k = one_inserted bytes t t' n n' v v' h k
-one_request (whole bytes) (inserts t n v) (searches t' n' s) h k = absurd (insert_or_match bytes t t' k.0 n n' v h k.1)
+one_request (whole bytes) (inserts t n v) (searches t' n' s') h k = absurd (apart bytes (Insert t n v) (Match t' n' k.0) h k.1 (λ same. cc))
+one_request (whole bytes) (inserts t n v) syncs h k = absurd (apart bytes (Insert t n v) Sync h k (λ same. cc))
+one_request (whole bytes) (inserts t n v) (lists a' b') h k = absurd (apart bytes (Insert t n v) (ListView a' b') h k (λ same. cc))
 one_request (whole bytes) (inserts t n v) blank h k = absurd (blank_or_statement bytes (Insert t n v) k h)
-one_request (whole bytes) (inserts t n v) (unknown place) h k = absurd (statement_or_fault bytes (Insert t n v) place h k)
-one_request (whole bytes) (searches t n s) (inserts t' n' v) h k = absurd (insert_or_match bytes t' t h.0 n' n v k h.1)
+one_request (whole bytes) (inserts t n v) (unknown here) h k = absurd (statement_or_fault bytes (Insert t n v) here h k)
+one_request (whole bytes) (searches t n s) (inserts t' n' v') h k = absurd (apart bytes (Match t n h.0) (Insert t' n' v') h.1 k (λ same. cc))
 one_request (whole bytes) (searches t n s) (searches t' n' s') h k = one_searched bytes t t' h.0 k.0 n n' s s' h.1 k.1 h.2 k.2
+one_request (whole bytes) (searches t n s) syncs h k = absurd (apart bytes (Match t n h.0) Sync h.1 k (λ same. cc))
+one_request (whole bytes) (searches t n s) (lists a' b') h k = absurd (apart bytes (Match t n h.0) (ListView a' b') h.1 k (λ same. cc))
 one_request (whole bytes) (searches t n s) blank h k = absurd (blank_or_statement bytes (Match t n h.0) k h.1)
-one_request (whole bytes) (searches t n s) (unknown place) h k = absurd (statement_or_fault bytes (Match t n h.0) place h.1 k)
-one_request (whole bytes) blank (inserts t n v) h k = absurd (blank_or_statement bytes (Insert t n v) h k)
-one_request (whole bytes) blank (searches t n s) h k = absurd (blank_or_statement bytes (Match t n k.0) h k.1)
+one_request (whole bytes) (searches t n s) (unknown here) h k = absurd (statement_or_fault bytes (Match t n h.0) here h.1 k)
+one_request (whole bytes) syncs (inserts t' n' v') h k = absurd (apart bytes Sync (Insert t' n' v') h k (λ same. cc))
+one_request (whole bytes) syncs (searches t' n' s') h k = absurd (apart bytes Sync (Match t' n' k.0) h k.1 (λ same. cc))
+one_request (whole bytes) syncs syncs h k = refl
+one_request (whole bytes) syncs (lists a' b') h k = absurd (apart bytes Sync (ListView a' b') h k (λ same. cc))
+one_request (whole bytes) syncs blank h k = absurd (blank_or_statement bytes Sync k h)
+one_request (whole bytes) syncs (unknown here) h k = absurd (statement_or_fault bytes Sync here h k)
+one_request (whole bytes) (lists a b) (inserts t' n' v') h k = absurd (apart bytes (ListView a b) (Insert t' n' v') h k (λ same. cc))
+one_request (whole bytes) (lists a b) (searches t' n' s') h k = absurd (apart bytes (ListView a b) (Match t' n' k.0) h k.1 (λ same. cc))
+one_request (whole bytes) (lists a b) syncs h k = absurd (apart bytes (ListView a b) Sync h k (λ same. cc))
+one_request (whole bytes) (lists a b) (lists a' b') h k = one_listed bytes a a' b b' h k
+one_request (whole bytes) (lists a b) blank h k = absurd (blank_or_statement bytes (ListView a b) k h)
+one_request (whole bytes) (lists a b) (unknown here) h k = absurd (statement_or_fault bytes (ListView a b) here h k)
+one_request (whole bytes) blank (inserts t' n' v') h k = absurd (blank_or_statement bytes (Insert t' n' v') h k)
+one_request (whole bytes) blank (searches t' n' s') h k = absurd (blank_or_statement bytes (Match t' n' k.0) h k.1)
+one_request (whole bytes) blank syncs h k = absurd (blank_or_statement bytes Sync h k)
+one_request (whole bytes) blank (lists a' b') h k = absurd (blank_or_statement bytes (ListView a' b') h k)
 one_request (whole bytes) blank blank h k = refl
-one_request (whole bytes) blank (unknown place) h k = absurd (k.not_blank h)
-one_request (whole bytes) (unknown place) (inserts t n v) h k = absurd (statement_or_fault bytes (Insert t n v) place k h)
-one_request (whole bytes) (unknown place) (searches t n s) h k = absurd (statement_or_fault bytes (Match t n k.0) place k.1 h)
+one_request (whole bytes) blank (unknown here) h k = absurd (k.not_blank h)
+one_request (whole bytes) (unknown place) (inserts t' n' v') h k = absurd (statement_or_fault bytes (Insert t' n' v') place k h)
+one_request (whole bytes) (unknown place) (searches t' n' s') h k = absurd (statement_or_fault bytes (Match t' n' k.0) place k.1 h)
+one_request (whole bytes) (unknown place) syncs h k = absurd (statement_or_fault bytes Sync place k h)
+one_request (whole bytes) (unknown place) (lists a' b') h k = absurd (statement_or_fault bytes (ListView a' b') place k h)
 one_request (whole bytes) (unknown place) blank h k = absurd (h.not_blank k)
 one_request (whole bytes) (unknown place) (unknown here) h k = ap unknown (one_fault bytes place here h k)
 one_request (whole bytes) (inserts t n v) unread h k = absurd k
 one_request (whole bytes) (searches t n s) unread h k = absurd k
+one_request (whole bytes) syncs unread h k = absurd k
+one_request (whole bytes) (lists a b) unread h k = absurd k
 one_request (whole bytes) blank unread h k = absurd k
 one_request (whole bytes) (unknown place) unread h k = absurd k
 one_request (whole bytes) unread s h k = absurd h
 one_request too_long (inserts t n v) s h k = absurd h
 one_request too_long (searches t n s) r h k = absurd h
+one_request too_long syncs s h k = absurd h
+one_request too_long (lists a b) s h k = absurd h
 one_request too_long blank s h k = absurd h
 one_request too_long (unknown place) s h k = absurd h
 one_request too_long unread (inserts t n v) h k = absurd k
 one_request too_long unread (searches t n s) h k = absurd k
+one_request too_long unread syncs h k = absurd k
+one_request too_long unread (lists a b) h k = absurd k
 one_request too_long unread blank h k = absurd k
 one_request too_long unread (unknown place) h k = absurd k
 one_request too_long unread unread h k = refl
-
--- an answer whose reply is no fault and no want of memory is the plain one
-is_plain : (limits : Limits) (running : Running) (ask : Ask) (answer : Answer) (reply : Reply) → MayAnswer limits running ask answer
-    → reply_to answer ≡ reply → IsCalm reply → answer ≡ plain_answer limits running ask
-is_plain limits running ask (committed number) reply may told calm = sym may
-is_plain limits running ask (refused why) reply may told calm = sym may
-is_plain limits running ask (full end) reply may told calm = sym may
-is_plain limits running ask (viewed view) reply may told calm = sym may
-is_plain limits running ask (found number docs) reply may told calm = sym may
-is_plain limits running ask (stopped faults) reply may told calm = sym may
-is_plain limits running ask (disk_fault faults) reply may told calm = absurd (calm.no_fault (sym told))
-is_plain limits running ask no_memory reply may told calm = absurd (calm.no_want (sym told))
 
 -- the end of one conversation is its reply
 one_ending : (a b : Reply) → ends a ≡ ends b → a ≡ b
@@ -95,19 +121,73 @@ one_ending a b same = cc
 one_ask : (a b : Ask) → asks a ≡ asks b → a ≡ b
 one_ask a b same = cc
 
--- the answers to one step, with nothing in between
-one_answer : (limits : Limits) (running : Running) (call call' : Call) (reply reply' : Reply) → call.ask ≡ call'.ask → call.more ≡ [] → call'.more ≡ []
-    → MayAnswer limits (grown running call.more) call.ask call.answer → MayAnswer limits (grown running call'.more) call'.ask call'.answer
-    → reply_to call.answer ≡ reply → reply_to call'.answer ≡ reply' → IsCalm reply → IsCalm reply' → call.answer ≡ call'.answer
-one_answer limits running call call' reply reply' same alone alone' may may' told told' calm calm' =
-    is_plain limits (grown running call.more) call.ask call.answer reply may told calm
-    ∙ ap (λ (more : List Entry). plain_answer limits (grown running more) call.ask) (alone ∙ sym alone')
-    ∙ ap (plain_answer limits (grown running call'.more)) same
-    ∙ sym (is_plain limits (grown running call'.more) call'.ask call'.answer reply' may' told' calm')
+-- ---- one answer
 
--- what two conversations have in common
-abbrev Same : List Call → List Call → Reply → Reply → Type 0
-Same here here' reply reply' = (here ≡ here') × (reply ≡ reply')
+-- an answer of a listing
+abbrev IsListing : Running → Ask → Answer → Type 0
+IsListing running ask answer = (number : ℕ) × (listing : Listing) × (answer ≡ listed number listing) × Lists running ask number listing
+
+-- an answer whose reply is no fault and no want of memory is the plain one, or that of a listing
+plain_or_listing : (limits : Limits) (running : Running) (ask : Ask) (answer : Answer) → MayAnswer limits running ask answer → IsCalm (reply_to answer)
+    → (answer ≡ plain_answer limits running ask) ⊎ IsListing running ask answer
+plain_or_listing limits running ask (committed number) may calm = inl (sym may)
+plain_or_listing limits running ask (refused why) may calm = inl (sym may)
+plain_or_listing limits running ask (full end_) may calm = inl (sym may)
+plain_or_listing limits running ask (flushed through commits) may calm = inl (sym may)
+plain_or_listing limits running ask (all_flushed commits) may calm = inl (sym may)
+plain_or_listing limits running ask (viewed view) may calm = inl (sym may)
+plain_or_listing limits running ask (found number docs) may calm = inl (sym may)
+plain_or_listing limits running ask (listed number listing) may calm = inr (number, listing, refl, may)
+plain_or_listing limits running ask (measured size) may calm = inl (sym may)
+plain_or_listing limits running ask (stopped faults) may calm = inl (sym may)
+plain_or_listing limits running ask (disk_fault faults) may calm = absurd (calm.no_fault refl)
+plain_or_listing limits running ask no_memory may calm = absurd (calm.no_want refl)
+
+-- a view lists one thing
+one_listing : (running : Running) (ask : Ask) (number number' : ℕ) (listing listing' : Listing) → Lists running ask number listing → Lists running ask number' listing'
+    → listed number listing ≡ listed number' listing'
+one_listing running (to_list kind) number number' listing listing' h k =
+    ap (λ (n : ℕ). listed n listing) (h.0 ∙ sym k.0)
+    ∙ ap (listed number') (listed_one running.state.settings (turns_of running.state) running.index kind listing listing' h.1 k.1)
+one_listing running (to_commit commit) number number' listing listing' h k = absurd h
+one_listing running to_sync number number' listing listing' h k = absurd h
+one_listing running (to_view leaves) number number' listing listing' h k = absurd h
+one_listing running (to_find terms) number number' listing listing' h k = absurd h
+one_listing running to_measure number number' listing listing' h k = absurd h
+
+-- and no plain answer is that of a listing
+not_plain : (limits : Limits) (running : Running) (ask : Ask) (number : ℕ) (listing : Listing) (answer : Answer) → Lists running ask number listing
+    → answer ≡ plain_answer limits running ask → IsCalm (reply_to answer) → ⊥
+not_plain limits running (to_list kind) number listing answer h is calm = calm.no_want (ap reply_to is)
+not_plain limits running (to_commit commit) number listing answer h is calm = h
+not_plain limits running to_sync number listing answer h is calm = h
+not_plain limits running (to_view leaves) number listing answer h is calm = h
+not_plain limits running (to_find terms) number listing answer h is calm = h
+not_plain limits running to_measure number listing answer h is calm = h
+
+same_answer : (limits : Limits) (running : Running) (ask : Ask) (a b : Answer) → MayAnswer limits running ask a → MayAnswer limits running ask b
+    → IsCalm (reply_to a) → IsCalm (reply_to b) → a ≡ b
+same_answer limits running ask a b may may' calm calm' =
+    ⊎_elim
+    (λ (plain : a ≡ plain_answer limits running ask). ⊎_elim
+    (λ (plain' : b ≡ plain_answer limits running ask). plain ∙ sym plain')
+    (λ (other : IsListing running ask b). absurd (not_plain limits running ask other.0 other.1 a other.3 plain calm))
+    (plain_or_listing limits running ask b may' calm'))
+    (λ (one : IsListing running ask a). ⊎_elim
+    (λ (plain' : b ≡ plain_answer limits running ask). absurd (not_plain limits running ask one.0 one.1 b one.3 plain' calm'))
+    (λ (other : IsListing running ask b). one.2 ∙ one_listing running ask one.0 other.0 one.1 other.1 one.3 other.3 ∙ sym other.2)
+    (plain_or_listing limits running ask b may' calm'))
+    (plain_or_listing limits running ask a may calm)
+
+-- the answers to one step, with nothing in between
+one_answer : (limits : Limits) (running : Running) (call call' : Call) → call.ask ≡ call'.ask → call.more ≡ [] → call'.more ≡ []
+    → MayAnswer limits (grown running call.more) call.ask call.answer → MayAnswer limits (grown running call'.more) call'.ask call'.answer
+    → IsCalm (reply_to call.answer) → IsCalm (reply_to call'.answer) → call.answer ≡ call'.answer
+one_answer limits running call call' same alone alone' may may' calm calm' =
+    same_answer limits running call'.ask call.answer call'.answer
+    (subst (λ (ask : Ask). MayAnswer limits running ask call.answer) same
+    (subst (λ (more : List Entry). MayAnswer limits (grown running more) call.ask call.answer) alone may))
+    (subst (λ (more : List Entry). MayAnswer limits (grown running more) call'.ask call'.answer) alone' may') calm calm'
 
 -- a step is what came before it, its ask and its answer
 one_step : (call call' : Call) → call.more ≡ call'.more → call.ask ≡ call'.ask → call.answer ≡ call'.answer → call ≡ call'
@@ -116,27 +196,82 @@ one_step call call' before asked answered =
     ∙ ap (λ (ask : Ask). record { more = call'.more; ask = ask; answer = call.answer }) asked
     ∙ ap (λ (answer : Answer). record { more = call'.more; ask = call'.ask; answer = answer }) answered
 
--- one call, told
-one_call : (call call' : Call) (reply reply' : Reply) → call.more ≡ call'.more → call.ask ≡ call'.ask → call.answer ≡ call'.answer
-    → reply_to call.answer ≡ reply → reply_to call'.answer ≡ reply' → Same (call ∷ []) (call' ∷ []) reply reply'
-one_call call call' reply reply' before asked answered told told' = (
-  ap (λ (c : Call). c ∷ []) (one_step call call' before asked answered),
-  sym told ∙ ap reply_to answered ∙ told',
-)
+-- ---- a fault or want of memory ends a request
+
+abbrev IsEnd : Answer → Type 0
+IsEnd answer = (goal count : ℕ) → sync_next goal count answer ≡ ends (reply_to answer)
+
+ends_behind : (settings : Settings) (request : Request) (answers : List Answer) (ask : Ask) (answer : Answer) → IsEnd answer → next settings request answers ≡ asks ask
+    → next settings request (answers ++ answer ∷ []) ≡ ends (reply_to answer)
+ends_behind settings syncs [] ask answer is asked = is _ _
+ends_behind settings syncs (first ∷ answers) ask answer is asked = ap (sync_next _ _) (last_behind first answers answer) ∙ is _ _
+ends_behind settings (inserts t n v) [] ask answer is asked = refl
+ends_behind settings (searches t n s) [] ask answer is asked = refl
+ends_behind settings (lists a b) [] ask answer is asked = refl
+ends_behind settings blank [] ask answer is asked = refl
+ends_behind settings (unknown place) [] ask answer is asked = refl
+ends_behind settings unread [] ask answer is asked = refl
+ends_behind settings (inserts t n v) (first ∷ answers) ask answer is asked = absurd cc
+ends_behind settings (searches t n s) (first ∷ answers) ask answer is asked = absurd cc
+ends_behind settings (lists a b) (first ∷ answers) ask answer is asked = absurd cc
+ends_behind settings blank (first ∷ answers) ask answer is asked = absurd cc
+ends_behind settings (unknown place) (first ∷ answers) ask answer is asked = absurd cc
+ends_behind settings unread (first ∷ answers) ask answer is asked = absurd cc
+
+-- what is at its end has one reply
+ended_so : (settings : Settings) (request : Request) (answers : List Answer) (calls : List Call) (end reply : Reply) → next settings request answers ≡ ends end
+    → Converses settings request answers calls reply → reply ≡ end
+ended_so settings request answers [] end reply is says = one_ending reply end (sym says ∙ is)
+ended_so settings request answers (call ∷ calls) end reply is says = absurd (let e = sym is ∙ says.0 in cc)
+
+-- so the answers within a conversation with a calm reply are calm
+calm_answer : (settings : Settings) (request : Request) (answers : List Answer) (ask : Ask) (answer : Answer) (calls : List Call) (reply : Reply)
+    → next settings request answers ≡ asks ask → Converses settings request (answers ++ answer ∷ []) calls reply → IsCalm reply → IsCalm (reply_to answer)
+calm_answer settings request answers ask no_memory calls reply asked says calm =
+    subst IsCalm (ended_so settings request (answers ++ no_memory ∷ []) calls NoMemory reply (ends_behind settings request answers ask no_memory (λ goal count. refl) asked) says) calm
+calm_answer settings request answers ask (disk_fault faults) calls reply asked says calm =
+    subst IsCalm (ended_so settings request (answers ++ disk_fault faults ∷ []) calls DiskFault reply
+    (ends_behind settings request answers ask (disk_fault faults) (λ goal count. refl) asked) says) calm
+calm_answer settings request answers ask (committed number) calls reply asked says calm = record { no_want = λ is. cc; no_fault = λ is. cc }
+calm_answer settings request answers ask (refused why) calls reply asked says calm = record { no_want = λ is. cc; no_fault = λ is. cc }
+calm_answer settings request answers ask (full end_) calls reply asked says calm = record { no_want = λ is. cc; no_fault = λ is. cc }
+calm_answer settings request answers ask (flushed through commits) calls reply asked says calm = record { no_want = λ is. cc; no_fault = λ is. cc }
+calm_answer settings request answers ask (all_flushed commits) calls reply asked says calm = record { no_want = λ is. cc; no_fault = λ is. cc }
+calm_answer settings request answers ask (viewed view) calls reply asked says calm = record { no_want = λ is. cc; no_fault = λ is. cc }
+calm_answer settings request answers ask (found number docs) calls reply asked says calm = record { no_want = λ is. cc; no_fault = λ is. cc }
+calm_answer settings request answers ask (listed number listing) calls reply asked says calm = record { no_want = λ is. cc; no_fault = λ is. cc }
+calm_answer settings request answers ask (measured size) calls reply asked says calm = record { no_want = λ is. cc; no_fault = λ is. cc }
+calm_answer settings request answers ask (stopped faults) calls reply asked says calm = record { no_want = λ is. cc; no_fault = λ is. cc }
+
+-- ---- one conversation
+
+-- what two conversations have in common
+abbrev Same : List Call → List Call → Reply → Reply → Type 0
+Same here here' reply reply' = (here ≡ here') × (reply ≡ reply')
+
+-- behind the same answers a request, on one engine, makes the same steps and has the same reply
+one_from : (limits : Limits) (running : Running) (settings : Settings) (request : Request) (answers : List Answer) (here here' more more' : List Call) (reply reply' : Reply)
+    → Converses settings request answers here reply → Converses settings request answers here' reply'
+    → Follows limits running (here ++ more) → Follows limits running (here' ++ more') → AreAlone (here ++ more) → AreAlone (here' ++ more')
+    → IsCalm reply → IsCalm reply' → Same here here' reply reply'
+one_from limits running settings request answers [] [] more more' reply reply' c d f g alone alone' calm calm' = (refl, one_ending reply reply' (sym c ∙ d))
+one_from limits running settings request answers [] (call ∷ calls) more more' reply reply' c d f g alone alone' calm calm' = absurd (let e = sym c ∙ d.0 in cc)
+one_from limits running settings request answers (call ∷ calls) [] more more' reply reply' c d f g alone alone' calm calm' = absurd (let e = sym d ∙ c.0 in cc)
+one_from limits running settings request answers (call ∷ calls) (call' ∷ calls') more more' reply reply' c d f g alone alone' calm calm' =
+    let asked : call.ask ≡ call'.ask = one_ask call.ask call'.ask (sym c.0 ∙ d.0) in
+    let answered : call.answer ≡ call'.answer = one_answer limits running call call' asked alone.0 alone'.0 f.0 g.0
+    (calm_answer settings request answers call.ask call.answer calls reply c.0 c.1 calm)
+    (calm_answer settings request answers call'.ask call'.answer calls' reply' d.0 d.1 calm') in
+    let same : call ≡ call' = one_step call call' (alone.0 ∙ sym alone'.0) asked answered in
+    let rest = one_from limits (after_call running call) settings request (answers ++ call.answer ∷ []) calls calls' more more' reply reply' c.1
+    (subst (λ (answer : Answer). Converses settings request (answers ++ answer ∷ []) calls' reply') (sym answered) d.1) f.1
+    (subst (λ (one : Call). Follows limits (after_call running one) (calls' ++ more')) (sym same) g.1) alone.1 alone'.1 calm calm' in
+    (ap (λ (one : Call). one ∷ calls) same ∙ ap (λ (all : List Call). call' ∷ all) rest.0, rest.1)
 
 -- a request, on one engine, makes the same steps and has the same reply, where this is no fault and no want of memory
 pub one_conversation : (limits : Limits) (running : Running) (settings : Settings) (request : Request) (here here' more more' : List Call) (reply reply' : Reply)
     → Converses settings request [] here reply → Converses settings request [] here' reply'
     → Follows limits running (here ++ more) → Follows limits running (here' ++ more') → AreAlone (here ++ more) → AreAlone (here' ++ more')
     → IsCalm reply → IsCalm reply' → Same here here' reply reply'
-one_conversation limits running settings request [] [] more more' reply reply' c d f g alone alone' calm calm' = (refl, one_ending reply reply' (sym c ∙ d))
-one_conversation limits running settings request [] (call ∷ calls) more more' reply reply' c d f g alone alone' calm calm' = absurd (let e = sym c ∙ d.0 in cc)
-one_conversation limits running settings request (call ∷ calls) [] more more' reply reply' c d f g alone alone' calm calm' = absurd (let e = sym d ∙ c.0 in cc)
-one_conversation limits running settings request (call ∷ []) (call' ∷ []) more more' reply reply' c d f g alone alone' calm calm' =
-    let asked = one_ask call.ask call'.ask (sym c.0 ∙ d.0) in
-    let told : reply_to call.answer ≡ reply = one_ending (reply_to call.answer) reply c.1 in
-    let told' : reply_to call'.answer ≡ reply' = one_ending (reply_to call'.answer) reply' d.1 in
-    one_call call call' reply reply' (alone.0 ∙ sym alone'.0) asked
-    (one_answer limits running call call' reply reply' asked alone.0 alone'.0 f.0 g.0 told told' calm calm') told told'
-one_conversation limits running settings request (call ∷ (second ∷ calls)) here' more more' reply reply' c d f g alone alone' calm calm' = absurd (let e = c.1.0 in cc)
-one_conversation limits running settings request (call ∷ []) (call' ∷ (second ∷ calls)) more more' reply reply' c d f g alone alone' calm calm' = absurd (let e = d.1.0 in cc)
+one_conversation limits running settings request here here' more more' reply reply' c d f g alone alone' calm calm' =
+    one_from limits running settings request [] here here' more more' reply reply' c d f g alone alone' calm calm'

@@ -20,7 +20,7 @@ use Rattle.fts_sql.specs.declared.piece.Part.TheVariants.{Once, Optional, Repeat
 use Rattle.fts_sql.specs.declared.statement.Statement.{Statement}
 use Rattle.fts_sql.specs.declared.value.Value.{Value}
 use Rattle.fts_sql.specs.declared.value.Value.TheVariants.{Number, Text}
-use Rattle.fts_sql.specs.declared.statement.Statement.TheVariants.{Insert, Match}
+use Rattle.fts_sql.specs.declared.statement.Statement.TheVariants.{Insert, Match, Sync, List as ListView}
 use Rattle.fts_sessions.specs.Table.{is_text, texts_in, insert_of, change_of, are_names}
 use Rattle.fts_sessions.specs.Texts.{IsFit, AreFit}
 
@@ -96,10 +96,14 @@ taken_fit (mark b ∷ taken) are = taken_fit taken are.1
 abbrev values_of : Statement → List Value
 values_of (Insert table columns values) = values
 values_of (Match table columns query) = []
+values_of Sync = []
+values_of (ListView schema view) = []
 
 written_fit : (one : Form) (taken : List Token) → ArePrintable taken → AreFit (values_of (statement_of one taken))
 written_fit form.Insert taken are = taken_fit taken are
 written_fit form.Match taken are = λ k d less. absurd (omega arith)
+written_fit form.Sync taken are = λ k d less. absurd (omega arith)
+written_fit form.List taken are = λ k d less. absurd (omega arith)
 
 -- the values of an INSERT of a line can stand in a row
 pub line_fit : (line table : List ℕ) (columns : List (List ℕ)) (values : List Value) → IsStatement line (Insert table columns values) → AreFit values

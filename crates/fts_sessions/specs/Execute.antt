@@ -17,12 +17,13 @@ Says settings line calls reply =
     ((request : Request) × IsRequest line request × Converses settings request [] calls reply)
     ⊎ ((calls ≡ []) × (reply ≡ NoMemory))
 
--- a line is executed: the steps that it made, with its reply. On each engine for which the steps stood they answered as
--- they may, and stand then for what these made of it; where there are no others, a crash at any moment leaves what was
--- before the line or what is behind it, and the index log as it was
-pub record Executes {S : Type 0} (sight : Sight S) (line : Line) (old : S) (reply : Reply) (new : S) : Type 0 where
+-- steps are made, and then a reply is given, of which `Told` says what they are. On each engine for which the steps
+-- stood they answered as they may, and stand then for what these made of it; where there are no others, a crash at any
+-- moment leaves what was before them or what is behind them, and the index log as it was
+pub record Proceeds {S : Type 0} (sight : Sight S) (Told : List Call → Reply → Type 0) (old : S) (reply : Reply) (new : S)
+    : Type 0 where
   pub calls : List Call
-  pub says : Says (sight.settings old) line calls reply
+  pub says : Told calls reply
   pub alone : sight.is_shared ≡ false → AreAlone calls
   pub follows : (running : Running) → sight.stands running old → Follows (sight.limits old) running calls
   pub stands : (running : Running) → sight.stands running old → sight.stands (after_all running calls) new
@@ -34,13 +35,22 @@ pub record Executes {S : Type 0} (sight : Sight S) (line : Line) (old : S) (repl
   pub limits : sight.limits new ≡ sight.limits old
   pub faults : CountsFault (reply ≡ DiskFault) (sight.faults old) (sight.faults new)
 
+-- a line is executed: its steps are made, and its reply is given
+abbrev pub Executes : {S : Type 0} → Sight S → Line → S → Reply → S → Type 0
+Executes sight line old reply new = Proceeds sight (Says (sight.settings old) line) old reply new
+
+-- a request goes on behind these answers: the steps that are left are made, and its reply is given
+abbrev pub GoesOn : {S : Type 0} → Sight S → Settings → Request → List Answer → S → Reply → S → Type 0
+GoesOn sight settings request answers old reply new =
+    Proceeds sight (Converses settings request answers) old reply new
+
 -- one step is made: its answer, and the reply that tells it
 pub record Makes {S : Type 0} (sight : Sight S) (ask : Ask) (old : S) (reply : Reply) (new : S) : Type 0 where
   pub answer : Answer
   pub made : Steps sight ask answer old new
   pub told : reply_to answer ≡ reply
 
--- a request is done: it makes its one step, or ends without one; or memory ran out before
+-- a request of one step at most is done: it makes its step, or ends without one; or memory ran out before
 abbrev pub Does : {S : Type 0} → Sight S → Next → S → Reply → S → Type 0
 Does sight (asks ask) old reply new = Makes sight ask old reply new ⊎ ((reply ≡ NoMemory) × (new ≡ old))
 Does sight (ends told) old reply new = ((reply ≡ told) ⊎ (reply ≡ NoMemory)) × (new ≡ old)

@@ -1,5 +1,6 @@
 pub mod Table
 pub mod Query
+pub mod View
 pub mod Request
 pub mod Texts
 pub mod Conversation

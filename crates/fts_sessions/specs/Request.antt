@@ -4,15 +4,17 @@ use Rattle.fts_sql.specs.Line.{IsBlank}
 use Rattle.fts_sql.specs.Statement.{IsStatement}
 use Rattle.fts_sql.specs.Fault.{IsFaultAt}
 use Rattle.fts_sql.specs.declared.value.Value.{Value}
-use Rattle.fts_sql.specs.declared.statement.Statement.TheVariants.{Insert, Match}
+use Rattle.fts_sql.specs.declared.statement.Statement.TheVariants.{Insert, Match, Sync, List as ListView}
 use Rattle.fts_sessions.specs.Query.{Search, IsSearch}
 
 -- what a line asks for: an INSERT of values into columns of a table; a search of columns of a table, by what the text
--- of its query asks for; nothing since it is blank; nothing that is a statement, which shows at a place; or nothing
--- that is read since the line is too long
+-- of its query asks for; that the index is flushed; a listing of a view of a schema; nothing since it is blank; nothing
+-- that is a statement, which shows at a place; or nothing that is read since the line is too long
 pub data Request : Type 0 where
   inserts : List ℕ → List (List ℕ) → List Value → Request
   searches : List ℕ → List (List ℕ) → Search → Request
+  syncs : Request
+  lists : List ℕ → List ℕ → Request
   blank : Request
   unknown : ℕ → Request
   unread : Request
@@ -22,11 +24,15 @@ abbrev pub IsRequest : Line → Request → Type 0
 IsRequest (whole bytes) (inserts table names values) = IsStatement bytes (Insert table names values)
 IsRequest (whole bytes) (searches table names search) =
     (query : List ℕ) × IsStatement bytes (Match table names query) × IsSearch query search
+IsRequest (whole bytes) syncs = IsStatement bytes Sync
+IsRequest (whole bytes) (lists schema view) = IsStatement bytes (ListView schema view)
 IsRequest (whole bytes) blank = IsBlank bytes
 IsRequest (whole bytes) (unknown at) = IsFaultAt bytes at
 IsRequest (whole bytes) unread = ⊥
 IsRequest too_long (inserts table names values) = ⊥
 IsRequest too_long (searches table names search) = ⊥
+IsRequest too_long syncs = ⊥
+IsRequest too_long (lists schema view) = ⊥
 IsRequest too_long blank = ⊥
 IsRequest too_long (unknown at) = ⊥
 IsRequest too_long unread = Unit {0}

@@ -2,8 +2,9 @@ use crate::EngineSteps;
 use fts_commits::Change;
 use fts_disk::Disk;
 use fts_engine::Engine;
+use fts_listing::{ListingKind, NumberedListing};
 use fts_query::{Leaf, View};
-use fts_steps::CommitError;
+use fts_steps::{CommitError, SyncBatch, SyncError};
 use fts_types::Settings;
 use std::alloc::AllocError;
 
@@ -24,6 +25,22 @@ impl<D: Disk, E: Disk> EngineSteps for Direct<D, E> {
 
     fn view(&mut self, leaves: Vec<Leaf>) -> Result<View, AllocError> {
         self.engine.view(leaves)
+    }
+
+    fn sync_batch(&mut self) -> Result<SyncBatch, SyncError> {
+        self.engine.sync_batch()
+    }
+
+    fn listing(&mut self, kind: ListingKind) -> Result<NumberedListing, AllocError> {
+        self.engine.listing(kind)
+    }
+
+    fn cache_size(&mut self) -> u64 {
+        self.engine.cache_size()
+    }
+
+    fn cache_bytes(&self) -> u64 {
+        u64::from(self.engine.settings().cache_bytes)
     }
 
     fn settings(&self) -> &Settings {

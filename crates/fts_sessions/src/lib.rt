@@ -8,11 +8,13 @@
 #![tactic(auto)]
 
 mod direct;
+mod index;
 mod insert;
 mod names;
 mod query;
 mod session;
 mod steps;
+mod view;
 
 pub use direct::Direct;
 pub use session::Session;

@@ -14,6 +14,7 @@ ghost use Rattle.fts_sessions.specs.Conversation.{asks, begins, match_begins, re
 ghost use Rattle.fts_sessions.specs.Conversation.{unknown_name as the_unknown_name};
 
 use crate::EngineSteps;
+use crate::index::{list, sync};
 use crate::insert::change_of;
 use crate::names::{are_text_columns, first_unknown, is_same};
 use crate::query::query_of;
@@ -87,6 +88,8 @@ impl Session {
                 &columns,
                 query.as_slice(),
             ),
+            Ok(Some(Statement::Sync)) => sync(steps),
+            Ok(Some(Statement::List { schema, view })) => list(self.alloc, steps, &schema, &view),
             Ok(None) => Reply::Nothing,
             Err(ParseError::Syntax { at }) => Reply::Syntax { at },
             Err(ParseError::NoMemory) => Reply::NoMemory,

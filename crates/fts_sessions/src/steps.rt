@@ -2,12 +2,15 @@ ghost use Rattle.std.specs.Prelude.{◌≡◌, ◌≤◌, length};
 ghost use Rattle.fts_commits.specs.Fits.{CanCommit};
 ghost use Rattle.fts_query.specs.Seen.{leaves_seen};
 ghost use Rattle.fts_steps.specs.Running.{Running};
-ghost use Rattle.fts_steps.specs.Step.{to_commit, to_view, Sight, Steps};
-ghost use Rattle.fts_steps.specs.Answers.{commit_answer_of, view_answer_of};
+ghost use Rattle.fts_steps.specs.Step.{to_commit, to_sync, to_view, to_list, to_measure};
+ghost use Rattle.fts_steps.specs.Step.{measured, Sight, Steps};
+ghost use Rattle.fts_steps.specs.Answers.{commit_answer_of, sync_answer_of, view_answer_of};
+ghost use Rattle.fts_steps.specs.Answers.{listing_answer_of};
 
 use fts_commits::Change;
+use fts_listing::{ListingKind, NumberedListing};
 use fts_query::{Leaf, View};
-use fts_steps::CommitError;
+use fts_steps::{CommitError, SyncBatch, SyncError};
 use fts_types::Settings;
 use std::alloc::AllocError;
 
@@ -23,10 +26,27 @@ pub trait EngineSteps {
         ensures { Steps sight (to_commit changes.now) (commit_answer_of result)
             self.old self.new };
 
+    /// Puts the words of the next commits that are not flushed into the tables of the index, if
+    /// there are such commits.
+    fn sync_batch(&mut self) -> Result<SyncBatch, SyncError>
+        ensures { Steps sight to_sync (sync_answer_of result) self.old self.new };
+
     /// Tells what the rows have for the leaves of a query.
     fn view(&mut self, leaves: Vec<Leaf>) -> Result<View, AllocError>
         ensures { Steps sight (to_view (leaves_seen leaves.items)) (view_answer_of result)
             self.old self.new };
+
+    /// Lists what a view of the index has.
+    fn listing(&mut self, kind: ListingKind) -> Result<NumberedListing, AllocError>
+        ensures { Steps sight (to_list kind) (listing_answer_of result) self.old self.new };
+
+    /// The size of the cache: what the documents count that are not flushed.
+    fn cache_size(&mut self) -> u64
+        ensures { Steps sight to_measure (measured result) self.old self.new };
+
+    /// The size above which the cache is to be flushed.
+    fn cache_bytes(&self) -> u64
+        ensures { result ≡ (sight.settings self.now).cache_bytes };
 
     /// The settings with which the database was created.
     fn settings(&self) -> &Settings

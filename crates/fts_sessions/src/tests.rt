@@ -6,11 +6,13 @@ ghost use Rattle.fts_engine.specs.Stands.{Stands};
 use crate::insert::change_of;
 use crate::names::{are_insert_columns, are_text_columns, first_unknown, is_same};
 use crate::query::query_of;
+use crate::view::view_of_schema;
 use crate::{Direct, Session};
 use fts_commits::Change;
 use fts_disk::MemDisk;
 use fts_engine::{Engine, create_engine, open_engine};
 use fts_io::OpenGate;
+use fts_listing::ListingKind;
 use fts_schema::{Reply, reply_text};
 use fts_sql::{Statement, parse_statement};
 use fts_types::{Limits, Names, Settings};
@@ -307,6 +309,74 @@ fn each_line_has_its_reply(rt: HostRuntime) -> Result<(), Fail> {
     Ok(())
 }
 
+/// The names of a schema and of a view, and the view that they mean.
+const VIEWS: [(&str, &str, Option<ListingKind>); 8] = [
+    (
+        "INFORMATION_SCHEMA",
+        "INNODB_FT_INDEX_TABLE",
+        Some(ListingKind::IndexTable),
+    ),
+    (
+        "information_schema",
+        "innodb_ft_index_cache",
+        Some(ListingKind::IndexCache),
+    ),
+    (
+        "Information_Schema",
+        "InnoDB_FT_Config",
+        Some(ListingKind::Config),
+    ),
+    (
+        "INFORMATION_SCHEMA",
+        "INNODB_FT_DEFAULT_STOPWORD",
+        Some(ListingKind::DefaultStopword),
+    ),
+    ("INFORMATION_SCHEMA", "INNODB_FT_DELETED", None),
+    ("INFORMATION_SCHEMA", "", None),
+    ("docs", "INNODB_FT_CONFIG", None),
+    ("INNODB_FT_CONFIG", "INFORMATION_SCHEMA", None),
+];
+
+#[test]
+fn views_are_called_by_two_names(rt: HostRuntime) {
+    for (schema, view, want) in VIEWS {
+        assert!(rt;
+            view_of_schema(schema.as_bytes(), view.as_bytes()) == want,
+            "{schema}.{view}"
+        );
+    }
+}
+
+const INDEX_REPLIES: [(&str, &str); 6] = [
+    ("SYNC", "OK sync as of 0\n"),
+    ("sync ;", "OK sync as of 0\n"),
+    (
+        "SELECT * FROM INFORMATION_SCHEMA.INNODB_FT_CONFIG",
+        "KEY|VALUE\nmax_token_size|84\nmin_token_size|3\noptimize_word|\nsynced_commit|0\nsynced_doc_id|0\nuse_stopword|1\nOK 6 rows as of 0\n",
+    ),
+    (
+        "select * from information_schema . innodb_ft_index_table;",
+        "WORD|FIRST_DOC_ID|LAST_DOC_ID|DOC_COUNT|DOC_ID|POSITION\nOK 0 rows as of 0\n",
+    ),
+    (
+        "SELECT * FROM information_schema . Nope",
+        "ERROR no such table information_schema.Nope\n",
+    ),
+    (
+        "SELECT * FROM docs.INNODB_FT_CONFIG",
+        "ERROR no such table docs.INNODB_FT_CONFIG\n",
+    ),
+];
+
+#[test]
+fn each_line_of_the_index_has_its_reply(rt: HostRuntime) -> Result<(), Fail> {
+    for (line, want) in INDEX_REPLIES {
+        let reply = reply_of(rt.alloc(), line)?;
+        assert_eq!(rt; reply.as_slice(), want.as_bytes(), "of {line}");
+    }
+    Ok(())
+}
+
 /// Executes a line, and gives its reply.
 fn executed(alloc: Global, steps: &mut Direct<MemDisk, MemDisk>, line: &str) -> Reply {
     Session::new(alloc, 1).execute(steps, &OpenGate, line.as_bytes())
@@ -343,6 +413,32 @@ fn found_by(alloc: Global, query: &str) -> Result<Vec<u8>, Fail> {
     )?;
     let reply = executed(alloc, &mut steps, &line);
     Ok(reply_text(alloc, &reply)?)
+}
+
+/// The last bytes of the reply to a listing of a view.
+fn ends_with(
+    alloc: Global,
+    steps: &mut Direct<MemDisk, MemDisk>,
+    view: &str,
+    want: &str,
+) -> Result<bool, AllocError> {
+    let line = format!(in alloc; "SELECT * FROM INFORMATION_SCHEMA.{view}")?;
+    let reply = executed(alloc, steps, &line);
+    Ok(reply_text(alloc, &reply)?
+        .as_slice()
+        .ends_with(want.as_bytes()))
+}
+
+#[test]
+fn a_sync_flushes_what_is_cached(rt: HostRuntime) -> Result<(), Fail> {
+    let alloc = rt.alloc();
+    let mut steps = filled(alloc)?;
+    assert!(rt; ends_with(alloc, &mut steps, "INNODB_FT_INDEX_CACHE", "\nOK 8 rows as of 3\n")?);
+    let reply = executed(alloc, &mut steps, "SYNC");
+    assert_eq!(rt; reply_text(alloc, &reply)?.as_slice(), b"OK sync as of 3\n".as_slice());
+    assert!(rt; ends_with(alloc, &mut steps, "INNODB_FT_INDEX_CACHE", "\nOK 0 rows as of 3\n")?);
+    assert!(rt; ends_with(alloc, &mut steps, "INNODB_FT_INDEX_TABLE", "\nOK 8 rows as of 3\n")?);
+    Ok(())
 }
 
 const QUERIES: [(&str, &str); 10] = [

@@ -1,9 +1,9 @@
 use Rattle.std.proofs.Common.{ap, refl}
 use Rattle.std.specs.Prelude.{Ok, Err}
 use Rattle.fts_schema.specs.declared.reply.Reply.TheVariants.{NoMemory}
-use Rattle.fts_sql.specs.declared.statement.Statement.TheVariants.{Insert, Match}
-use Rattle.fts_sessions.specs.Request.{inserts}
-use Rattle.fts_sessions.proofs.Executing.{done, searched, unknown_line, blank_line, gives_up}
+use Rattle.fts_sql.specs.declared.statement.Statement.TheVariants.{Insert, Match, Sync, List as ListView}
+use Rattle.fts_sessions.specs.Request.{inserts, syncs, lists}
+use Rattle.fts_sessions.proofs.Executing.{done, gone_on, searched, unknown_line, blank_line, gives_up}
 use Rattle.fts_sessions.proofs.Values.{line_fit}
 use Rattle.fts_sessions.proofs.session.Session.reply.Goals as goal
 
@@ -18,7 +18,7 @@ returns-in-Ok-Some-Insert g c =
     done g.S.EngineSteps.sight c.args.line.now (inserts c.in-Ok-Some-Insert.table c.in-Ok-Some-Insert.columns c.in-Ok-Some-Insert.values)
     (c.in-Ok-Some-Insert.ensures.statement (Insert c.in-Ok-Some-Insert.table c.in-Ok-Some-Insert.columns c.in-Ok-Some-Insert.values)
     (let a = c.in-Ok-Some-Insert.field-0-is in let b = c.in-Ok-Some-Insert.field-0-0-is in cc))
-    c.args.steps.now c.insert.new.steps c.insert.result c.insert.ensures
+    (λ settings answer. refl) c.args.steps.now c.insert.new.steps c.insert.result c.insert.ensures
 
 pub returns-in-Ok-Some-Match : goal.returns-in-Ok-Some-Match
 returns-in-Ok-Some-Match g c =
@@ -27,6 +27,19 @@ returns-in-Ok-Some-Match g c =
     (let a = c.in-Ok-Some-Match.field-0-is in let b = c.in-Ok-Some-Match.field-0-0-is in cc))
     c.args.steps.now c.search.new.steps c.search.result
     (rw c.as_slice.ensures at c.search.ensures)
+
+pub returns-in-Ok-Some-Sync : goal.returns-in-Ok-Some-Sync
+returns-in-Ok-Some-Sync g c =
+    gone_on g.S.EngineSteps.sight c.args.line.now syncs
+    (c.in-Ok-Some-Sync.ensures.statement Sync (let a = c.in-Ok-Some-Sync.field-0-is in let b = c.in-Ok-Some-Sync.field-0-0-is in cc))
+    c.args.steps.now c.sync.new.steps c.sync.result c.sync.ensures
+
+pub returns-in-Ok-Some-List : goal.returns-in-Ok-Some-List
+returns-in-Ok-Some-List g c =
+    done g.S.EngineSteps.sight c.args.line.now (lists c.in-Ok-Some-List.schema c.in-Ok-Some-List.view)
+    (c.in-Ok-Some-List.ensures.statement (ListView c.in-Ok-Some-List.schema c.in-Ok-Some-List.view)
+    (let a = c.in-Ok-Some-List.field-0-is in let b = c.in-Ok-Some-List.field-0-0-is in cc))
+    (λ settings answer. refl) c.args.steps.now c.list.new.steps c.list.result c.list.ensures
 
 pub returns-in-Ok-None : goal.returns-in-Ok-None
 returns-in-Ok-None g c = blank_line g.S.EngineSteps.sight c.args.line.now c.args.steps.now (c.in-Ok-None.ensures.blank.0 (ap Ok c.in-Ok-None.field-0-is))
