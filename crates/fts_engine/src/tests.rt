@@ -42,10 +42,7 @@ fn empty_disks(alloc: Global) -> Result<(MemDisk, MemDisk), AllocError> {
 }
 
 /// Makes a database on the devices.
-fn create(
-    alloc: Global,
-    disks: (MemDisk, MemDisk),
-) -> Result<(MemDisk, MemDisk), CreateError> {
+fn create(alloc: Global, disks: (MemDisk, MemDisk)) -> Result<(MemDisk, MemDisk), CreateError> {
     create_batched(alloc, disks, 1_000)
 }
 
@@ -299,7 +296,10 @@ fn no_batch_is_made_after_a_fault(rt: HostRuntime) -> Result<(), Fail> {
     let devices = create(alloc, (rows, empty_disk(alloc)?))?;
     let mut engine = open(alloc, devices, 2, 4_096)?;
     let changes = two_rows(alloc, 7, 3)?;
-    assert_eq!(rt; commit(&mut engine, &changes), Some(Err(CommitError::DiskFault { faults: 1 })));
+    assert_eq!(rt;
+        commit(&mut engine, &changes),
+        Some(Err(CommitError::DiskFault { faults: 1 }))
+    );
     assert_eq!(rt; engine.sync_batch(), Err(SyncError::Stopped { faults: 1 }));
     Ok(())
 }
@@ -331,8 +331,14 @@ fn a_batch_is_listed(rt: HostRuntime) -> Result<(), Fail> {
     assert_eq!(rt; listed_config(&engine), Some((0, 0)));
     assert_eq!(rt; engine.sync_batch(), flushes(1));
     assert_eq!(rt; listed_config(&engine), Some((1, 1)));
-    assert_eq!(rt; listed_words(&engine, ListingKind::IndexTable), Some((2, 3)));
-    assert_eq!(rt; listed_words(&engine, ListingKind::IndexCache), Some((2, 3)));
+    assert_eq!(rt;
+        listed_words(&engine, ListingKind::IndexTable),
+        Some((2, 3))
+    );
+    assert_eq!(rt;
+        listed_words(&engine, ListingKind::IndexCache),
+        Some((2, 3))
+    );
     Ok(())
 }
 

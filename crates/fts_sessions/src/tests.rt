@@ -424,20 +424,46 @@ fn ends_with(
 ) -> Result<bool, AllocError> {
     let line = format!(in alloc; "SELECT * FROM INFORMATION_SCHEMA.{view}")?;
     let reply = executed(alloc, steps, &line);
-    Ok(reply_text(alloc, &reply)?
-        .as_slice()
-        .ends_with(want.as_bytes()))
+    Ok(
+        reply_text(alloc, &reply)?
+            .as_slice()
+            .ends_with(want.as_bytes()),
+    )
 }
 
 #[test]
 fn a_sync_flushes_what_is_cached(rt: HostRuntime) -> Result<(), Fail> {
     let alloc = rt.alloc();
     let mut steps = filled(alloc)?;
-    assert!(rt; ends_with(alloc, &mut steps, "INNODB_FT_INDEX_CACHE", "\nOK 8 rows as of 3\n")?);
+    assert!(rt;
+        ends_with(
+            alloc,
+            &mut steps,
+            "INNODB_FT_INDEX_CACHE",
+            "\nOK 8 rows as of 3\n"
+        )?
+    );
     let reply = executed(alloc, &mut steps, "SYNC");
-    assert_eq!(rt; reply_text(alloc, &reply)?.as_slice(), b"OK sync as of 3\n".as_slice());
-    assert!(rt; ends_with(alloc, &mut steps, "INNODB_FT_INDEX_CACHE", "\nOK 0 rows as of 3\n")?);
-    assert!(rt; ends_with(alloc, &mut steps, "INNODB_FT_INDEX_TABLE", "\nOK 8 rows as of 3\n")?);
+    assert_eq!(rt;
+        reply_text(alloc, &reply)?.as_slice(),
+        b"OK sync as of 3\n".as_slice()
+    );
+    assert!(rt;
+        ends_with(
+            alloc,
+            &mut steps,
+            "INNODB_FT_INDEX_CACHE",
+            "\nOK 0 rows as of 3\n"
+        )?
+    );
+    assert!(rt;
+        ends_with(
+            alloc,
+            &mut steps,
+            "INNODB_FT_INDEX_TABLE",
+            "\nOK 8 rows as of 3\n"
+        )?
+    );
     Ok(())
 }
 
