@@ -352,7 +352,8 @@ const INDEX_REPLIES: [(&str, &str); 6] = [
     ("sync ;", "OK sync as of 0\n"),
     (
         "SELECT * FROM INFORMATION_SCHEMA.INNODB_FT_CONFIG",
-        "KEY|VALUE\nmax_token_size|84\nmin_token_size|3\noptimize_word|\nsynced_commit|0\nsynced_doc_id|0\nuse_stopword|1\nOK 6 rows as of 0\n",
+        "KEY|VALUE\nmax_token_size|84\nmin_token_size|3\noptimize_word|\nsynced_commit|0\n\
+         synced_doc_id|0\nuse_stopword|1\nOK 6 rows as of 0\n",
     ),
     (
         "select * from information_schema . innodb_ft_index_table;",

@@ -48,8 +48,9 @@ most_behind true [] reply = committed_by reply
 most_behind false [] reply = 0
 
 -- a line makes the first of these steps and has the first of these replies, batches follow, and then the rest
-pub record First (settings : Settings) (line : Line) (most : Reply → ℕ) (Rest : List Call → List Reply → Health → Type 0)
-    (calls : List Call) (replies : List Reply) (met : Health) : Type 0 where
+pub record First (settings : Settings) (line : Line) (most : Reply → ℕ)
+    (Rest : List Call → List Reply → Health → Type 0) (calls : List Call) (replies : List Reply) (met : Health)
+    : Type 0 where
   pub here : List Call
   pub batches : List Call
   pub more : List Call
