@@ -5,7 +5,7 @@ ghost use Rattle.fts_commits.specs.Fits.{CanCommit};
 use super::*;
 use fts_commits::{Change, Refusal};
 use fts_disk::{Kind, MemDisk};
-use fts_listing::{Listing, ListingKind};
+use fts_listing::{Listing, ListingKind, NumberedListing};
 use fts_log::is_begun;
 use fts_query::{Leaf, View};
 use fts_steps::{CommitError, SyncBatch, SyncError};
@@ -304,42 +304,29 @@ fn failing_engine(alloc: Global) -> Option<Engine<MemDisk, MemDisk>> {
 
 #[test]
 fn no_batch_is_made_after_a_fault(rt: HostRuntime) -> Result<(), Fail> {
-<<<<<<< HEAD
-    let alloc = rt.alloc();
-    let fails = vec![in alloc; (Kind::Write, 4)]?;
-    let rows = MemDisk::from_files(alloc, Vec::new(alloc), fails)?;
-    let devices = create(alloc, (rows, empty_disk(alloc)?))?;
-    let mut engine = open(alloc, devices, 2, 4_096)?;
-    let changes = two_rows(alloc, 7, 3)?;
-    assert_eq!(rt;
-        commit(&mut engine, &changes),
-        Some(Err(CommitError::DiskFault { faults: 1 }))
-    );
-=======
     let changes = two_rows(rt.alloc(), 7, 3)?;
     let Some(mut engine) = failing_engine(rt.alloc()) else {
         return Err(Fail::from("no engine"));
     };
     let failed = commit(&mut engine, &changes);
     assert_eq!(rt; failed, Some(Err(CommitError::DiskFault { faults: 1 })));
->>>>>>> 58d7c728939e7fc969a7ed0a8e07f807595ae0bb
     assert_eq!(rt; engine.sync_batch(), Err(SyncError::Stopped { faults: 1 }));
     Ok(())
 }
 
 /// How many words a view lists, as of how many commits.
 fn listed_words(engine: &Engine<MemDisk, MemDisk>, kind: ListingKind) -> Option<(u64, usize)> {
-    let listed = engine.listing(kind).ok()?;
-    match listed.listing {
-        Listing::Words { words } => Some((listed.number, words.as_slice().len())),
+    let NumberedListing { number, listing } = engine.listing(kind).ok()?;
+    match listing {
+        Listing::Words { words } => Some((number, words.as_slice().len())),
         _ => None,
     }
 }
 
 /// Through which commit, and up to which id, the index is flushed, as it lists.
 fn listed_config(engine: &Engine<MemDisk, MemDisk>) -> Option<(u64, DocId)> {
-    let listed = engine.listing(ListingKind::Config).ok()?;
-    match listed.listing {
+    let NumberedListing { listing, .. } = engine.listing(ListingKind::Config).ok()?;
+    match listing {
         Listing::Config { config } => Some((config.flushed, config.synced)),
         _ => None,
     }
@@ -366,25 +353,8 @@ fn flushed_between(alloc: Global) -> Option<[Option<(u64, DocId)>; 2]> {
 #[test]
 fn a_batch_is_listed(rt: HostRuntime) -> Result<(), Fail> {
     let alloc = rt.alloc();
-<<<<<<< HEAD
-    let Some(mut engine) = two_commits(alloc) else {
-        return Err(Fail::from("two commits"));
-    };
-    assert_eq!(rt; listed_config(&engine), Some((0, 0)));
-    assert_eq!(rt; engine.sync_batch(), flushes(1));
-    assert_eq!(rt; listed_config(&engine), Some((1, 1)));
-    assert_eq!(rt;
-        listed_words(&engine, ListingKind::IndexTable),
-        Some((2, 3))
-    );
-    assert_eq!(rt;
-        listed_words(&engine, ListingKind::IndexCache),
-        Some((2, 3))
-    );
-=======
     assert_eq!(rt; listed_between(alloc), Some([Some((2, 3)), Some((2, 3))]));
     assert_eq!(rt; flushed_between(alloc), Some([Some((0, 0)), Some((1, 1))]));
->>>>>>> 58d7c728939e7fc969a7ed0a8e07f807595ae0bb
     Ok(())
 }
 

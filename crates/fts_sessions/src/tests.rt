@@ -347,14 +347,28 @@ fn views_are_called_by_two_names(rt: HostRuntime) {
     }
 }
 
+const CONFIG: &str = "KEY|VALUE
+max_token_size|84
+min_token_size|3
+optimize_word|
+synced_commit|0
+synced_doc_id|0
+use_stopword|1
+OK 6 rows as of 0
+";
+
 const INDEX_REPLIES: [(&str, &str); 6] = [
     ("SYNC", "OK sync as of 0\n"),
     ("sync ;", "OK sync as of 0\n"),
+<<<<<<< HEAD
     (
         "SELECT * FROM INFORMATION_SCHEMA.INNODB_FT_CONFIG",
         "KEY|VALUE\nmax_token_size|84\nmin_token_size|3\noptimize_word|\nsynced_commit|0\n\
          synced_doc_id|0\nuse_stopword|1\nOK 6 rows as of 0\n",
     ),
+=======
+    ("SELECT * FROM INFORMATION_SCHEMA.INNODB_FT_CONFIG", CONFIG),
+>>>>>>> 7a129e37dfe1fa243ba64dae63aaf3a2e37c9931
     (
         "select * from information_schema . innodb_ft_index_table;",
         "WORD|FIRST_DOC_ID|LAST_DOC_ID|DOC_COUNT|DOC_ID|POSITION\nOK 0 rows as of 0\n",
@@ -416,10 +430,11 @@ fn found_by(alloc: Global, query: &str) -> Result<Vec<u8>, Fail> {
     Ok(reply_text(alloc, &reply)?)
 }
 
-/// The last bytes of the reply to a listing of a view.
-fn ends_with(
+/// The text of the reply to a line.
+fn told_by(
     alloc: Global,
     steps: &mut Direct<MemDisk, MemDisk>,
+<<<<<<< HEAD
     view: &str,
     want: &str,
 ) -> Result<bool, AllocError> {
@@ -430,10 +445,51 @@ fn ends_with(
             .as_slice()
             .ends_with(want.as_bytes()),
     )
+=======
+    line: &str,
+) -> Result<Vec<u8>, AllocError> {
+    let reply = executed(alloc, steps, line);
+    reply_text(alloc, &reply)
+>>>>>>> 7a129e37dfe1fa243ba64dae63aaf3a2e37c9931
 }
+
+const CACHE: &str = "POSITION
+apple|1|2|2|1|0
+apple|1|2|2|1|6
+apple|1|2|2|2|7
+pie|1|3|3|1|19
+pie|1|3|3|2|13
+pie|1|3|3|3|0
+theory|2|3|2|2|0
+theory|2|3|2|3|8
+OK 8 rows as of 3
+";
+
+/// Lines behind three INSERTs, and how their replies end.
+const FLUSHING: [(&str, &str); 6] = [
+    (
+        "SELECT * FROM INFORMATION_SCHEMA.INNODB_FT_INDEX_CACHE",
+        CACHE,
+    ),
+    ("SYNC", "OK sync as of 3\n"),
+    (
+        "SELECT * FROM INFORMATION_SCHEMA.INNODB_FT_INDEX_CACHE",
+        "POSITION\nOK 0 rows as of 3\n",
+    ),
+    (
+        "SELECT * FROM INFORMATION_SCHEMA.INNODB_FT_INDEX_TABLE",
+        "\nOK 8 rows as of 3\n",
+    ),
+    (
+        "SELECT * FROM INFORMATION_SCHEMA.INNODB_FT_CONFIG",
+        "\nsynced_commit|3\nsynced_doc_id|3\nuse_stopword|1\nOK 6 rows as of 3\n",
+    ),
+    ("SYNC", "OK sync as of 3\n"),
+];
 
 #[test]
 fn a_sync_flushes_what_is_cached(rt: HostRuntime) -> Result<(), Fail> {
+<<<<<<< HEAD
     let alloc = rt.alloc();
     let mut steps = filled(alloc)?;
     assert!(rt;
@@ -465,6 +521,13 @@ fn a_sync_flushes_what_is_cached(rt: HostRuntime) -> Result<(), Fail> {
             "\nOK 8 rows as of 3\n"
         )?
     );
+=======
+    let mut steps = filled(rt.alloc())?;
+    for (line, want) in FLUSHING {
+        let reply = told_by(rt.alloc(), &mut steps, line)?;
+        assert!(rt; reply.as_slice().ends_with(want.as_bytes()), "of {line}");
+    }
+>>>>>>> 7a129e37dfe1fa243ba64dae63aaf3a2e37c9931
     Ok(())
 }
 
