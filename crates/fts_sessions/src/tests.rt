@@ -360,15 +360,7 @@ OK 6 rows as of 0
 const INDEX_REPLIES: [(&str, &str); 6] = [
     ("SYNC", "OK sync as of 0\n"),
     ("sync ;", "OK sync as of 0\n"),
-<<<<<<< HEAD
-    (
-        "SELECT * FROM INFORMATION_SCHEMA.INNODB_FT_CONFIG",
-        "KEY|VALUE\nmax_token_size|84\nmin_token_size|3\noptimize_word|\nsynced_commit|0\n\
-         synced_doc_id|0\nuse_stopword|1\nOK 6 rows as of 0\n",
-    ),
-=======
     ("SELECT * FROM INFORMATION_SCHEMA.INNODB_FT_CONFIG", CONFIG),
->>>>>>> 7a129e37dfe1fa243ba64dae63aaf3a2e37c9931
     (
         "select * from information_schema . innodb_ft_index_table;",
         "WORD|FIRST_DOC_ID|LAST_DOC_ID|DOC_COUNT|DOC_ID|POSITION\nOK 0 rows as of 0\n",
@@ -434,23 +426,10 @@ fn found_by(alloc: Global, query: &str) -> Result<Vec<u8>, Fail> {
 fn told_by(
     alloc: Global,
     steps: &mut Direct<MemDisk, MemDisk>,
-<<<<<<< HEAD
-    view: &str,
-    want: &str,
-) -> Result<bool, AllocError> {
-    let line = format!(in alloc; "SELECT * FROM INFORMATION_SCHEMA.{view}")?;
-    let reply = executed(alloc, steps, &line);
-    Ok(
-        reply_text(alloc, &reply)?
-            .as_slice()
-            .ends_with(want.as_bytes()),
-    )
-=======
     line: &str,
 ) -> Result<Vec<u8>, AllocError> {
     let reply = executed(alloc, steps, line);
     reply_text(alloc, &reply)
->>>>>>> 7a129e37dfe1fa243ba64dae63aaf3a2e37c9931
 }
 
 const CACHE: &str = "POSITION
@@ -489,45 +468,11 @@ const FLUSHING: [(&str, &str); 6] = [
 
 #[test]
 fn a_sync_flushes_what_is_cached(rt: HostRuntime) -> Result<(), Fail> {
-<<<<<<< HEAD
-    let alloc = rt.alloc();
-    let mut steps = filled(alloc)?;
-    assert!(rt;
-        ends_with(
-            alloc,
-            &mut steps,
-            "INNODB_FT_INDEX_CACHE",
-            "\nOK 8 rows as of 3\n"
-        )?
-    );
-    let reply = executed(alloc, &mut steps, "SYNC");
-    assert_eq!(rt;
-        reply_text(alloc, &reply)?.as_slice(),
-        b"OK sync as of 3\n".as_slice()
-    );
-    assert!(rt;
-        ends_with(
-            alloc,
-            &mut steps,
-            "INNODB_FT_INDEX_CACHE",
-            "\nOK 0 rows as of 3\n"
-        )?
-    );
-    assert!(rt;
-        ends_with(
-            alloc,
-            &mut steps,
-            "INNODB_FT_INDEX_TABLE",
-            "\nOK 8 rows as of 3\n"
-        )?
-    );
-=======
     let mut steps = filled(rt.alloc())?;
     for (line, want) in FLUSHING {
         let reply = told_by(rt.alloc(), &mut steps, line)?;
         assert!(rt; reply.as_slice().ends_with(want.as_bytes()), "of {line}");
     }
->>>>>>> 7a129e37dfe1fa243ba64dae63aaf3a2e37c9931
     Ok(())
 }
 
