@@ -23,16 +23,13 @@ use Rattle.fts_entries.proofs.Commits.{one_exact, one_fits, none_fits, commits_e
 use Rattle.fts_entries.proofs.Kept.{still_exact, still_fits, same_state}
 use Rattle.fts_index.specs.declared.index.Index.{Index}
 use Rattle.fts_index.specs.Births.{AreBirths}
+use Rattle.fts_index.proofs.Births.{ids_lower}
 use Rattle.fts_index.specs.declared.sync.SyncPlan.{SyncPlan}
 use Rattle.fts_index.specs.Index.{StandsFor, Indexes, AreCommits, CanTurn, WillTurn, FitsSync, PlansBatch}
 use Rattle.fts_engine.specs.declared.kept.NextKept.{NextKept}
 use Rattle.fts_engine.specs.Indexed.{IsIndexOf, HasIndex}
 use Rattle.fts_engine.specs.Next.{WillHold}
 use Rattle.fts_engine.proofs.Accepting.{replay_accepted}
-
-ids_lower : (less low high : ℕ) (rows : List Row) → less ≤ low → RowsAscend low high rows → RowsAscend less high rows
-ids_lower less low high [] under up = omega (arith, under, up)
-ids_lower less low high (row ∷ rows) under up = (omega (arith, under, up.0), up.1)
 
 ids_order : (low high : ℕ) (rows : List Row) → RowsAscend low high rows → low ≤ high
 ids_order low high [] up = up
@@ -41,10 +38,6 @@ ids_order low high (row ∷ rows) up = (let rest = ids_order row.doc high rows u
 rows_join : (low middle high : ℕ) (rows more : List Row) → RowsAscend low middle rows → RowsAscend middle high more → RowsAscend low high (rows ++ more)
 rows_join low middle high [] more up rise = ids_lower low middle high more up rise
 rows_join low middle high (row ∷ rows) more up rise = (up.0, rows_join row.doc middle high rows more up.1 rise)
-
--- births that can come behind one id can come behind a smaller one
-pub births_lower : (less low high : ℕ) (births : List Row) → less ≤ low → AreBirths low high births → AreBirths less high births
-births_lower less low high births under are = record { ids = ids_lower less low high births under are.ids; rows = are.rows }
 
 -- the turns of one commit more
 turns-push : (rows : Rows) (commits : List Commit) (commit : Commit)

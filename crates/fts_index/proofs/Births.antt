@@ -10,7 +10,7 @@ use Rattle.fts_cache.specs.Cache.{CachedDocument, cached}
 use Rattle.fts_types.specs.Row.{Row, row_of}
 use Rattle.fts_types.specs.declared.row.Row.{Row as Kept}
 use Rattle.fts_commits.specs.Turn.{RowsAscend}
-use Rattle.fts_index.specs.Births.{CanIndex}
+use Rattle.fts_index.specs.Births.{CanIndex, AreBirths}
 use Rattle.fts_entries.specs.Words.{row_postings, rows_postings}
 use Rattle.fts_index.specs.Document.{HasWordsOf, HaveWordsOf}
 use Rattle.fts_index.specs.Index.{IdsAscendFrom, cached_row}
@@ -81,3 +81,12 @@ same_documents rules (r ∷ rs) (d ∷ ds) h =
     ap₂ (λ (one : CachedDocument) (more : List CachedDocument). one ∷ more) (λ i. record { id = h.0.id i; size = h.0.size i }) (same_documents rules rs ds h.1)
 same_documents rules [] (d ∷ ds) h = absurd h
 same_documents rules (r ∷ rs) [] h = absurd h
+
+-- ids that ascend from one on ascend from a smaller one on
+pub ids_lower : (less low high : ℕ) (rows : List Row) → less ≤ low → RowsAscend low high rows → RowsAscend less high rows
+ids_lower less low high [] under up = omega (arith, under, up)
+ids_lower less low high (row ∷ rows) under up = (omega (arith, under, up.0), up.1)
+
+-- births that can come behind one id can come behind a smaller one
+pub births_lower : (less low high : ℕ) (births : List Row) → less ≤ low → AreBirths low high births → AreBirths less high births
+births_lower less low high births under are = record { ids = ids_lower less low high births under are.ids; rows = are.rows }

@@ -16,7 +16,8 @@ use Rattle.fts_entries.proofs.Turns.{largest_behind}
 use Rattle.fts_index.specs.declared.index.Index.{Index}
 use Rattle.fts_index.specs.declared.sync.SyncPlan.{SyncPlan}
 use Rattle.fts_index.specs.Births.{AreBirths, turn_of}
-use Rattle.fts_index.specs.Index.{StandsFor, AreCommits, CanTurn}
+use Rattle.fts_index.specs.Index.{StandsFor, AreCommits, CanTurn, CanAdd}
+use Rattle.fts_index.proofs.Births.{births_lower}
 use Rattle.fts_index.specs.Made.{IsMade}
 
 turns_push : (n : ℕ) (turns : List Turn) (turn : Turn) → AreTurns n turns → RowsAscend (largest_after n turns) turn.largest turn.births → All (λ id. id ≤ largest_after n turns) turn.deaths → AreTurns n (turns ++ turn ∷ [])
@@ -35,6 +36,10 @@ made_first rules index stands some = record {
   dead_are = refl;
   positive = some;
 }
+
+-- what can come behind commits can be added to an index that stands for them
+pub can_add : (rules : Rules) (turns : List Turn) (s : IndexState) (index : Index) (turn : Turn) → StandsFor rules turns s index → CanTurn turns turn → CanAdd index turn
+can_add rules turns s index turn stands can = births_lower index.cache.last (largest_after 0 turns) turn.largest turn.births stands.last can
 
 module _ (rules : Rules) (last : ℕ) (dead : List ℕ) (old new : Index) (made : IsMade rules last dead old) where
   -- a commit that can come

@@ -14,7 +14,8 @@ use Rattle.fts_index.specs.Index.{WillTurn}
 use Rattle.fts_engine.specs.Bounds.{AreWithin}
 use Rattle.fts_engine.proofs.Accepting.{accepted_more}
 use Rattle.fts_engine.proofs.Births.{births_fit}
-use Rattle.fts_engine.proofs.Indexing.{births_lower, last_used, same_right}
+use Rattle.fts_index.proofs.Births.{births_lower}
+use Rattle.fts_engine.proofs.Indexing.{last_used, same_right}
 use Rattle.fts_engine.proofs.kept.Kept.plan.Goals as goal
 
 pub plan_commit-requires-clause-room : goal.plan_commit-requires-clause-room
