@@ -1,18 +1,20 @@
 -- New rows and the documents that have their words.
-use Rattle.std.proofs.Common.{◌≡◌, ℕ, zero, suc, ◌+◌, ◌<◌, ◌≤◌, List, [], ◌∷◌, ◌++◌, length, map, take, get_or, All, arith, refl, sym, ap, subst, ◌∙◌}
+use Rattle.std.proofs.Common.{◌≡◌, ℕ, zero, suc, ◌+◌, ◌<◌, ◌≤◌, List, [], ◌∷◌, ◌++◌, length, map, take, get_or, All, arith, refl, sym, ap, ap₂, subst, ◌∙◌}
 use Rattle.std.specs.List.{flat_map}
 use Rattle.std.proofs.lemmas.List.{take_more, map-append}
 use Rattle.std.proofs.lemmas.List.Elements.{All-head, All-tail}
 use Rattle.fts_words.specs.Indexed.{Rules}
 use Rattle.fts_ilist.specs.Spelling.{Posting}
 use Rattle.fts_cache.specs.Document.{Document, document_postings}
+use Rattle.fts_cache.specs.Cache.{CachedDocument, cached}
 use Rattle.fts_types.specs.Row.{Row, row_of}
 use Rattle.fts_types.specs.declared.row.Row.{Row as Kept}
 use Rattle.fts_commits.specs.Turn.{RowsAscend}
 use Rattle.fts_index.specs.Births.{CanIndex}
 use Rattle.fts_entries.specs.Words.{row_postings, rows_postings}
 use Rattle.fts_index.specs.Document.{HasWordsOf, HaveWordsOf}
-use Rattle.fts_index.specs.Index.{IdsAscendFrom}
+use Rattle.fts_index.specs.Index.{IdsAscendFrom, cached_row}
+use Rattle.fts_index.specs.Parts.{last_after}
 
 -- a new row by its place: its id is above the last, and it can be indexed
 pub birth_at : (last largest : ℕ) (births : List Kept) (i : ℕ) (birth : Kept) → RowsAscend last largest (map row_of births) → All CanIndex (map row_of births)
@@ -24,17 +26,6 @@ birth_at last largest (b ∷ bs) zero birth ids rows lt e =
 birth_at last largest (b ∷ bs) (suc i) birth ids rows lt e =
     let later = birth_at b.doc largest bs i birth ids.1 (All-tail CanIndex (row_of b) (map row_of bs) rows) (omega (arith, lt)) e in
     (omega (arith, ids.0, later.0), later.1)
-
--- rows behind rows
-pub rows_join : (low middle high : ℕ) (rows more : List Row) → RowsAscend low middle rows → RowsAscend middle high more → RowsAscend low high (rows ++ more)
-rows_join low middle high [] [] up more = omega (arith, up, more)
-rows_join low middle high [] (row ∷ rows) up more = (omega (arith, up, more.0), more.1)
-rows_join low middle high (row ∷ rows) more up up' = (up.0, rows_join row.doc middle high rows more up.1 up')
-
--- the id of the last document, and `last` where there is none
-abbrev pub last_after : ℕ → List Document → ℕ
-last_after last [] = last
-last_after last (document ∷ documents) = last_after document.id documents
 
 pub words_push : (rules : Rules) (rows : List Row) (documents : List Document) (row : Row) (document : Document)
     → HaveWordsOf rules rows documents → HasWordsOf rules row document → HaveWordsOf rules (rows ++ row ∷ []) (documents ++ document ∷ [])
@@ -82,3 +73,11 @@ same_postings rules word (r ∷ rs) (d ∷ ds) h =
     ∙ ap (λ (ps : List Posting). row_postings rules word r ++ ps) (same_postings rules word rs ds h.1)
 same_postings rules word [] (d ∷ ds) h = absurd h
 same_postings rules word (r ∷ rs) [] h = absurd h
+
+-- and the cache keeps them as it does these
+pub same_documents : (rules : Rules) (rows : List Row) (documents : List Document) → HaveWordsOf rules rows documents → map cached documents ≡ map (cached_row rules) rows
+same_documents rules [] [] h = refl
+same_documents rules (r ∷ rs) (d ∷ ds) h =
+    ap₂ (λ (one : CachedDocument) (more : List CachedDocument). one ∷ more) (λ i. record { id = h.0.id i; size = h.0.size i }) (same_documents rules rs ds h.1)
+same_documents rules [] (d ∷ ds) h = absurd h
+same_documents rules (r ∷ rs) [] h = absurd h

@@ -6,7 +6,7 @@ use Rattle.std.proofs.lemmas.Bool.{and_parts}
 use Rattle.std.proofs.lemmas.List.{length-map, get_or-map}
 use Rattle.std.proofs.lemmas.List.Elements.{All-head, All-tail, All-weaker, All-filter, All-map}
 use Rattle.std.proofs.lemmas.List.Kept.{AllPairs-filter}
-use Rattle.std.proofs.lemmas.List.Sorted.{All-permutation, length_permutation}
+use Rattle.std.proofs.lemmas.List.Sorted.{All-permutation, length_permutation, sum_by-IsPermutation}
 use Rattle.std.proofs.lemmas.List.Sums.{sum_by-cons, sum_by-take-le}
 use Rattle.fts_types.specs.Row.{IsRow}
 use Rattle.fts_ilist.specs.Spelling.{PositionsFrom}
@@ -127,6 +127,15 @@ module _ (rules : Rules) (columns : List (List ℕ)) (xs : List Occurrence) (lis
       sym (map_twice (λ (s : Spot). s.position) (spot_in columns) all) ∙ ap (map (λ (s : Spot). s.position)) (sym listed) ∙ map_twice (λ (s : Spot). s.position) spot_of xs in
       pairs_unmap (λ (o : Occurrence). o.position) xs (subst P same places)
 
+  sizes_map : {X : Type 0} (f : X → Spot) (ys : List X) → sum_by (λ (s : Spot). length s.word + 8) (map f ys) ≡ sum_by (λ y. length (f y).word + 8) ys
+  sizes_map f [] = refl
+  sizes_map f (y ∷ ys) =
+      omega (arith, sizes_map f ys, sum_by-cons (λ (s : Spot). length s.word + 8) (f y) (map f ys), sum_by-cons (λ z. length (f z).word + 8) y ys)
+
+  listed_size : sum_by (λ (o : Occurrence). length o.word.now + 8) xs ≡ sum_by (λ found. length (word_of columns found) + 8) (indexed_words rules columns)
+  listed_size =
+      sym (sizes_map spot_of xs) ∙ ap (sum_by (λ (s : Spot). length s.word + 8)) listed ∙ sizes_map (spot_in columns) (indexed_words rules columns)
+
   listed_few : IsRow columns → length xs ≤ 65544
   listed_few row =
       let few = few_words (indexed_words rules columns) (indexed_words_ascend columns rules) (all_low rules columns row) in
@@ -150,6 +159,7 @@ module _ (rules : Rules) (columns : List (List ℕ)) (xs : List Occurrence) (lis
   listed_sorted ys row max same sorted = record {
     sorted = by_words ys sorted;
     positions = λ word. same_positions xs ys same listed_ascend sorted word ∙ listed_positions word;
+    size = sum_by-IsPermutation (λ (o : Occurrence). length o.word.now + 8) xs ys same ∙ listed_size;
     few = omega (arith, length_permutation xs ys same, listed_few row);
     short = All-permutation (λ o. length o.word.now ≤ 255) xs ys same (listed_short max);
   }

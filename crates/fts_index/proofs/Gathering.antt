@@ -1,22 +1,42 @@
 -- What documents have by the cache is what rows have by their texts.
-use Rattle.std.proofs.Common.{◌≡◌, ◌↔◌, ℕ, ◌+◌, ◌<◌, ◌≤◌, Bool, true, false, ◌&&◌, ◌||◌, List, [], ◌∷◌, ◌++◌, map, filter, refl, sym, ap, subst, ◌∙◌, ⊎_elim, arith, All, IsTrue}
+use Rattle.std.proofs.Common.{◌≡◌, ◌↔◌, ℕ, ◌+◌, ◌-◌, ◌<◌, ◌≤◌, Bool, true, false, cond, not, ◌&&◌, ◌||◌, List, [], ◌∷◌, ◌++◌, map, filter, length, take, get_or, append_assoc, append-nil, nat_eq, Some, refl, sym, ap, ap₂, subst, ◌∙◌, ⊎_elim, arith, All, IsTrue}
 use Rattle.std.specs.Prelude.{◌≢◌, Result, Ok, Err, IfOk}
-use Rattle.std.specs.Borrow.{Bor}
-use Rattle.std.specs.List.{list_any, list_all}
+use Rattle.std.specs.List.{AllByRecursion, list_any, list_all}
+use Rattle.std.specs.Option.{unwrap_or}
+use Rattle.std.specs.Map.{keys_of, lookup}
+use Rattle.std.specs.BTreeMap.{is_at}
 use Rattle.std.specs.Str.{bytes_eq}
-use Rattle.std.proofs.lemmas.Bool.{cases_Bool, false≢true}
-use Rattle.std.proofs.lemmas.List.Elements.{All-head, All-tail}
+use Rattle.std.proofs.lemmas.Bool.{cases_Bool, false≢true, eqb-true, or_cases}
+use Rattle.std.proofs.lemmas.List.{map-append, take-append-drop}
+use Rattle.std.proofs.lemmas.List.Folds.{list_any-append}
+use Rattle.std.proofs.lemmas.Map.Text.{is_eq-slice_cmp}
+use Rattle.std.proofs.lemmas.List.Elements.{All-head, All-tail, recursion_from_All}
 use Rattle.std.proofs.lemmas.Slice.Eq.{bytes_eq-Decides}
 use Rattle.fts_words.specs.declared.placed.PlacedWord.{PlacedWord}
-use Rattle.fts_words.specs.Order.{begins_with}
+use Rattle.fts_words.specs.Order.{begins_with, byte_order}
 use Rattle.fts_words.specs.Indexed.{Rules, indexed_words, placed_words, word_of}
 use Rattle.fts_types.specs.Row.{Row}
 use Rattle.fts_ids.specs.Ids.{has, Ascend, AscendFrom}
-use Rattle.fts_ids.proofs.Ascending.{AscendFrom-sooner, same_ids}
-use Rattle.fts_commits.specs.Turn.{RowsAscend}
-use Rattle.fts_ilist.specs.Spelling.{Posting, PostingsAfter, ArePostings}
-use Rattle.fts_cache.specs.Cache.{CacheState, postings_of}
-use Rattle.fts_cache.specs.Sorted.{IsAmong}
+use Rattle.fts_ids.proofs.Ascending.{AscendFrom-sooner, same_ids, has-filter}
+use Rattle.fts_ids.proofs.Marking.{last_most}
+use Rattle.fts_commits.specs.Commit.{Rows}
+use Rattle.fts_commits.specs.Turn.{Turn, RowsAscend, AreTurns, births_of, deaths_of}
+use Rattle.fts_ilist.specs.Spelling.{Posting, PostingsAfter, ArePostings, id_at_end}
+use Rattle.fts_ilist.specs.Node.{Docs, NodesAfter}
+use Rattle.fts_ilist.specs.Packing.{joined}
+use Rattle.fts_aux.specs.Table.{IsListing, nodes_at}
+use Rattle.fts_aux.specs.Tables.{nodes}
+use Rattle.fts_lists.specs.State as lists
+use Rattle.fts_lists.specs.declared.lists.DeleteList.TheVariants.{Deleted, DeletedCache}
+use Rattle.fts_entries.specs.Entry.{IndexState, unflushed}
+use Rattle.fts_entries.specs.Batch.{largest_after}
+use Rattle.fts_entries.proofs.Filters.{leads}
+use Rattle.fts_entries.proofs.Postings.{IsBetween, rows_between}
+use Rattle.fts_entries.proofs.Turns.{two_parts, births_ascend}
+use Rattle.fts_entries.proofs.Batches.{fails}
+use Rattle.fts_index.specs.declared.index.Index.{Index}
+use Rattle.fts_index.specs.Index.{Indexes}
+use Rattle.fts_cache.specs.Cache.{postings_of}
 use Rattle.fts_meaning.specs.Leaf.{Leaf, no_leaf, of_word, of_prefix, of_words}
 use Rattle.fts_meaning.specs.Holds.{some_indexed}
 use Rattle.fts_meaning.specs.View as view
@@ -25,7 +45,7 @@ use Rattle.fts_query.specs.declared.view.Postings.{Postings}
 use Rattle.fts_query.specs.Seen.{leaf_seen, postings_seen}
 use Rattle.fts_query.proofs.Chosen.{has_where, where_ascends}
 use Rattle.fts_entries.specs.Words.{rows_postings}
-use Rattle.fts_index.specs.Gathered.{ids_of, doc_has, doc_has_words, HasPrefix, IsAskedFor, AreAskedFor, AreTold, is_needed, IsGathered}
+use Rattle.fts_index.specs.Gathered.{doc_ids, Shown, table_has, cache_has, doc_has, doc_has_words, HasPrefix, IsAskedFor, AreAskedFor, AreTold, is_needed, IsGathered}
 use Rattle.fts_index.specs.declared.gather.Gathered.{Gathered}
 use Rattle.fts_index.proofs.Found.{rows_having}
 
@@ -35,12 +55,12 @@ docs_ascend low high [] up = tt
 docs_ascend low high (row ∷ rows) up = (omega (arith, up.0), docs_ascend row.doc high rows up.1)
 
 -- the ids of postings ascend
-ids_ascend : (last : ℕ) (ps : List Posting) → PostingsAfter last ps → AscendFrom (last + 1) (ids_of ps)
+ids_ascend : (last : ℕ) (ps : List Posting) → PostingsAfter last ps → AscendFrom (last + 1) (doc_ids ps)
 ids_ascend last [] are = tt
 ids_ascend last (p ∷ ps) are = (omega (arith, are.0), ids_ascend p.id ps are.3)
 
-pub postings_ascend : (ids : List ℕ) (ps : List Posting) → ids ≡ ids_of ps → ArePostings ps → Ascend ids
-postings_ascend ids ps e are = subst Ascend (sym e) (AscendFrom-sooner 1 0 (ids_of ps) (ids_ascend 0 ps are) (omega arith))
+pub postings_ascend : (ids : List ℕ) (ps : List Posting) → ids ≡ doc_ids ps → ArePostings ps → Ascend ids
+postings_ascend ids ps e are = subst Ascend (sym e) (AscendFrom-sooner 1 0 (doc_ids ps) (ids_ascend 0 ps are) (omega arith))
 
 same_truth : (a b : Bool) → (a ≡ true → b ≡ true) → (b ≡ true → a ≡ true) → a ≡ b
 same_truth true b f g = sym (f refl)
@@ -67,57 +87,236 @@ pub told_so : {E : Type 0} (r : Result (List ℕ) E) (f g : ℕ → Bool) → If
 told_so (Ok ids) f g told same = λ id. told id ∙ same id
 told_so (Err e) f g told same = told
 
+-- ---- the ids of nodes
+
+chained : (last : ℕ) (ps rest : List Posting) → PostingsAfter last ps → AscendFrom (id_at_end last ps + 1) (doc_ids rest) → AscendFrom (last + 1) (doc_ids (ps ++ rest))
+chained last [] rest are more = more
+chained last (p ∷ ps) rest are more = (omega (arith, are.0), chained p.id ps rest are.3 more)
+
+nodes_ascend : (last : ℕ) (nodes : List Docs) → NodesAfter last nodes → AllByRecursion ArePostings nodes → AscendFrom (last + 1) (doc_ids (joined nodes))
+nodes_ascend last [] after are = tt
+nodes_ascend last ([] ∷ ns) after are = absurd after.0
+nodes_ascend last ((p ∷ ps) ∷ ns) after are =
+    (omega (arith, after.0), chained p.id ps (joined ns) are.0.3 (nodes_ascend (id_at_end p.id ps) ns after.1 are.1))
+
+-- what was read of nodes, and what is left of them
+pub record IsReading (all : List Docs) (ids : List ℕ) (rest : List Docs) : Type 0 where
+  pub same : ids ++ doc_ids (joined rest) ≡ doc_ids (joined all)
+  pub are : AllByRecursion ArePostings rest → AllByRecursion ArePostings all
+
+pub reading_begins : (all : List Docs) (ids : List ℕ) → ids ≡ [] → IsReading all ids all
+reading_begins all ids none = record { same = ap (λ (is : List ℕ). is ++ doc_ids (joined all)) none; are = λ h. h }
+
+pub reading_more : (all : List Docs) (ids : List ℕ) (rest : List Docs) (node : Docs) (left : List Docs) (new : List ℕ) → IsReading all ids rest → rest ≡ node ∷ left → ArePostings node
+    → new ≡ ids ++ doc_ids node → IsReading all new left
+reading_more all ids rest node left new reading steps are put = record {
+  same = ap (λ (is : List ℕ). is ++ doc_ids (joined left)) put
+      ∙ append_assoc ids (doc_ids node) (doc_ids (joined left))
+      ∙ ap (λ (is : List ℕ). ids ++ is) (sym (map-append (λ (p : Posting). p.id) node (joined left)) ∙ ap (λ (ns : List Docs). doc_ids (joined ns)) (sym steps))
+      ∙ reading.same;
+  are = λ h. reading.are (subst (AllByRecursion ArePostings) (sym steps) (are, h));
+}
+
+pub read_all : (all : List Docs) (ids : List ℕ) (rest : List Docs) → IsReading all ids rest → rest ≡ [] → ids ≡ doc_ids (joined all)
+read_all all ids rest reading none = sym (append-nil ids) ∙ ap (λ (ns : List Docs). ids ++ doc_ids (joined ns)) (sym none) ∙ reading.same
+
+pub read_ascend : (all : List Docs) (ids : List ℕ) (rest : List Docs) → IsReading all ids rest → rest ≡ [] → NodesAfter 0 all → Ascend ids
+read_ascend all ids rest reading none after =
+    subst Ascend (sym (read_all all ids rest reading none))
+    (AscendFrom-sooner 1 0 (doc_ids (joined all)) (nodes_ascend 0 all after (reading.are (subst (AllByRecursion ArePostings) (sym none) tt))) (omega arith))
+
+-- ---- ids without others
+
+pub none_taken : (ids taken : List ℕ) → taken ≡ [] → (id : ℕ) → has ids id ≡ (has ids id && not (has taken id))
+none_taken ids taken none id = sym (ap (λ (ts : List ℕ). has ids id && not (has ts id)) none ∙ and_true (has ids id))
+
+and_comm : (a b : Bool) → (a && b) ≡ (b && a)
+and_comm true true = refl
+and_comm true false = refl
+and_comm false true = refl
+and_comm false false = refl
+
+pub taken_out : (ids left taken : List ℕ) → left ≡ filter (λ id. not (has taken id)) ids → (id : ℕ) → has left id ≡ (has ids id && not (has taken id))
+taken_out ids left taken is id =
+    ap (λ (xs : List ℕ). has xs id) is ∙ has-filter (λ k. not (has taken k)) ids id ∙ and_comm (not (has taken id)) (has ids id)
+
+-- ids before others, by the last of the first and the first of the others
+pub before_all : (front rest : List ℕ) (first : ℕ) (more : List ℕ) → AscendFrom 0 front → rest ≡ first ∷ more → AscendFrom 0 rest → get_or front (length front - 1) 0 < first → (id : ℕ) → has front id ≡ true
+    → AscendFrom (id + 1) rest
+before_all front rest first more up is down less id there =
+    let low = last_most front id up there in
+    let both : AscendFrom 0 (first ∷ more) = subst (AscendFrom 0) is down in
+    subst (AscendFrom (id + 1)) (sym is) (omega (arith, low, less), both.1)
+
+-- ---- what the index shows is what the rows have
+
+of_id : (t d x c : Bool) → (c ≡ true → d ≡ false) → (((t && not d) && not x) || (c && not x)) ≡ ((t || c) && not (d || x))
+of_id true true true true h = refl
+of_id true true true false h = refl
+of_id true true false true h = absurd (false≢true (sym (h refl)))
+of_id true true false false h = refl
+of_id true false true true h = refl
+of_id true false true false h = refl
+of_id true false false true h = refl
+of_id true false false false h = refl
+of_id false true true true h = refl
+of_id false true true false h = refl
+of_id false true false true h = absurd (false≢true (sym (h refl)))
+of_id false true false false h = refl
+of_id false false true true h = refl
+of_id false false true false h = refl
+of_id false false false true h = refl
+of_id false false false false h = refl
+
+left_ids : (test : ℕ → Bool) (ps : List Posting) → doc_ids (filter (λ p. test p.id) ps) ≡ filter test (doc_ids ps)
+left_ids test [] = refl
+left_ids test (p ∷ ps) = by (test p.id) (left_ids test ps)
+  where
+    by : (b : Bool) → doc_ids (filter (λ q. test q.id) ps) ≡ filter test (doc_ids ps)
+        → doc_ids (cond b (p ∷ filter (λ q. test q.id) ps) (filter (λ q. test q.id) ps)) ≡ cond b (p.id ∷ filter test (doc_ids ps)) (filter test (doc_ids ps))
+    by true rest = ap (λ (ids : List ℕ). p.id ∷ ids) rest
+    by false rest = rest
+
+above_all : (low id : ℕ) (ps : List Posting) → AllByRecursion (λ p. low < p.id) ps → has (doc_ids ps) id ≡ true → low < id
+above_all low id [] h there = absurd (false≢true there)
+above_all low id (p ∷ ps) h there =
+    ⊎_elim (λ (here : nat_eq id p.id ≡ true). (let e = eqb-true id p.id here in omega (arith, e, h.0)))
+    (λ (later : has (doc_ids ps) id ≡ true). above_all low id ps h.1 later)
+    (or_cases (nat_eq id p.id) (has (doc_ids ps) id) there)
+
+pub shows_rows : (rules : Rules) (rows : Rows) (turns : List Turn) (s : IndexState) (index : Index) → Indexes rules rows turns s index
+    → (id : ℕ) (word : List ℕ) → doc_has index id word ≡ has (doc_ids (rows_postings rules word rows.list)) id
+shows_rows rules rows turns s index is id word =
+    let stands = is.stands in
+    let fits = is.fits in
+    let wait = unflushed turns s in
+    let tables = joined (s.nodes word) in
+    let cached = rows_postings rules word (births_of wait) in
+    let test : ℕ → Bool = λ q. not (has s.deleted q || has (deaths_of wait) q) in
+    let parts = two_parts 0 (take s.flushed turns) wait (subst (AreTurns 0) (sym (take-append-drop s.flushed turns)) is.commits.ascend) in
+    let ids = births_ascend s.synced wait (subst (λ n. AreTurns n wait) (sym fits.synced) parts.of_rest) in
+    let above = leads (λ p. IsBetween s.synced (largest_after s.synced wait) p.id) (λ p. s.synced < p.id) cached (λ p h. h.above)
+    (rows_between rules word s.synced (largest_after s.synced wait) (births_of wait) ids) in
+    let d : has (lists.ids_of Deleted index.lists) id ≡ has s.deleted id = ap (λ (xs : List ℕ). has xs id) stands.deleted in
+    let x : has (lists.ids_of DeletedCache index.lists) id ≡ has (deaths_of wait) id = stands.dead id in
+    let t : has (doc_ids (joined (nodes index.tables word))) id ≡ has (doc_ids tables) id = ap (λ (ns : List Docs). has (doc_ids (joined ns)) id) (stands.tables word) in
+    let k : has (doc_ids (postings_of index.cache word)) id ≡ has (doc_ids cached) id = ap (λ (ps : List Posting). has (doc_ids ps) id) (stands.cache word) in
+    ap₂ (λ (a b : Bool). a || b)
+    (ap₂ (λ (a b : Bool). a && not b) (ap₂ (λ (a b : Bool). a && not b) t d) x)
+    (ap₂ (λ (a b : Bool). a && not b) k x)
+    ∙ of_id (has (doc_ids tables) id) (has s.deleted id) (has (deaths_of wait) id) (has (doc_ids cached) id)
+    (λ there. fails (has s.deleted id) (λ gone. (let up = above_all s.synced id cached above there in let low = fits.deleted id gone in omega (arith, up, low))))
+    ∙ ap (λ (b : Bool). b && test id) (sym (list_any-append (nat_eq id) (doc_ids tables) (doc_ids cached)) ∙ ap (λ (xs : List ℕ). has xs id) (sym (map-append (λ (p : Posting). p.id) tables cached)))
+    ∙ and_comm (has (doc_ids (tables ++ cached)) id) (test id)
+    ∙ sym (has-filter test (doc_ids (tables ++ cached)) id)
+    ∙ ap (λ (xs : List ℕ). has xs id) (sym (left_ids test (tables ++ cached)))
+    ∙ ap (λ (ps : List Posting). has (doc_ids ps) id) (is.exact word)
+
+-- ---- words of tables and cache that begin so
+
+found_nodes : (es : List (List ℕ × List Docs)) (v : List ℕ) → AllByRecursion (λ e. e.1 ≢ []) es → list_any (bytes_eq v) (keys_of es) ≡ true → nodes_at v es ≡ [] → ⊥
+found_nodes [] v some e none = false≢true e
+found_nodes (e ∷ es) v some here none =
+    ⊎_elim
+    (λ (yes : bytes_eq v e.0 ≡ true). some.0 (sym (ap (λ (b : Bool). unwrap_or (cond b (Some e.1) (lookup (is_at (byte_order v)) es)) []) (is_eq-slice_cmp v e.0 ∙ yes)) ∙ none))
+    (λ (no : bytes_eq v e.0 ≡ false). found_nodes es v some.1 (sym (ap (λ (b : Bool). b || list_any (bytes_eq v) (keys_of es)) no) ∙ here)
+    (sym (ap (λ (b : Bool). unwrap_or (cond b (Some e.1) (lookup (is_at (byte_order v)) es)) []) (is_eq-slice_cmp v e.0 ∙ no)) ∙ none))
+    (cases_Bool (bytes_eq v e.0))
+
+pub listed_begin : (nodes_of : List ℕ → List Docs) (prefix : List ℕ) (listing : List (List ℕ × List Docs)) → IsListing nodes_of prefix listing → (w : List ℕ) → list_any (bytes_eq w) (keys_of listing) ≡ true
+    → begins_with prefix w ≡ true
+listed_begin nodes_of prefix listing is w there =
+    ⊎_elim (λ (yes : begins_with prefix w ≡ true). yes)
+    (λ (no : begins_with prefix w ≡ false). absurd (found_nodes listing w (recursion_from_All (λ (e : List ℕ × List Docs). e.1 ≢ []) listing is.filled) there
+    (is.exact w ∙ ap (λ (b : Bool). cond b (nodes_of w) []) no)))
+    (cases_Bool (begins_with prefix w))
+
+-- a word that is listed has nodes
+pub listed_some : (nodes_of : List ℕ → List Docs) (prefix : List ℕ) (listing : List (List ℕ × List Docs)) → IsListing nodes_of prefix listing → (w : List ℕ) → list_any (bytes_eq w) (keys_of listing) ≡ true
+    → nodes_of w ≢ []
+listed_some nodes_of prefix listing is w there none =
+    found_nodes listing w (recursion_from_All (λ (e : List ℕ × List Docs). e.1 ≢ []) listing is.filled) there
+    (is.exact w ∙ ap (λ (ns : List Docs). cond (begins_with prefix w) ns []) none ∙ nothing (begins_with prefix w))
+  where
+    no_nodes : List Docs
+    no_nodes = []
+
+    nothing : (b : Bool) → cond b no_nodes no_nodes ≡ no_nodes
+    nothing true = refl
+    nothing false = refl
+
+pub listed_all : (nodes_of : List ℕ → List Docs) (prefix : List ℕ) (listing : List (List ℕ × List Docs)) → IsListing nodes_of prefix listing → (w : List ℕ) → begins_with prefix w ≡ true → nodes_of w ≢ []
+    → list_any (bytes_eq w) (keys_of listing) ≡ true
+listed_all nodes_of prefix listing is w begins some =
+    ⊎_elim (λ (yes : list_any (bytes_eq w) (keys_of listing) ≡ true). yes)
+    (λ (no : list_any (bytes_eq w) (keys_of listing) ≡ false).
+    absurd (some (sym (is.exact w ∙ ap (λ (b : Bool). cond b (nodes_of w) []) begins) ∙ absent listing no)))
+    (cases_Bool (list_any (bytes_eq w) (keys_of listing)))
+  where
+    absent : (es : List (List ℕ × List Docs)) → list_any (bytes_eq w) (keys_of es) ≡ false → nodes_at w es ≡ []
+    absent [] e = refl
+    absent (e ∷ es) h =
+        ap (λ (b : Bool). unwrap_or (cond b (Some e.1) (lookup (is_at (byte_order w)) es)) []) (is_eq-slice_cmp w e.0 ∙ first (bytes_eq w e.0) (list_any (bytes_eq w) (keys_of es)) h)
+        ∙ absent es (second (bytes_eq w e.0) (list_any (bytes_eq w) (keys_of es)) h)
+      where
+        first : (a b : Bool) → (a || b) ≡ false → a ≡ false
+        first true b x = x
+        first false b x = refl
+
+        second : (a b : Bool) → (a || b) ≡ false → b ≡ false
+        second true b x = absurd (false≢true (sym x))
+        second false b x = x
+
 -- ---- a list of words
 
-module _ (cache : CacheState) (id : ℕ) where
-  some_word : (words : List (Bor (List ℕ))) → list_any (λ (w : Bor (List ℕ)). doc_has cache id w.now) words ≡ true
-      → (v : List ℕ) × (list_any (bytes_eq v) (map (λ (w : Bor (List ℕ)). w.now) words) ≡ true) × (doc_has cache id v ≡ true)
+module _ (shown : Shown) (id : ℕ) where
+  some_word : (words : List (List ℕ)) → list_any (shown id) words ≡ true
+      → (v : List ℕ) × (list_any (bytes_eq v) words ≡ true) × (shown id v ≡ true)
   some_word [] e = absurd (false≢true e)
   some_word (w ∷ ws) e =
       ⊎_elim
-      (λ (yes : doc_has cache id w.now ≡ true).
-      let same : bytes_eq w.now w.now ≡ true = (bytes_eq-Decides w.now w.now).1 refl in
-      (w.now, rw same refl, yes))
-      (λ (no : doc_has cache id w.now ≡ false).
+      (λ (yes : shown id w ≡ true).
+      let same : bytes_eq w w ≡ true = (bytes_eq-Decides w w).1 refl in
+      (w, rw same refl, yes))
+      (λ (no : shown id w ≡ false).
       let later = some_word ws (rw no at e) in
-      (later.0, or_right (bytes_eq later.0 w.now) _ later.1, later.2))
-      (cases_Bool (doc_has cache id w.now))
+      (later.0, or_right (bytes_eq later.0 w) _ later.1, later.2))
+      (cases_Bool (shown id w))
 
-  among_words : (v : List ℕ) (words : List (Bor (List ℕ))) → list_any (bytes_eq v) (map (λ (w : Bor (List ℕ)). w.now) words) ≡ true → doc_has cache id v ≡ true
-      → list_any (λ (w : Bor (List ℕ)). doc_has cache id w.now) words ≡ true
+  among_words : (v : List ℕ) (words : List (List ℕ)) → list_any (bytes_eq v) words ≡ true → shown id v ≡ true
+      → list_any (shown id) words ≡ true
   among_words v [] e has_it = absurd (false≢true e)
   among_words v (w ∷ ws) e has_it =
       ⊎_elim
-      (λ (yes : bytes_eq v w.now ≡ true).
-      let first : doc_has cache id w.now ≡ true = ap (doc_has cache id) (sym (same_words v w.now yes)) ∙ has_it in
+      (λ (yes : bytes_eq v w ≡ true).
+      let first : shown id w ≡ true = ap (shown id) (sym (same_words v w yes)) ∙ has_it in
       rw first refl)
-      (λ (no : bytes_eq v w.now ≡ false). or_right (doc_has cache id w.now) _ (among_words v ws (rw no at e) has_it))
-      (cases_Bool (bytes_eq v w.now))
+      (λ (no : bytes_eq v w ≡ false). or_right (shown id w) _ (among_words v ws (rw no at e) has_it))
+      (cases_Bool (bytes_eq v w))
 
   -- some word that begins so is the document's
-  pub prefix_told : (prefix : List ℕ) (words : List (Bor (List ℕ))) (some : Bool) → some ≡ list_any (λ (w : Bor (List ℕ)). doc_has cache id w.now) words
-      → ((w : List ℕ) → IsAmong w words ↔ (IsTrue (begins_with prefix w) × (postings_of cache w ≢ []))) → IsTrue some ↔ HasPrefix cache id prefix
-  prefix_told prefix words some is tells = (
+  pub prefix_told : (prefix : List ℕ) (words : List (List ℕ)) (some : Bool) → some ≡ list_any (shown id) words
+      → ((w : List ℕ) → IsTrue (list_any (bytes_eq w) words) → IsTrue (begins_with prefix w))
+      → ((w : List ℕ) → IsTrue (begins_with prefix w) → IsTrue (shown id w) → IsTrue (list_any (bytes_eq w) words)) → IsTrue some ↔ HasPrefix shown id prefix
+  prefix_told prefix words some is begin all = (
     λ e. let found = some_word words (sym is ∙ e) in
-        record { word = found.0; begins = ((tells found.0).0 found.1).0; here = found.2 },
-    λ has_prefix. let w = has_prefix.word in
-        let there : postings_of cache w ≢ [] = λ none. false≢true (ap (λ ps. has (ids_of ps) id) (sym none) ∙ has_prefix.here) in
-        is ∙ among_words w words ((tells w).1 (has_prefix.begins, there)) has_prefix.here,
+        record { word = found.0; begins = begin found.0 found.1; here = found.2 },
+    λ has_prefix. let w = has_prefix.word in is ∙ among_words w words (all w has_prefix.begins has_prefix.here) has_prefix.here,
   )
 
   -- one word more
-  pub each_more : (first : List ℕ) (words : List (List ℕ)) (word : List ℕ) → (doc_has_words cache id (first ∷ words) && doc_has cache id word) ≡ doc_has_words cache id (first ∷ (words ++ word ∷ []))
+  pub each_more : (first : List ℕ) (words : List (List ℕ)) (word : List ℕ) → (doc_has_words shown id (first ∷ words) && shown id word) ≡ doc_has_words shown id (first ∷ (words ++ word ∷ []))
   each_more first words word =
-      and_assoc (doc_has cache id first) (list_all (doc_has cache id) words) (doc_has cache id word)
-      ∙ ap (λ (b : Bool). doc_has cache id first && b) (last_one words word)
+      and_assoc (shown id first) (list_all (shown id) words) (shown id word)
+      ∙ ap (λ (b : Bool). shown id first && b) (last_one words word)
     where
       and_assoc : (a b c : Bool) → ((a && b) && c) ≡ (a && (b && c))
       and_assoc true b c = refl
       and_assoc false b c = refl
 
-      last_one : (ws : List (List ℕ)) (w : List ℕ) → (list_all (doc_has cache id) ws && doc_has cache id w) ≡ list_all (doc_has cache id) (ws ++ w ∷ [])
-      last_one [] w = sym (and_true (doc_has cache id w))
-      last_one (v ∷ vs) w = and_assoc (doc_has cache id v) (list_all (doc_has cache id) vs) (doc_has cache id w) ∙ ap (λ (b : Bool). doc_has cache id v && b) (last_one vs w)
+      last_one : (ws : List (List ℕ)) (w : List ℕ) → (list_all (shown id) ws && shown id w) ≡ list_all (shown id) (ws ++ w ∷ [])
+      last_one [] w = sym (and_true (shown id w))
+      last_one (v ∷ vs) w = and_assoc (shown id v) (list_all (shown id) vs) (shown id w) ∙ ap (λ (b : Bool). shown id v && b) (last_one vs w)
 
 module _ (texts : List (List ℕ)) (prefix : List ℕ) where
   -- a word that begins so, among the words of a row
@@ -148,27 +347,27 @@ module _ (texts : List (List ℕ)) (prefix : List ℕ) where
       (later.0, later.1, ⊎_elim (λ (yes : bytes_eq (word_of texts found) later.0 ≡ true). rw yes refl) (λ (not : bytes_eq (word_of texts found) later.0 ≡ false). rw not later.2) (cases_Bool (bytes_eq (word_of texts found) later.0))))
       (cases_Bool (begins_with prefix (word_of texts found)))
 
-module _ (rules : Rules) (rows : List Row) (cache : CacheState) (up : AscendFrom 0 (map (λ (row : Row). row.doc) rows))
-    (h : (word : List ℕ) → postings_of cache word ≡ rows_postings rules word rows) where
+module _ (rules : Rules) (rows : List Row) (shown : Shown) (up : AscendFrom 0 (map (λ (row : Row). row.doc) rows))
+    (h : (id : ℕ) (word : List ℕ) → shown id word ≡ has (doc_ids (rows_postings rules word rows)) id) where
   no_word : (w : List ℕ) → has_word rules [] w ≡ false
   unfolding placed_words
   no_word w = refl
 
-  has_at : (id : ℕ) (w : List ℕ) → doc_has cache id w ≡ has_word rules (columns_at rows id) w
+  has_at : (id : ℕ) (w : List ℕ) → shown id w ≡ has_word rules (columns_at rows id) w
   has_at id w =
-      ap (λ ps. has (ids_of ps) id) (h w)
+      h id w
       ∙ ap (λ ids. has ids id) (rows_having rules w rows)
       ∙ has_where (λ (columns : List (List ℕ)). has_word rules columns w) (no_word w) rows 0 up id
 
-  each_at : (id : ℕ) (ws : List (List ℕ)) → list_all (doc_has cache id) ws ≡ list_all (has_word rules (columns_at rows id)) ws
+  each_at : (id : ℕ) (ws : List (List ℕ)) → list_all (shown id) ws ≡ list_all (has_word rules (columns_at rows id)) ws
   each_at id [] = refl
-  each_at id (w ∷ ws) = ap (λ b. b && list_all (doc_has cache id) ws) (has_at id w) ∙ ap (λ b. has_word rules (columns_at rows id) w && b) (each_at id ws)
+  each_at id (w ∷ ws) = ap (λ b. b && list_all (shown id) ws) (has_at id w) ∙ ap (λ b. has_word rules (columns_at rows id) w && b) (each_at id ws)
 
-  words_at : (id : ℕ) (ws : List (List ℕ)) → doc_has_words cache id ws ≡ has_words rules (columns_at rows id) ws
+  words_at : (id : ℕ) (ws : List (List ℕ)) → doc_has_words shown id ws ≡ has_words rules (columns_at rows id) ws
   words_at id [] = refl
   words_at id (w ∷ ws) = each_at id (w ∷ ws)
 
-  prefix_at : (id : ℕ) (prefix : List ℕ) → HasPrefix cache id prefix ↔ IsTrue (some_indexed rules (columns_at rows id) (begins_with prefix))
+  prefix_at : (id : ℕ) (prefix : List ℕ) → HasPrefix shown id prefix ↔ IsTrue (some_indexed rules (columns_at rows id) (begins_with prefix))
   prefix_at id prefix =
       let columns = columns_at rows id in (
         λ has. begun columns prefix has.word (indexed_words rules columns) has.begins (sym (has_at id has.word) ∙ has.here),
@@ -177,7 +376,7 @@ module _ (rules : Rules) (rows : List Row) (cache : CacheState) (up : AscendFrom
       )
 
   -- a document is asked for where its row is a candidate
-  candidate_at : (leaf : Leaf) (id : ℕ) → IsAskedFor cache leaf id ↔ IsTrue (is_candidate rules (columns_at rows id) leaf)
+  candidate_at : (leaf : Leaf) (id : ℕ) → IsAskedFor shown leaf id ↔ IsTrue (is_candidate rules (columns_at rows id) leaf)
   candidate_at no_leaf id = (λ no. absurd no, λ no. absurd (false≢true no))
   candidate_at (of_word w) id = (λ here. sym (has_at id w) ∙ here, λ here. has_at id w ∙ here)
   candidate_at (of_prefix w) id = prefix_at id w
@@ -192,35 +391,35 @@ module _ (rules : Rules) (rows : List Row) (cache : CacheState) (up : AscendFrom
   no_candidate (of_words (w ∷ ws)) = refl
 
   -- whether an id is told of a leaf is whether its row is a candidate
-  told_at : (leaf : Leaf) (ids : List ℕ) → AreAskedFor cache leaf ids → (id : ℕ) → has ids id ≡ is_candidate rules (columns_at rows id) leaf
+  told_at : (leaf : Leaf) (ids : List ℕ) → AreAskedFor shown leaf ids → (id : ℕ) → has ids id ≡ is_candidate rules (columns_at rows id) leaf
   told_at leaf ids told id = same_truth (has ids id) (is_candidate rules (columns_at rows id) leaf)
       (λ e. (candidate_at leaf id).0 ((told.each id).0 e))
       (λ e. (told.each id).1 ((candidate_at leaf id).1 e))
 
   -- the ids that a leaf is told are those of its candidates
-  told_ids : (leaf : Leaf) (ids : List ℕ) → AreAskedFor cache leaf ids → ids ≡ (view.postings_of rules rows leaf).ids
+  told_ids : (leaf : Leaf) (ids : List ℕ) → AreAskedFor shown leaf ids → ids ≡ (view.postings_of rules rows leaf).ids
   told_ids leaf ids told =
       let test : List (List ℕ) → Bool = λ columns. is_candidate rules columns leaf in
       same_ids 0 0 ids (ids_where (λ (row : Row). test row.texts) rows) told.ascend (where_ascends (λ (row : Row). test row.texts) rows 0 up)
       (λ id. told_at leaf ids told id ∙ sym (has_where test (no_candidate leaf) rows 0 up id))
 
-  told_postings : (ps : List Postings) → All (λ p. AreAskedFor cache (leaf_seen p.leaf) p.ids) ps
+  told_postings : (ps : List Postings) → All (λ p. AreAskedFor shown (leaf_seen p.leaf) p.ids) ps
       → map postings_seen ps ≡ map (view.postings_of rules rows) (map (λ (p : Postings). leaf_seen p.leaf) ps)
   told_postings [] all = refl
   told_postings (p ∷ ps) all =
-      let first : AreAskedFor cache (leaf_seen p.leaf) p.ids = All-head (λ (q : Postings). AreAskedFor cache (leaf_seen q.leaf) q.ids) p ps all in
+      let first : AreAskedFor shown (leaf_seen p.leaf) p.ids = All-head (λ (q : Postings). AreAskedFor shown (leaf_seen q.leaf) q.ids) p ps all in
       let one : view.Postings = view.postings_of rules rows (leaf_seen p.leaf) in
       ap (λ (ids : List ℕ). record { leaf = leaf_seen p.leaf; ids = ids } ∷ map postings_seen ps) (told_ids (leaf_seen p.leaf) p.ids first)
-      ∙ ap (λ (rest : List view.Postings). one ∷ rest) (told_postings ps (All-tail (λ (q : Postings). AreAskedFor cache (leaf_seen q.leaf) q.ids) p ps all))
+      ∙ ap (λ (rest : List view.Postings). one ∷ rest) (told_postings ps (All-tail (λ (q : Postings). AreAskedFor shown (leaf_seen q.leaf) q.ids) p ps all))
 
-  needed_at : (id : ℕ) (ps : List Postings) → All (λ p. AreAskedFor cache (leaf_seen p.leaf) p.ids) ps
+  needed_at : (id : ℕ) (ps : List Postings) → All (λ p. AreAskedFor shown (leaf_seen p.leaf) p.ids) ps
       → is_needed ps id ≡ list_any (λ (l : Leaf). needs_texts l && is_candidate rules (columns_at rows id) l) (map (λ (p : Postings). leaf_seen p.leaf) ps)
   needed_at id [] all = refl
   needed_at id (p ∷ ps) all =
-      let first : AreAskedFor cache (leaf_seen p.leaf) p.ids = All-head (λ (q : Postings). AreAskedFor cache (leaf_seen q.leaf) q.ids) p ps all in
+      let first : AreAskedFor shown (leaf_seen p.leaf) p.ids = All-head (λ (q : Postings). AreAskedFor shown (leaf_seen q.leaf) q.ids) p ps all in
       ap (λ (b : Bool). (needs_texts (leaf_seen p.leaf) && b) || is_needed ps id) (told_at (leaf_seen p.leaf) p.ids first id)
       ∙ ap (λ (b : Bool). (needs_texts (leaf_seen p.leaf) && is_candidate rules (columns_at rows id) (leaf_seen p.leaf)) || b)
-      (needed_at id ps (All-tail (λ (q : Postings). AreAskedFor cache (leaf_seen q.leaf) q.ids) p ps all))
+      (needed_at id ps (All-tail (λ (q : Postings). AreAskedFor shown (leaf_seen q.leaf) q.ids) p ps all))
 
   none_needed : (asked : List Leaf) → list_any (λ (l : Leaf). needs_texts l && is_candidate rules [] l) asked ≡ false
   none_needed [] = refl
@@ -229,7 +428,7 @@ module _ (rules : Rules) (rows : List Row) (cache : CacheState) (up : AscendFrom
       ∙ none_needed ls
 
   -- what is told of leaves is gathered
-  pub gathers : (asked : List Leaf) (gathered : Gathered) → AreTold cache asked gathered.postings.items → Ascend gathered.looked_into
+  pub gathers : (asked : List Leaf) (gathered : Gathered) → AreTold shown asked gathered.postings.items → Ascend gathered.looked_into
       → ((id : ℕ) → has gathered.looked_into id ≡ is_needed gathered.postings.items id) → IsGathered rules rows asked gathered
   gathers asked gathered told ascend each =
       let ps = gathered.postings.items in

@@ -1,10 +1,14 @@
 mod Sorting
 mod Lowering
-mod Listing
+mod RowWords
 mod Bounds
 mod Runs
 pub mod Found
 pub mod Births
 pub mod Adding
 pub mod Gathering
-pub mod Props
+pub mod Commits
+pub mod Syncing
+pub mod Walks
+pub mod Listings
+pub mod Sizes

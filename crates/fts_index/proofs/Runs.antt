@@ -1,5 +1,5 @@
 -- A document that is made of sorted occurrences, a run of one word after another.
-use Rattle.std.proofs.Common.{◌≡◌, ◌≢◌, ⊎_elim, ℕ, suc, ◌+◌, ◌*◌, ◌<◌, ◌≤◌, Bool, true, false, cond, List, [], ◌∷◌, ◌++◌, map, filter, length, take, drop, take_while, sym, refl, ap, ◌∙◌, subst, append-nil, arith, bytes_eq, is_lt, is_eq, nat_cmp, Ordering, Less, Equal, Greater, IsSortedBy, ◌⊎◌, mul-le-mul_left, slice_get, Some}
+use Rattle.std.proofs.Common.{◌≡◌, ◌≢◌, ⊎_elim, ℕ, suc, ◌+◌, ◌*◌, ◌<◌, ◌≤◌, Bool, true, false, cond, List, [], ◌∷◌, ◌++◌, map, filter, length, sum_by, take, drop, take_while, sym, refl, ap, ◌∙◌, subst, append-nil, arith, bytes_eq, is_lt, is_eq, nat_cmp, Ordering, Less, Equal, Greater, IsSortedBy, ◌⊎◌, mul-le-mul_left, slice_get, Some}
 use Rattle.std.specs.List.{AllByRecursion, AllPairs, prefix_len}
 use Rattle.std.specs.Cmp.Lexicographic.{slice_cmp}
 use Rattle.std.specs.Ordering.{ordering_reverse}
@@ -9,6 +9,8 @@ use Rattle.std.proofs.lemmas.List.{length-map, map_push}
 use Rattle.std.proofs.lemmas.List.Elements.{recursion_from_All, filter-append}
 use Rattle.std.proofs.lemmas.List.Folds.{length-prefix_len}
 use Rattle.std.proofs.lemmas.List.Sorted.{sorted_far}
+use Rattle.std.proofs.Math.Nat.{suc-mul}
+use Rattle.std.proofs.lemmas.List.Sums.{sum_by-cons}
 use Rattle.std.proofs.lemmas.Map.Text.{is_eq-slice_cmp}
 use Rattle.fts_types.specs.Row.{IsRow, Row}
 use Rattle.fts_words.specs.Indexed.{Rules}
@@ -18,7 +20,7 @@ use Rattle.fts_cache.specs.Document.{Document, WordPositions, document_size, fou
 use Rattle.fts_cache.proofs.Queues.{which_word, is_same}
 use Rattle.fts_cache.proofs.Documents.{size_push, found_here, found_later}
 use Rattle.fts_index.specs.declared.occurrence.Occurrence.{Occurrence}
-use Rattle.fts_entries.specs.Words.{posting_at, row_postings}
+use Rattle.fts_entries.specs.Words.{posting_at, row_postings, row_size}
 use Rattle.fts_index.specs.Occurrences.{comes_before, is_of, positions_among, AreSorted}
 use Rattle.fts_index.proofs.Sorting.{ranks}
 use Rattle.fts_index.proofs.Bounds.{positions_spelled}
@@ -63,6 +65,14 @@ lengths_step false x xs us vs e = omega arith
 lengths : (p : Occurrence → Bool) (xs : List Occurrence) → length (front p xs) + length (back p xs) ≡ length xs
 lengths p [] = refl
 lengths p (x ∷ xs) = lengths_step (p x) x xs (front p xs) (back p xs) (lengths p xs)
+
+sums_step : (f : Occurrence → ℕ) (b : Bool) (x : Occurrence) (xs us vs : List Occurrence) → sum_by f us + sum_by f vs ≡ sum_by f xs → sum_by f (cond b (x ∷ us) []) + sum_by f (cond b vs (x ∷ xs)) ≡ sum_by f (x ∷ xs)
+sums_step f true x xs us vs e = omega (arith, e, sum_by-cons f x us, sum_by-cons f x xs)
+sums_step f false x xs us vs e = omega arith
+
+sums : (f : Occurrence → ℕ) (p : Occurrence → Bool) (xs : List Occurrence) → sum_by f (front p xs) + sum_by f (back p xs) ≡ sum_by f xs
+sums f p [] = refl
+sums f p (x ∷ xs) = sums_step f (p x) x xs (front p xs) (back p xs) (sums f p xs)
 
 -- ---- in order
 
@@ -123,6 +133,28 @@ different v w lt = sym (is_eq-slice_cmp v w) ∙ ap is_eq lt
 -- none of these comes before the word
 abbrev AtLeast : List ℕ → List Occurrence → Type 0
 AtLeast v xs = AllByRecursion (λ o. is_lt (slice_cmp nat_cmp o.word.now v) ≡ false) xs
+
+one_more : (n k : ℕ) → suc n * k ≡ k + n * k
+one_more n k = (let e = suc-mul n k in omega (arith, e))
+
+-- a run counts so much for each of its occurrences
+run_counts : (v : List ℕ) (xs : List Occurrence) → sum_by (λ (o : Occurrence). length o.word.now + 8) (front (is_of v) xs) ≡ length (front (is_of v) xs) * (length v + 8)
+run_counts v [] = omega arith
+run_counts v (x ∷ xs) = by (run_counts v xs) (which_word v x.word.now)
+  where
+    size : Occurrence → ℕ
+    size o = length o.word.now + 8
+
+    by : sum_by size (front (is_of v) xs) ≡ length (front (is_of v) xs) * (length v + 8) → ((bytes_eq v x.word.now ≡ true) × (v ≡ x.word.now)) ⊎ ((bytes_eq v x.word.now ≡ false) × (v ≢ x.word.now))
+        → sum_by size (cond (is_of v x) (x ∷ front (is_of v) xs) []) ≡ length (cond (is_of v x) (x ∷ front (is_of v) xs) []) * (length v + 8)
+    by rest which =
+        ⊎_elim
+        (λ (e : (bytes_eq v x.word.now ≡ true) × (v ≡ x.word.now)).
+        subst (λ (b : Bool). sum_by size (cond b (x ∷ front (is_of v) xs) []) ≡ length (cond b (x ∷ front (is_of v) xs) []) * (length v + 8)) (sym e.0)
+        (sum_by-cons size x (front (is_of v) xs) ∙ ap (λ (w : List ℕ). length w + 8 + sum_by size (front (is_of v) xs)) (sym e.1) ∙ ap (λ (n : ℕ). length v + 8 + n) rest ∙ sym (one_more (length (front (is_of v) xs)) (length v + 8))))
+        (λ (e : (bytes_eq v x.word.now ≡ false) × (v ≢ x.word.now)).
+        subst (λ (b : Bool). sum_by size (cond b (x ∷ front (is_of v) xs) []) ≡ length (cond b (x ∷ front (is_of v) xs) []) * (length v + 8)) (sym e.0) (omega arith))
+        which
 
 -- all of these come behind the word
 abbrev Behind : List ℕ → List Occurrence → Type 0
@@ -211,6 +243,7 @@ pub record IsBuilding (rules : Rules) (row : Row) (document : Document) (rest : 
   pub short : AllByRecursion (λ o. length o.word.now ≤ 255) rest
   -- 16, and 255 + 8 for each of 65,544 occurrences
   pub size : document_size document + 263 * length rest ≤ 17238088
+  pub counted : document_size document + sum_by (λ o. length o.word.now + 8) rest ≡ row_size rules row
 
 module _ (rules : Rules) (row : Row) where
   -- nothing ends behind a word
@@ -229,6 +262,7 @@ module _ (rules : Rules) (row : Row) where
         spelled = λ word. subst (PositionsFrom 0) (sym (sorted.positions word)) (positions_spelled rules row.texts word texts);
         short = recursion_from_All (λ (o : Occurrence). length o.word.now ≤ 255) xs sorted.short;
         size = omega arith;
+        counted = omega (arith, sorted.size);
       } in
       subst (λ (d : Document). IsBuilding rules row d xs) (sym new) empty
 
@@ -319,6 +353,7 @@ module _ (rules : Rules) (row : Row) where
           spelled = spelled_left;
           short = all_back (λ o. length o.word.now ≤ 255) (is_of x.word.now) (x ∷ xs) building.short;
           size = omega (arith, size_push document.words pushed, added, parts);
+          counted = omega (arith, size_push document.words pushed, building.counted, sums (λ (o : Occurrence). length o.word.now + 8) (is_of x.word.now) (x ∷ xs), run_counts x.word.now (x ∷ xs), ap (λ (n : ℕ). n * (length x.word.now + 8)) run_long);
         }
 
 -- ---- a turn of the loop

@@ -1,54 +1,73 @@
 -- What an index tells of the leaves of a query.
-use Rattle.std.specs.Prelude.{◌≡◌, ◌↔◌, ℕ, Bool, false, ◌&&◌, List, [], ◌∷◌, map, All, IsTrue}
+use Rattle.std.specs.Prelude.{◌≡◌, ◌↔◌, ℕ, Bool, false, ◌&&◌, ◌||◌, not, List, [], ◌∷◌, map, All, IsTrue}
 use Rattle.std.specs.List.{list_any, list_all}
 use Rattle.fts_words.specs.Order.{begins_with}
 use Rattle.fts_words.specs.Indexed.{Rules}
 use Rattle.fts_types.specs.Row.{Row}
 use Rattle.fts_ids.specs.Ids.{has, Ascend}
 use Rattle.fts_ilist.specs.Spelling.{Posting}
-use Rattle.fts_cache.specs.Cache.{CacheState, postings_of}
+use Rattle.fts_ilist.specs.Packing.{joined}
+use Rattle.fts_cache.specs.Cache.{postings_of}
+use Rattle.fts_aux.specs.Tables.{nodes}
+use Rattle.fts_lists.specs.State.{ids_of}
+use Rattle.fts_lists.specs.declared.lists.DeleteList.TheVariants.{Deleted, DeletedCache}
 use Rattle.fts_meaning.specs.Leaf.{Leaf, no_leaf, of_word, of_prefix, of_words}
 use Rattle.fts_meaning.specs.View as view
 use Rattle.fts_meaning.specs.View.{ids_where, is_looked_into, needs_texts}
 use Rattle.fts_query.specs.declared.view.Postings.{Postings}
 use Rattle.fts_query.specs.Seen.{leaf_seen, postings_seen}
 use Rattle.fts_index.specs.declared.gather.Gathered.{Gathered}
+use Rattle.fts_index.specs.declared.index.Index.{Index}
 
 -- the ids of postings
-abbrev pub ids_of : List Posting → List ℕ
-ids_of postings = map (λ p. p.id) postings
+abbrev pub doc_ids : List Posting → List ℕ
+doc_ids postings = map (λ p. p.id) postings
 
--- whether the document has the word
-abbrev pub doc_has : CacheState → ℕ → List ℕ → Bool
-doc_has cache id word = has (ids_of (postings_of cache word)) id
+-- whether the document has the word in the tables, and is not deleted
+abbrev pub table_has : Index → ℕ → List ℕ → Bool
+table_has index id word = (has (doc_ids (joined (nodes index.tables word))) id
+    && not (has (ids_of Deleted index.lists) id)) && not (has (ids_of DeletedCache index.lists) id)
+
+-- whether it has the word in the cache, and did not die
+abbrev pub cache_has : Index → ℕ → List ℕ → Bool
+cache_has index id word =
+    has (doc_ids (postings_of index.cache word)) id && not (has (ids_of DeletedCache index.lists) id)
+
+-- whether it has the word
+abbrev pub doc_has : Index → ℕ → List ℕ → Bool
+doc_has index id word = table_has index id word || cache_has index id word
+
+-- which documents have which words
+abbrev pub Shown : Type 0
+Shown = ℕ → List ℕ → Bool
 
 -- whether it has each of the words; where there is none, no document has them
-abbrev pub doc_has_words : CacheState → ℕ → List (List ℕ) → Bool
-doc_has_words cache id [] = false
-doc_has_words cache id (w ∷ ws) = list_all (doc_has cache id) (w ∷ ws)
+abbrev pub doc_has_words : Shown → ℕ → List (List ℕ) → Bool
+doc_has_words shown id [] = false
+doc_has_words shown id (w ∷ ws) = list_all (shown id) (w ∷ ws)
 
 -- it has a word that begins so
-pub record HasPrefix (cache : CacheState) (id : ℕ) (prefix : List ℕ) : Type 0 where
+pub record HasPrefix (shown : Shown) (id : ℕ) (prefix : List ℕ) : Type 0 where
   pub word : List ℕ
   pub begins : IsTrue (begins_with prefix word)
-  pub here : IsTrue (doc_has cache id word)
+  pub here : IsTrue (shown id word)
 
 -- the document is one for which the leaf asks
-abbrev pub IsAskedFor : CacheState → Leaf → ℕ → Type 0
-IsAskedFor cache no_leaf id = ⊥
-IsAskedFor cache (of_word w) id = IsTrue (doc_has cache id w)
-IsAskedFor cache (of_prefix w) id = HasPrefix cache id w
-IsAskedFor cache (of_words ws) id = IsTrue (doc_has_words cache id ws)
+abbrev pub IsAskedFor : Shown → Leaf → ℕ → Type 0
+IsAskedFor shown no_leaf id = ⊥
+IsAskedFor shown (of_word w) id = IsTrue (shown id w)
+IsAskedFor shown (of_prefix w) id = HasPrefix shown id w
+IsAskedFor shown (of_words ws) id = IsTrue (doc_has_words shown id ws)
 
 -- the ids are those of the documents for which the leaf asks, ascending
-pub record AreAskedFor (cache : CacheState) (leaf : Leaf) (ids : List ℕ) : Type 0 where
+pub record AreAskedFor (shown : Shown) (leaf : Leaf) (ids : List ℕ) : Type 0 where
   pub ascend : Ascend ids
-  pub each : (id : ℕ) → IsTrue (has ids id) ↔ IsAskedFor cache leaf id
+  pub each : (id : ℕ) → IsTrue (has ids id) ↔ IsAskedFor shown leaf id
 
 -- for each leaf there are the ids of the documents for which it asks
-pub record AreTold (cache : CacheState) (asked : List Leaf) (postings : List Postings) : Type 0 where
+pub record AreTold (shown : Shown) (asked : List Leaf) (postings : List Postings) : Type 0 where
   pub leaves : map (λ p. leaf_seen p.leaf) postings ≡ asked
-  pub ids : All (λ p. AreAskedFor cache (leaf_seen p.leaf) p.ids) postings
+  pub ids : All (λ p. AreAskedFor shown (leaf_seen p.leaf) p.ids) postings
 
 -- the document is one for which a leaf asks that needs texts
 abbrev pub is_needed : List Postings → ℕ → Bool

@@ -1,5 +1,5 @@
 -- What an index stands for, and what its plans do.
-use Rattle.std.specs.Prelude.{◌≡◌, ℕ, ◌<◌, ◌≤◌, List, [], ◌∷◌, map, length, take, flat_map, Option, Some, None, nat_eq}
+use Rattle.std.specs.Prelude.{◌≡◌, ℕ, ◌+◌, ◌<◌, ◌≤◌, List, [], ◌∷◌, map, length, take, flat_map, Option, Some, None, nat_eq}
 use Rattle.std.specs.List.{IsDistinct}
 use Rattle.std.specs.List.Sorted.{IsStrictlySortedBy}
 use Rattle.std.specs.Map.{keys_of}
@@ -96,12 +96,13 @@ pub record WillTurn (rules : Rules) (turn : Turn) (index : Index) (plan : Commit
   pub pending : pending_seen plan.pending ≡ pending_of turn
   pub fits : FitsIndex index plan
 
--- a batch can be installed without memory: `count` commits are covered, and `dead` has what died in them
+-- a batch can be installed without memory: the next `count` commits are covered, and `dead` has what died in them
 pub record FitsSync (index : Index) (plan : SyncPlan) : Type 0 where
   pub words : IsStrictlySortedBy byte_order (keys_of plan.nodes.items)
   pub room : tables.HasRoom index.tables plan.nodes.items
   pub after : tables.ComesAfter index.tables plan.nodes.items
   pub count : plan.count ≤ length index.pending.items
+  pub through : plan.through ≡ index.lists.flushed + plan.count
   pub ascend : Ascend plan.dead.items
   pub dead : length plan.dead.items ≤ room_of Deleted index.lists
   pub same : (id : ℕ) → has plan.dead.items id

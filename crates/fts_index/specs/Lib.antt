@@ -3,3 +3,4 @@ pub mod Document
 pub mod Births
 pub mod Index
 pub mod Gathered
+pub mod Parts

@@ -1,5 +1,5 @@
 -- The indexed words of one row, one occurrence after another.
-use Rattle.std.specs.Prelude.{◌≡◌, ℕ, ◌≤◌, Bool, List, length, map, filter, All}
+use Rattle.std.specs.Prelude.{◌≡◌, ℕ, ◌+◌, ◌≤◌, Bool, List, length, map, filter, sum_by, All}
 use Rattle.std.specs.List.Sorted.{IsSortedBy}
 use Rattle.std.specs.Ordering.{nat_cmp, is_lt, ordering_then}
 use Rattle.std.specs.Str.{bytes_eq}
@@ -46,9 +46,12 @@ is_of word occurrence = bytes_eq word occurrence.word.now
 abbrev pub positions_among : List ℕ → List Occurrence → List ℕ
 positions_among word occurrences = map (λ o. o.position) (filter (is_of word) occurrences)
 
--- the occurrences are the indexed words of the row, by the order of their bytes, and each word's by their positions
+-- the occurrences are the indexed words of the row, by the order of their bytes, and each word's by their positions; an
+-- occurrence counts its word's length and 8
 pub record AreSorted (rules : Rules) (texts : List (List ℕ)) (occurrences : List Occurrence) : Type 0 where
   pub sorted : IsSortedBy comes_before occurrences
   pub positions : (word : List ℕ) → positions_among word occurrences ≡ positions_of rules texts word
+  pub size : sum_by (λ o. length o.word.now + 8) occurrences
+      ≡ sum_by (λ found. length (word_of texts found) + 8) (indexed_words rules texts)
   pub few : length occurrences ≤ 65544
   pub short : All (λ o. length o.word.now ≤ 255) occurrences

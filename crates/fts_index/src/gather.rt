@@ -1,16 +1,23 @@
 //! What an index tells of the leaves of a query.
-ghost use Rattle.std.specs.Prelude.{◌≡◌, ◌∷◌, ◌↔◌, ℕ, IfOk, IsTrue, map};
+ghost use Rattle.std.specs.Prelude.{◌≡◌, ◌∷◌, ◌++◌, ◌+◌, ◌↔◌, ◌&&◌, ◌||◌, ℕ, not, IfOk, OnOk, IsTrue};
+ghost use Rattle.std.specs.Prelude.{map};
 ghost use Rattle.std.specs.List.{list_any};
-ghost use Rattle.fts_ids.specs.Ids.{has, Ascend};
-ghost use Rattle.fts_cache.specs.Cache.{postings_of};
-ghost use Rattle.fts_meaning.specs.Leaf.{of_prefix};
+ghost use Rattle.fts_ids.specs.Ids.{has, Ascend, AscendFrom};
+ghost use Rattle.fts_ilist.specs.Node.{NodesAfter};
+ghost use Rattle.fts_ilist.specs.Packing.{joined};
+ghost use Rattle.fts_lists.specs.State.{ids_of};
+ghost use Rattle.fts_lists.specs.declared.lists.DeleteList.TheVariants.{Deleted, DeletedCache};
 ghost use Rattle.fts_query.specs.Seen.{leaf_seen, leaves_seen};
-ghost use Rattle.fts_index.specs.Gathered.{ids_of, doc_has_words, IsAskedFor, AreAskedFor, AreTold};
-ghost use Rattle.fts_index.specs.Gathered.{is_needed};
+ghost use Rattle.fts_index.specs.Gathered.{doc_ids, doc_has_words, AreAskedFor, AreTold, HasPrefix};
+ghost use Rattle.fts_index.specs.Gathered.{is_needed, table_has, cache_has, doc_has};
 
-use fts_cache::Cache;
-use fts_ids::{IdList, both, united};
+use crate::index::Index;
+use crate::walk::words_with;
+use fts_ids::{IdList, both, united, union, without};
+use fts_ilist::{Cursor, NodeSlice};
+use fts_lists::{DeleteList, Lists};
 use fts_query::{Leaf, Postings};
+use fts_types::{DocId, Word};
 use std::alloc::{AllocError, Global};
 
 /// What an index tells of leaves.
@@ -22,29 +29,158 @@ pub struct Gathered {
     pub looked_into: IdList,
 }
 
-/// The ids of the documents that have the word. It costs them.
-fn word_ids(alloc: Global, cache: &Cache, word: &[u8]) -> Result<IdList, AllocError>
-    ensures ascend { IfOk result Ascend }
-    ensures ids { IfOk result (λ ids. ids ≡ ids_of (postings_of cache.now word.now)) }
+/// Puts the ids of documents behind others. Their positions are passed over.
+fn push_ids(ids: &mut Vec<DocId>, mut documents: Cursor<'_>) -> Result<(), AllocError>
+    ensures { OnOk result (ids.new.items ≡ ids.old.items ++ doc_ids documents.entry) }
 {
-    let mut ids = Vec::new(alloc);
-    let mut documents = cache.postings(word);
     while let Some(id) = documents.doc() {
         ids.push(id)?;
         documents.advance();
     }
-    Ok(IdList::new(ids))
+    Ok(())
 }
 
-/// For each word that begins so the ids of its documents.
-fn prefix_lists(alloc: Global, cache: &Cache, prefix: &[u8]) -> Result<Vec<IdList>, AllocError>
+/// The ids of the documents of nodes.
+fn node_ids(alloc: Global, nodes: NodeSlice<'_>) -> Result<Vec<DocId>, AllocError>
+    requires { NodesAfter 0 nodes }
+    ensures ascend { IfOk result (λ ids. Ascend ids.items) }
+    ensures ids { IfOk result (λ ids. ids.items ≡ doc_ids (joined nodes.entry)) }
+{
+    let mut ids = Vec::new(alloc);
+    for node in nodes {
+        push_ids(&mut ids, node.cursor())?;
+    }
+    Ok(ids)
+}
+
+/// The ids that are not in DELETED. It costs nothing where that is empty.
+fn without_deleted(lists: &Lists, ids: Vec<DocId>) -> Result<Vec<DocId>, AllocError>
+    requires { Ascend ids.items }
+    ensures ascend { IfOk result (λ left. Ascend left.items) }
+    ensures each { IfOk result (λ left. (id : ℕ) → has left.items id
+        ≡ (has ids.items id && not (has (ids_of Deleted lists.now) id))) }
+{
+    if lists.is_empty(DeleteList::Deleted) {
+        return Ok(ids);
+    }
+    without(*ids.allocator(), &ids, lists.deleted())
+}
+
+/// The ids that are not in DELETED_CACHE, each tested by itself.
+fn left_alive(alloc: Global, lists: &Lists, ids: &[DocId]) -> Result<Vec<DocId>, AllocError>
+    requires { Ascend ids.now }
+    ensures ascend { IfOk result (λ left. Ascend left.items) }
+    ensures each { IfOk result (λ left. (id : ℕ) → has left.items id
+        ≡ (has ids.now id && not (has (ids_of DeletedCache lists.now) id))) }
+{
+    let mut left = Vec::new(alloc);
+    for id in ids {
+        if !lists.contains(DeleteList::DeletedCache, *id) {
+            left.push(*id)?;
+        }
+    }
+    Ok(left)
+}
+
+/// The ids that are not in DELETED_CACHE. It costs nothing where that is empty.
+fn without_dead(lists: &Lists, ids: Vec<DocId>) -> Result<IdList, AllocError>
+    requires { Ascend ids.items }
+    ensures ascend { IfOk result Ascend }
+    ensures each { IfOk result (λ left. (id : ℕ) → has left id
+        ≡ (has ids.items id && not (has (ids_of DeletedCache lists.now) id))) }
+{
+    if lists.is_empty(DeleteList::DeletedCache) {
+        return Ok(IdList::new(ids));
+    }
+    Ok(IdList::new(left_alive(*ids.allocator(), lists, &ids)?))
+}
+
+/// The ids of the documents that have the word in the tables and are not deleted.
+fn table_ids(index: &Index, word: &[u8]) -> Result<IdList, AllocError>
+    ensures ascend { IfOk result Ascend }
+    ensures each { IfOk result (λ ids. (id : ℕ) → has ids id ≡ table_has index.now id word.now) }
+{
+    let ids = node_ids(index.alloc, index.tables.nodes_of(word))?;
+    without_dead(&index.lists, without_deleted(&index.lists, ids)?)
+}
+
+/// The ids of the documents that have the word in the cache and did not die.
+fn cache_ids(index: &Index, word: &[u8]) -> Result<IdList, AllocError>
+    ensures ascend { IfOk result Ascend }
+    ensures each { IfOk result (λ ids. (id : ℕ) → has ids id ≡ cache_has index.now id word.now) }
+{
+    let mut ids = Vec::new(index.alloc);
+    push_ids(&mut ids, index.cache.postings(word))?;
+    without_dead(&index.lists, ids)
+}
+
+/// Whether all ids stand before others.
+fn stands_before(front: &[DocId], rest: &[DocId]) -> bool
+    requires front { Ascend front.now }
+    requires rest { Ascend rest.now }
+    ensures { IsTrue result → (id : ℕ) → IsTrue (has front.now id) → AscendFrom (id + 1) rest.now }
+{
+    if front.is_empty() {
+        return true;
+    }
+    let last = front[front.len() - 1];
+    match rest {
+        [] => true,
+        [first, ..] => last < *first,
+    }
+}
+
+/// The ids that one of two lists has. Where all of the first stand before those of the second, it
+/// costs a copy of these.
+fn joined_ids(alloc: Global, front: IdList, rest: IdList) -> Result<IdList, AllocError>
+    ensures ascend { IfOk result Ascend }
+    ensures each { IfOk result (λ ids. (id : ℕ) → has ids id ≡ (has front id || has rest id)) }
+{
+    if stands_before(front.as_slice(), rest.as_slice()) {
+        let mut ids = front.into_vec();
+        ids.extend_from_slice(rest.as_slice())?;
+        return Ok(IdList::new(ids));
+    }
+    Ok(IdList::new(union(
+        alloc,
+        front.as_slice(),
+        rest.as_slice(),
+    )?))
+}
+
+/// The ids of the documents that have the word. It costs them.
+fn word_ids(index: &Index, word: &[u8]) -> Result<IdList, AllocError>
+    ensures ascend { IfOk result Ascend }
+    ensures each { IfOk result (λ ids. (id : ℕ) → has ids id ≡ doc_has index.now id word.now) }
+{
+    let flushed = table_ids(index, word)?;
+    let cached = cache_ids(index, word)?;
+    joined_ids(index.alloc, flushed, cached)
+}
+
+/// For each word of the tables that begins so the ids of its documents.
+fn table_lists(index: &Index, prefix: &[u8]) -> Result<Vec<IdList>, AllocError>
     ensures { IfOk result (λ lists. (id : ℕ)
         → IsTrue (list_any (λ list. has list id) lists.items)
-        ↔ IsAskedFor cache.now (of_prefix prefix.now) id) }
+        ↔ HasPrefix (table_has index.now) id prefix.now) }
 {
-    let mut lists = Vec::new(alloc);
-    for word in &cache.prefix(prefix)? {
-        lists.push(word_ids(alloc, cache, word)?)?;
+    let empty = Word::copied(index.alloc, b"")?;
+    let mut lists = Vec::new(index.alloc);
+    for entry in &words_with(index.alloc, &index.tables, prefix, &empty)? {
+        lists.push(table_ids(index, entry.0.as_bytes())?)?;
+    }
+    Ok(lists)
+}
+
+/// For each word of the cache that begins so the ids of its documents.
+fn cache_lists(index: &Index, prefix: &[u8]) -> Result<Vec<IdList>, AllocError>
+    ensures { IfOk result (λ lists. (id : ℕ)
+        → IsTrue (list_any (λ list. has list id) lists.items)
+        ↔ HasPrefix (cache_has index.now) id prefix.now) }
+{
+    let mut lists = Vec::new(index.alloc);
+    for word in &index.cache.prefix(prefix)? {
+        lists.push(cache_ids(index, word)?)?;
     }
     Ok(lists)
 }
@@ -62,60 +198,62 @@ fn any_of(alloc: Global, lists: &[IdList]) -> Result<IdList, AllocError>
     united(alloc, &all)
 }
 
-/// The ids of the documents that have the first word and each of the others.
-fn each_of(
-    alloc: Global,
-    cache: &Cache,
-    first: &[u8],
-    others: &[Vec<u8>],
-) -> Result<IdList, AllocError>
+/// The ids of the documents that have a word that begins so.
+fn prefix_ids(index: &Index, prefix: &[u8]) -> Result<IdList, AllocError>
     ensures ascend { IfOk result Ascend }
     ensures each { IfOk result (λ ids. (id : ℕ)
-        → has ids id ≡ doc_has_words cache.now id (first.now ∷ map (λ w. w.items) others.now)) }
+        → IsTrue (has ids id) ↔ HasPrefix (doc_has index.now) id prefix.now) }
 {
-    let mut ids = word_ids(alloc, cache, first)?;
+    let flushed = any_of(index.alloc, &table_lists(index, prefix)?)?;
+    let cached = any_of(index.alloc, &cache_lists(index, prefix)?)?;
+    joined_ids(index.alloc, flushed, cached)
+}
+
+/// The ids of the documents that have the first word and each of the others.
+fn each_of(index: &Index, first: &[u8], others: &[Vec<u8>]) -> Result<IdList, AllocError>
+    ensures ascend { IfOk result Ascend }
+    ensures each { IfOk result (λ ids. (id : ℕ)
+        → has ids id ≡ doc_has_words (doc_has index.now) id (first.now ∷ map (λ w. w.items) others.now)) }
+{
+    let mut ids = word_ids(index, first)?;
     for word in others {
-        ids = both(alloc, &ids, &word_ids(alloc, cache, word)?)?;
+        ids = both(index.alloc, &ids, &word_ids(index, word)?)?;
     }
     Ok(ids)
 }
 
 /// The ids of the documents that have each of the words; none where there is no word.
-fn words_ids(alloc: Global, cache: &Cache, words: &[Vec<u8>]) -> Result<IdList, AllocError>
+fn words_ids(index: &Index, words: &[Vec<u8>]) -> Result<IdList, AllocError>
     ensures ascend { IfOk result Ascend }
     ensures each { IfOk result (λ ids. (id : ℕ)
-        → has ids id ≡ doc_has_words cache.now id (map (λ w. w.items) words.now)) }
+        → has ids id ≡ doc_has_words (doc_has index.now) id (map (λ w. w.items) words.now)) }
 {
     match words {
-        [] => Ok(IdList::new(Vec::new(alloc))),
-        [first, others @ ..] => each_of(alloc, cache, first, others),
+        [] => Ok(IdList::new(Vec::new(index.alloc))),
+        [first, others @ ..] => each_of(index, first, others),
     }
 }
 
 /// The ids of the documents for which a leaf asks.
-fn leaf_ids(alloc: Global, cache: &Cache, leaf: &Leaf) -> Result<IdList, AllocError>
-    ensures { IfOk result (λ ids. AreAskedFor cache.now (leaf_seen leaf.now) ids) }
+fn leaf_ids(index: &Index, leaf: &Leaf) -> Result<IdList, AllocError>
+    ensures { IfOk result (λ ids. AreAskedFor (doc_has index.now) (leaf_seen leaf.now) ids) }
 {
     match leaf {
-        Leaf::Nothing => Ok(IdList::new(Vec::new(alloc))),
-        Leaf::Word(word) => word_ids(alloc, cache, word),
-        Leaf::Prefix(prefix) => any_of(alloc, &prefix_lists(alloc, cache, prefix)?),
-        Leaf::Words(words) => words_ids(alloc, cache, words.as_slice()),
+        Leaf::Nothing => Ok(IdList::new(Vec::new(index.alloc))),
+        Leaf::Word(word) => word_ids(index, word),
+        Leaf::Prefix(prefix) => prefix_ids(index, prefix),
+        Leaf::Words(words) => words_ids(index, words.as_slice()),
     }
 }
 
 /// For each leaf the ids of the documents for which it asks.
-pub(crate) fn told(
-    alloc: Global,
-    cache: &Cache,
-    leaves: Vec<Leaf>,
-) -> Result<Vec<Postings>, AllocError>
-    ensures { IfOk result
-        (λ postings. AreTold cache.now (leaves_seen leaves.items) postings.items) }
+pub(crate) fn told(index: &Index, leaves: Vec<Leaf>) -> Result<Vec<Postings>, AllocError>
+    ensures { IfOk result (λ postings.
+        AreTold (doc_has index.now) (leaves_seen leaves.items) postings.items) }
 {
-    let mut postings = Vec::new(alloc);
+    let mut postings = Vec::new(index.alloc);
     for leaf in leaves {
-        let ids = leaf_ids(alloc, cache, &leaf)?;
+        let ids = leaf_ids(index, &leaf)?;
         postings.push(Postings { leaf, ids })?;
     }
     Ok(postings)

@@ -12,10 +12,15 @@
 mod document;
 mod gather;
 mod index;
+mod listing;
 mod occurrence;
+mod pending;
+mod sync;
+mod walk;
 
 pub use gather::Gathered;
 pub use index::{CommitPlan, Index};
+pub use sync::SyncPlan;
 
 #[cfg(test)]
 mod tests;

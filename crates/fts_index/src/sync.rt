@@ -1,5 +1,18 @@
+//! What a batch takes of an index.
+ghost use Rattle.std.specs.Prelude.{◌≡◌, ◌<◌, ◌≤◌, ◌&&◌, ◌||◌, ℕ, length, drop, map, max, not, IfOk};
+ghost use Rattle.std.specs.Prelude.{nat_le};
+ghost use Rattle.fts_ids.specs.Ids.{has, Ascend};
+ghost use Rattle.fts_lists.specs.State.{ids_of, room_of};
+ghost use Rattle.fts_lists.specs.declared.lists.DeleteList.TheVariants.{Deleted, DeletedCache};
+ghost use Rattle.fts_index.specs.Index.{pending_seen};
+ghost use Rattle.fts_index.specs.Parts.{counted_within, deaths_through, MovesDead};
+
+use crate::pending::Pending;
 use fts_ilist::Nodes;
+use fts_lists::{DeleteList, Lists};
 use fts_types::DocId;
+use std::alloc::{AllocError, Global};
+use std::collections::VecDeque;
 
 /// A batch: what leaves the cache for the tables. Its room is made.
 #[derive(Drop)]
@@ -12,4 +25,99 @@ pub struct SyncPlan {
     pub(crate) nodes: Nodes,
     // What died in the commits covered, ascending.
     pub(crate) dead: Vec<DocId>,
+}
+
+impl SyncPlan {
+    /// Through which commit the index is flushed with this batch.
+    pub fn through(&self) -> u64
+        ensures { result ≡ self.now.through }
+    {
+        self.through
+    }
+}
+
+/// How many of the first commits a batch covers: as many as have at most so many births together,
+/// and at least one.
+pub(crate) fn covers(limit: u32, pending: &VecDeque<Pending>) -> usize
+    requires { 0 < length pending.now.items }
+    ensures count { result ≡ max 1 (counted_within limit 0 (map pending_seen pending.now.items)) }
+    ensures within { result ≤ length pending.now.items }
+{
+    let mut left = u64::from(limit);
+    for place in 0..pending.len() {
+        let births = pending[place].births as u64;
+        if births > left {
+            return place.max(1);
+        }
+        left -= births;
+    }
+    pending.len()
+}
+
+/// What died in the first commits, in their order.
+fn deaths_of(
+    alloc: Global,
+    pending: &VecDeque<Pending>,
+    count: usize,
+) -> Result<Vec<DocId>, AllocError>
+    requires { count ≤ length pending.now.items }
+    ensures { IfOk result (λ deaths. deaths.items ≡ deaths_through count pending.now.items) }
+{
+    let mut deaths = Vec::new(alloc);
+    for place in 0..count {
+        deaths.extend_from_slice(&pending[place].deaths)?;
+    }
+    Ok(deaths)
+}
+
+/// What died in the first commits, ascending. It costs a sort of these ids.
+pub(crate) fn covered_deaths(
+    alloc: Global,
+    pending: &VecDeque<Pending>,
+    count: usize,
+) -> Result<Vec<DocId>, AllocError>
+    requires { count ≤ length pending.now.items }
+    ensures ascend { IfOk result (λ dead. Ascend dead.items) }
+    ensures each { IfOk result (λ dead. (id : ℕ)
+        → has dead.items id ≡ has (deaths_through count pending.now.items) id) }
+{
+    let mut dead = deaths_of(alloc, pending, count)?;
+    dead.sort_unstable();
+    dead.dedup();
+    Ok(dead)
+}
+
+/// Takes the first commits out.
+pub(crate) fn pop_covered(pending: &mut VecDeque<Pending>, count: usize)
+    requires { count ≤ length pending.old.items }
+    ensures { pending.new.items ≡ drop count pending.old.items }
+{
+    for _ in 0..count {
+        let _ = pending.pop_front();
+    }
+}
+
+/// The first of ascending ids, up to one.
+fn up_to(ids: &[DocId], last: DocId) -> &[DocId]
+    requires { Ascend ids.now }
+    ensures ascend { Ascend result.now }
+    ensures each { (id : ℕ) → has result.now id ≡ (nat_le id last && has ids.now id) }
+    ensures few { length result.now ≤ length ids.now }
+{
+    let count = ids.iter().take_while(|id| **id <= last).count();
+    ids.split_at(count).0
+}
+
+/// What died in the commits of a batch leaves DELETED_CACHE, and what of it was flushed before
+/// enters DELETED. It takes no memory.
+pub(crate) fn move_dead(lists: &mut Lists, dead: &[DocId])
+    requires ascend { Ascend dead.now }
+    requires room { length dead.now ≤ room_of Deleted lists.old }
+    ensures { MovesDead lists.old dead.now lists.new }
+{
+    // That the ids of DELETED ascend is known once they are read.
+    let _deleted = lists.deleted();
+    let flushed = up_to(dead, lists.synced());
+    lists.add_all(DeleteList::Deleted, flushed);
+    lists.purge(DeleteList::DeletedCache, dead);
 }

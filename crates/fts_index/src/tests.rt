@@ -6,6 +6,7 @@ ghost use Rattle.fts_index.specs.Births.{CanIndex, AreBirths};
 ghost use Rattle.fts_index.specs.Index.{Indexes};
 
 use crate::Index;
+use fts_listing::{Listing, ListingKind};
 use fts_query::Leaf;
 use fts_types::{Names, Row, RowTexts, Settings, Texts};
 use std::alloc::Global;
@@ -67,18 +68,28 @@ fn later_rows(rt: &impl Abort, alloc: Global) -> Result<Vec<Row>, Fail>
 }
 
 // Commits the rows.
-fn commit(index: &mut Index, settings: &Settings, births: &[Row]) -> Result<(), Fail>
-    requires { (rows : Rows) × (largest : ℕ) × Indexes (rules_of settings.now) rows index.old
-        × AreBirths rows.largest largest (map row_of births.now) }
-    ensures { OnOk result ((rows : Rows) (largest : ℕ)
-        → Indexes (rules_of settings.now) rows index.old
-        → AreBirths rows.largest largest (map row_of births.now)
-        → Indexes (rules_of settings.now)
-        (record { list = rows.list ++ map row_of births.now; largest = largest }) index.new) }
-{
-    let plan = index.plan_commit(settings, births)?;
+fn commit(
+    index: &mut Index,
+    settings: &Settings,
+    births: &[Row],
+    deaths: &[u64],
+    largest: u64,
+) -> Result<(), Fail> {
+    let plan = index.plan_commit(settings, births, deaths, largest)?;
     index.install_commit(plan);
     Ok(())
+}
+
+// Makes the next batch, and says through which commit the index is flushed with it.
+fn sync(index: &mut Index, batch_docs: u32) -> Result<Option<u64>, Fail> {
+    match index.plan_sync(batch_docs)? {
+        Some(plan) => {
+            let through = plan.through();
+            index.install_sync(plan);
+            Ok(Some(through))
+        }
+        None => Ok(None),
+    }
 }
 
 // The index of two commits.
@@ -87,8 +98,8 @@ fn filled(rt: &impl Abort, alloc: Global) -> Result<Index, Fail> {
     let first = first_rows(rt, alloc)?;
     let later = later_rows(rt, alloc)?;
     let mut index = Index::new(alloc);
-    commit(&mut index, &settings, &first)?;
-    commit(&mut index, &settings, &later)?;
+    commit(&mut index, &settings, &first, &[], 4)?;
+    commit(&mut index, &settings, &later, &[], 900)?;
     Ok(index)
 }
 
@@ -228,5 +239,109 @@ fn leaves_are_told_in_their_order(rt: HostRuntime) -> Result<(), Fail> {
         _ => assert!(rt; false, "five leaves"),
     }
     assert_eq!(rt; gathered.looked_into.as_slice(), [3, 4].as_slice());
+    Ok(())
+}
+
+// The index of the commits `apple` and `apple pie`.
+fn with_apples(rt: &impl Abort, alloc: Global) -> Result<Index, Fail> {
+    let settings = settings(alloc);
+    let mut index = Index::new(alloc);
+    let first = vec![in alloc; row(rt, alloc, 1, &[b"apple"])?]?;
+    let second = vec![in alloc; row(rt, alloc, 2, &[b"apple pie"])?]?;
+    commit(&mut index, &settings, &first, &[], 1)?;
+    commit(&mut index, &settings, &second, &[], 2)?;
+    Ok(index)
+}
+
+// What is listed: a line for each word, with the number of its groups and of its documents.
+fn lists(
+    rt: &impl Abort,
+    alloc: Global,
+    index: &Index,
+    kind: ListingKind,
+    expected: &[(&[u8], usize, usize)],
+) -> Result<(), Fail> {
+    let listing = index.listing(&settings(alloc), kind)?;
+    let Listing::Words { words } = listing else {
+        assert!(rt; false, "words");
+        return Ok(());
+    };
+    assert_eq!(rt; words.as_slice().len(), expected.len());
+    for (found, row) in words.as_slice().iter().zip(expected.iter()) {
+        let mut documents = 0;
+        for node in found.nodes() {
+            documents += node.count();
+        }
+        assert_eq!(rt;
+            (found.word().as_bytes(), found.nodes().len(), documents),
+            *row
+        );
+    }
+    Ok(())
+}
+
+#[test]
+fn a_search_is_the_same_before_and_behind_batches(rt: HostRuntime) -> Result<(), Fail> {
+    let alloc = rt.alloc();
+    let mut index = with_apples(&rt, alloc)?;
+    for through in [Some(1), Some(2), None] {
+        finds_word(&rt, alloc, &index, b"apple", &[1, 2])?;
+        finds_word(&rt, alloc, &index, b"pie", &[2])?;
+        finds_prefix(&rt, alloc, &index, b"", &[1, 2])?;
+        finds_prefix(&rt, alloc, &index, b"p", &[2])?;
+        assert_eq!(rt; sync(&mut index, 1)?, through);
+    }
+    finds_word(&rt, alloc, &index, b"apple", &[1, 2])?;
+    finds_prefix(&rt, alloc, &index, b"", &[1, 2])?;
+    Ok(())
+}
+
+#[test]
+fn batches_have_their_own_nodes(rt: HostRuntime) -> Result<(), Fail> {
+    let alloc = rt.alloc();
+    let mut index = with_apples(&rt, alloc)?;
+    lists(&rt, alloc, &index, ListingKind::IndexTable, &[])?;
+    let both: [(&[u8], usize, usize); 2] = [(b"apple", 1, 2), (b"pie", 1, 1)];
+    lists(&rt, alloc, &index, ListingKind::IndexCache, &both)?;
+    sync(&mut index, 1)?;
+    sync(&mut index, 1)?;
+    let nodes: [(&[u8], usize, usize); 2] = [(b"apple", 2, 2), (b"pie", 1, 1)];
+    lists(&rt, alloc, &index, ListingKind::IndexTable, &nodes)?;
+    lists(&rt, alloc, &index, ListingKind::IndexCache, &[])?;
+    Ok(())
+}
+
+// A commit without births rides along, and one above the limit is a batch of its own.
+#[test]
+fn a_batch_covers_what_fits(rt: HostRuntime) -> Result<(), Fail> {
+    let alloc = rt.alloc();
+    let settings = settings(alloc);
+    let mut index = with_apples(&rt, alloc)?;
+    commit(&mut index, &settings, &[], &[1], 2)?;
+    assert_eq!(rt; sync(&mut index, 1)?, Some(1));
+    finds_word(&rt, alloc, &index, b"apple", &[2])?;
+    assert_eq!(rt; sync(&mut index, 1)?, Some(3));
+    finds_word(&rt, alloc, &index, b"apple", &[2])?;
+    assert_eq!(rt; sync(&mut index, 1)?, None);
+    commit(&mut index, &settings, &first_rows(&rt, alloc)?, &[], 4)?;
+    assert_eq!(rt; sync(&mut index, 1)?, Some(4));
+    finds_word(&rt, alloc, &index, b"pear", &[3, 4])?;
+    Ok(())
+}
+
+#[test]
+fn the_cache_counts_occurrences(rt: HostRuntime) -> Result<(), Fail> {
+    let alloc = rt.alloc();
+    let mut text = Vec::new(alloc);
+    for _ in 0..82 {
+        text.extend_from_slice(b"pear ")?;
+    }
+    let births = vec![in alloc; row(&rt, alloc, 7, &[text.as_slice()])?]?;
+    let mut index = Index::new(alloc);
+    assert_eq!(rt; index.cache_size(), 0);
+    commit(&mut index, &settings(alloc), &births, &[], 7)?;
+    assert_eq!(rt; index.cache_size(), 1_000);
+    sync(&mut index, 1)?;
+    assert_eq!(rt; index.cache_size(), 0);
     Ok(())
 }

@@ -7,7 +7,7 @@ use Rattle.fts_index.proofs.gather.each_of.Goals as goal
 
 pub loop-word-preserved : goal.loop-word-preserved
 loop-word-preserved c =
-    let cache = c.args.cache.now in
+    let shown = doc_has c.args.index.now in
     let others = c.args.others.now in
     let i = c.loop-word.word-index in
     let word = c.word-item.result in
@@ -18,8 +18,8 @@ loop-word-preserved c =
       ascend = c.in_ok-ids-2.ensures.ascend;
       each = λ id. c.in_ok-ids-2.ensures.each id
           ∙ ap (λ b. b && has c.in_ok-word_ids.field-0 id) (c.loop-word.invariant.each id)
-          ∙ ap (λ ids. doc_has_words cache id (c.args.first.now ∷ before) && has ids id) c.in_ok-word_ids.ensures.ids
-          ∙ ap (λ w. doc_has_words cache id (c.args.first.now ∷ before) && doc_has cache id w) c.deref.ensures.value
-          ∙ each_more cache id c.args.first.now before word.items
-          ∙ ap (λ ws. doc_has_words cache id (c.args.first.now ∷ ws)) (sym more);
+          ∙ ap (λ b. doc_has_words shown id (c.args.first.now ∷ before) && b) (c.in_ok-word_ids.ensures.each id)
+          ∙ ap (λ w. doc_has_words shown id (c.args.first.now ∷ before) && shown id w) c.deref.ensures.value
+          ∙ each_more shown id c.args.first.now before word.items
+          ∙ ap (λ ws. doc_has_words shown id (c.args.first.now ∷ ws)) (sym more);
     }

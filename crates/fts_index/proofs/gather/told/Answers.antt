@@ -3,12 +3,12 @@ use Rattle.std.proofs.lemmas.List.{map-append, append_assoc}
 use Rattle.std.proofs.lemmas.List.Elements.{All-push}
 use Rattle.fts_query.specs.declared.view.Postings.{Postings}
 use Rattle.fts_query.specs.Seen.{leaf_seen, leaves_seen}
-use Rattle.fts_index.specs.Gathered.{AreAskedFor}
+use Rattle.fts_index.specs.Gathered.{doc_has, AreAskedFor}
 use Rattle.fts_index.proofs.gather.told.Goals as goal
 
 pub loop-leaf-preserved : goal.loop-leaf-preserved
 loop-leaf-preserved c =
-    let asked : Postings → Type 0 = λ p. AreAskedFor c.args.cache.now (leaf_seen p.leaf) p.ids in
+    let asked : Postings → Type 0 = λ p. AreAskedFor (doc_has c.args.index.now) (leaf_seen p.leaf) p.ids in
     let old = c.loop-leaf.postings.items in
     let rest = c.next.new.self.rest.items in
     let one : Postings = record { leaf = c.in-Some.leaf; ids = c.in_ok-ids.ids } in

@@ -1,7 +1,7 @@
 use Rattle.std.proofs.Common.{ap, ◌∙◌}
 use Rattle.fts_token.specs.Left.{indexed_words_left}
 use Rattle.fts_types.specs.Rules.{rules_of}
-use Rattle.fts_index.proofs.Listing.{listing_begins, listing_lies, listing_more}
+use Rattle.fts_index.proofs.RowWords.{listing_begins, listing_lies, listing_more}
 use Rattle.fts_index.proofs.occurrence.listed.Goals as goal
 
 pub loop-found-init : goal.loop-found-init

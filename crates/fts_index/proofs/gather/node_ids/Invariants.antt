@@ -1,0 +1,9 @@
+use Rattle.fts_index.proofs.Gathering.{IsReading}
+use Rattle.fts_index.proofs.gather.node_ids.Given as goal
+
+abbrev pub invariant-loop-node : goal.invariant-loop-node
+invariant-loop-node l = record {
+  can_next : (goal.iterator-loop-node).can_next l.node-iterator;
+  is_finite : (goal.iterator-loop-node).is_finite l.node-iterator;
+  reading : IsReading l.fn.nodes l.ids.items l.node-iterator;
+}

@@ -1,8 +1,0 @@
-use Rattle.std.proofs.Common.{◌≡◌, ℕ, take}
-use Rattle.std.specs.List.{list_any}
-use Rattle.fts_ids.specs.Ids.{has}
-use Rattle.fts_index.specs.Gathered.{doc_has}
-use Rattle.fts_index.proofs.gather.prefix_lists.Given as goal
-
-abbrev pub invariant-loop-word : goal.invariant-loop-word
-invariant-loop-word l = (id : ℕ) → list_any (λ list. has list id) l.lists.items ≡ list_any (λ w. doc_has l.fn.cache id w.now) (take l.word-index l.word-items)
