@@ -8,3 +8,6 @@ pub mod Single
 pub mod Steps
 pub mod Causes
 pub mod Candidates
+pub mod Indexing
+pub mod Props
+pub mod Syncing

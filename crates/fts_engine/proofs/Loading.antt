@@ -18,7 +18,8 @@ use Rattle.fts_rows.specs.declared.error.PlanError.TheVariants.{NoMemory, Refuse
 use Rattle.fts_rows.specs.Refusal.{IsNoPlan}
 use Rattle.fts_steps.specs.State.{State, payloads, with_commits, IsSound}
 use Rattle.fts_engine.specs.declared.kept.Kept.{Kept}
-use Rattle.fts_engine.specs.Kept.{kept_settings, kept_rows, kept_limits}
+use Rattle.fts_entries.specs.Entry.{IndexState, no_entries}
+use Rattle.fts_engine.specs.Kept.{kept_settings, kept_rows, kept_limits, IsIndexed}
 use Rattle.fts_engine.specs.Loading.{BeginsWith, IsLoaded, IsWrongEntry}
 use Rattle.fts_steps.specs.Fault.{AreNoState}
 use Rattle.fts_log.specs.Record.{gate_at}
@@ -136,8 +137,9 @@ module _ (all : List (List ℕ)) (k : ℕ) (kept : Kept) (l : IsLoaded all k kep
   -- one commit more is loaded
   pub one_more : (payload : List ℕ) (commit : Commit) (kept' : Kept) → payload ≡ get_or all k [] → IsWritten (length (kept_settings kept).columns) commit
       → payload ≡ commit_payload commit → after_commit (kept_limits kept) commit (kept_rows kept) ≡ Ok (kept_rows kept')
-      → kept_settings kept' ≡ kept_settings kept → kept_limits kept' ≡ kept_limits kept → IsLoaded all (k + 1) kept'
-  one_more payload commit kept' is written spelled ok settings limits =
+      → kept_settings kept' ≡ kept_settings kept → kept_limits kept' ≡ kept_limits kept
+      → ((commits : List Commit) (s : IndexState) → IsIndexed kept commits s → IsIndexed kept' (commits ++ commit ∷ []) s) → IsLoaded all (k + 1) kept'
+  one_more payload commit kept' is written spelled ok settings limits indexed =
       let accepted : after_commit standard_limits commit (replay l.state.commits) ≡ Ok (kept_rows kept') = sym (same_answer commit) ∙ ok in
       let written' : IsWritten (length l.state.settings.columns) commit = subst (λ (s : Settings). IsWritten (length s.columns) commit) (sym l.same) written in
       record {
@@ -149,6 +151,7 @@ module _ (all : List (List ℕ)) (k : ℕ) (kept : Kept) (l : IsLoaded all k kep
         count = let count = l.count in omega (arith, length-append l.state.commits (commit ∷ []));
         rows = sym (replay_accepted l.state.commits commit (kept_rows kept') accepted);
         limits = limits ∙ l.limits;
+        index = indexed l.state.commits no_entries l.index;
       }
 
 -- what was loaded stands at the front of fewer entries too
@@ -161,6 +164,7 @@ cut all k kept l = record {
   count = l.count;
   rows = l.rows;
   limits = l.limits;
+  index = l.index;
 }
 
 module _ (magic : List ℕ) (all : List (List ℕ)) (k at : ℕ) (kept : Kept) (l : IsLoaded all k kept) (within : k < length all) (place : at ≡ gate_at magic all k)
@@ -255,8 +259,8 @@ settings_begin (first ∷ all) payload settings some is right spelled =
 
 -- nothing but the settings is loaded
 pub first_loaded : (all : List (List ℕ)) (settings : Settings) (kept : Kept) → BeginsWith settings all → kept_settings kept ≡ settings
-    → kept_rows kept ≡ no_rows → kept_limits kept ≡ standard_limits → IsLoaded all 1 kept
-first_loaded all settings kept begins same rows limits = record {
+    → kept_rows kept ≡ no_rows → kept_limits kept ≡ standard_limits → IsIndexed kept [] no_entries → IsLoaded all 1 kept
+first_loaded all settings kept begins same rows limits indexed = record {
   state = record { settings = settings; commits = []; entries = [] };
   sound = record { settings = begins.right; written = λ k d less. absurd (omega arith); accepted = tt; entries = refl };
   same = sym same;
@@ -264,6 +268,7 @@ first_loaded all settings kept begins same rows limits = record {
   count = refl;
   rows = rows;
   limits = limits;
+  index = indexed;
 }
 
 -- all is loaded

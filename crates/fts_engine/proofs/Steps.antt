@@ -13,12 +13,13 @@ use Rattle.fts_log.specs.Log.{StandsFor, device_of}
 use Rattle.fts_log.specs.declared.log.Log.{Log}
 use Rattle.fts_steps.specs.State.{State, payloads, with_commits, IsRows}
 use Rattle.fts_steps.specs.Crash.{MayHold, IsBetween}
-use Rattle.fts_steps.specs.Running.{Running, What, made, failed, grown, with_what}
-use Rattle.fts_steps.specs.Step.{Ask, to_commit, Answer, disk_fault, committed, stopped, is_disk_fault, changes_of, MayAnswer, Steps, plain_answer}
+use Rattle.fts_entries.specs.Entry.{IndexState}
+use Rattle.fts_steps.specs.Running.{Running, What, made, failed, grown, with_what, next_index}
+use Rattle.fts_steps.specs.Step.{Ask, to_commit, to_sync, Answer, disk_fault, committed, flushed, stopped, is_disk_fault, changes_of, after, unless_stopped, MayAnswer, Steps, plain_answer}
 use Rattle.fts_types.specs.declared.limits.Limits.{Limits}
 use Rattle.fts_types.specs.declared.settings.Settings.{Settings}
 use Rattle.fts_engine.specs.declared.engine.Engine.{Engine}
-use Rattle.fts_engine.specs.Kept.{kept_settings, kept_rows, kept_limits}
+use Rattle.fts_engine.specs.Kept.{kept_settings, kept_rows, kept_limits, IsIndexed, StaysIndexed}
 use Rattle.fts_engine.specs.Stands.{Keeps, Stands, OnRows, OnIndex, engine_sight, engine_limits, engine_faults, rows_device, index_device, stopped_at}
 use Rattle.fts_engine.proofs.Committing.{keeps_in, on_rows}
 
@@ -50,31 +51,38 @@ no_fault answer n calm is = false≢true (sym calm ∙ ap is_disk_fault is)
 module _ {D E : Type 0} {disk : Ghosts D} {disk' : Ghosts E} (old new : Engine D E disk disk') (settings : kept_settings new.kept ≡ kept_settings old.kept)
     (rows : kept_rows new.kept ≡ kept_rows old.kept) (limits : kept_limits new.kept ≡ kept_limits old.kept) (same : new.rows ≡ old.rows) (index : new.index ≡ old.index)
     (still : stopped_at new ≡ stopped_at old) where
-  stands_still : (running : Running) → Stands running old → Stands running new
-  stands_still running stands = record {
+  -- it stands for the same with the state of the index for which what is kept stands
+  stands_as : (running : Running) (s : IndexState) → Stands running old → IsIndexed new.kept running.state.commits s
+      → Stands (record { state = running.state; index = s; stopped = running.stopped; doubt = running.doubt }) new
+  stands_as running s stands indexed = record {
     keeps = keeps_in running.state old stands.keeps [] running.state refl new settings rows limits same index;
+    indexed = indexed;
     stopped = still ∙ stands.stopped;
     logs = λ told going. record {
       entries = subst (λ (log : Log D disk). StandsFor (payloads running.state) log) (sym same) (stands.logs told going).entries;
       sure = (stands.logs told going).sure;
     };
-    on_rows = λ told. subst (λ (log : Log D disk). OnRows disk running (device_of log)) (sym same) (stands.on_rows told);
-    on_index = λ told. subst (λ (log : Log E disk'). OnIndex disk' running (device_of log)) (sym index) (stands.on_index told);
+    on_rows = λ told.
+        let on = subst (λ (log : Log D disk). OnRows disk running (device_of log)) (sym same) (stands.on_rows told) in
+        record { reads = on.reads; may_read = on.may_read; crash = on.crash };
+    on_index = λ told.
+        let on = subst (λ (log : Log E disk'). OnIndex disk' running (device_of log)) (sym index) (stands.on_index told) in
+        record { reads = on.reads; crash = on.crash };
   }
 
   same_faults : engine_faults new ≡ engine_faults old
   same_faults = ap (λ (log : Log D disk). disk.faults (device_of log) + disk'.faults (index_device new)) same
       ∙ ap (λ (log : Log E disk'). disk.faults (rows_device old) + disk'.faults (device_of log)) index
 
-  -- a step that changes nothing and is no fault, for each engine that it may stand for
-  pub refuses : (ask : Ask) (answer : Answer) → changes_of ask answer ≡ [] → is_disk_fault answer ≡ false
-      → ((running : Running) → Stands running old → MayAnswer (engine_limits old) running ask answer) → Steps engine_sight ask answer old new
-  refuses ask answer adds calm may = record {
+  -- a step that leaves the logs and is no fault, for each engine that it may stand for
+  quiet : (ask : Ask) (answer : Answer) → is_disk_fault answer ≡ false
+      → ((running : Running) → Stands running old → MayAnswer (engine_limits old) running ask answer)
+      → ((running : Running) → Stands running old → Stands (after running ask answer) new) → Steps engine_sight ask answer old new
+  quiet ask answer calm may stands_then = record {
     more = [];
     alone = λ e. refl;
     may = may;
-    stands = λ running stands.
-        subst (λ (whats : List What). Stands (grown running (map (λ (what : What). record { by = 0; what = what }) whats)) new) (sym adds) (stands_still running stands);
+    stands = stands_then;
     crash = λ e told running stands. inl (ap (λ (log : Log D disk). device_of log) same);
     index = λ e told running stands. inl (ap (λ (log : Log E disk'). device_of log) index);
     settings = settings;
@@ -87,10 +95,26 @@ module _ {D E : Type 0} {disk : Ghosts D} {disk' : Ghosts E} (old new : Engine D
     sum = λ n is. absurd (no_fault answer n calm is);
   }
 
--- after a fault each commit is refused
-pub is_stopped : {D E : Type 0} {disk : Ghosts D} {disk' : Ghosts E} (engine : Engine D E disk disk') (limits : Limits) (commit : Commit) (faults : ℕ) (running : Running) → Stands running engine
-    → stopped_at engine ≡ Some faults → plain_answer limits running (to_commit commit) ≡ stopped faults
-is_stopped engine limits commit faults running stands is = let same : running.stopped ≡ Some faults = sym stands.stopped ∙ is in rw same refl
+  -- one that changes nothing
+  pub refuses : StaysIndexed old.kept new.kept → (ask : Ask) (answer : Answer) → changes_of ask answer ≡ [] → is_disk_fault answer ≡ false
+      → ((running : Running) → Stands running old → MayAnswer (engine_limits old) running ask answer) → Steps engine_sight ask answer old new
+  refuses indexed ask answer adds calm may =
+      quiet ask answer calm may
+      (λ running stands. subst (λ (whats : List What). Stands (grown running (map (λ (what : What). record { by = 0; what = what }) whats)) new) (sym adds)
+      (stands_as running running.index stands (indexed running.state.commits running.index stands.indexed)))
+
+  -- one that made the next batch
+  pub batches : (through commits : ℕ) → ((running : Running) → Stands running old → MayAnswer (engine_limits old) running to_sync (flushed through commits))
+      → ((running : Running) → Stands running old → IsIndexed new.kept running.state.commits (next_index running.state running.index))
+      → Steps engine_sight to_sync (flushed through commits) old new
+  batches through commits may indexed =
+      quiet to_sync (flushed through commits) refl may
+      (λ running stands. stands_as running (next_index running.state running.index) stands (indexed running stands))
+
+-- after a fault each commit and each batch is refused
+pub is_stopped : {D E : Type 0} {disk : Ghosts D} {disk' : Ghosts E} (engine : Engine D E disk disk') (faults : ℕ) (running : Running) → Stands running engine
+    → stopped_at engine ≡ Some faults → (answer : Answer) → unless_stopped running.stopped answer ≡ stopped faults
+is_stopped engine faults running stands is answer = let same : running.stopped ≡ Some faults = sym stands.stopped ∙ is in rw same refl
 
 -- changes that fit the engine's settings fit those of the state for which it stands
 pub can_still : {D E : Type 0} {disk : Ghosts D} {disk' : Ghosts E} (running : Running) (engine : Engine D E disk disk') → Stands running engine → (commit : Commit)
@@ -131,13 +155,15 @@ module _ {D E : Type 0} {disk : Ghosts D} {disk' : Ghosts E} (old new : Engine D
       → ((running : Running) → Stands running old → IsTrue disk.tells → running.stopped ≡ None → StandsFor (payloads (with_commits running.state (commit ∷ []))) new.rows)
       → ((running : Running) → Stands running old → IsTrue disk.tells → running.stopped ≡ None
       → LeavesOnly disk (rows_device old) (rows_device new) (MayHold running.state (commit ∷ [])))
+      → ((running : Running) → Stands running old → IsIndexed new.kept (running.state.commits ++ commit ∷ []) running.index)
       → Steps engine_sight (to_commit commit) (committed number) old new
-  commits number still calm may keeps logged left = record {
+  commits number still calm may keeps logged left indexed = record {
     more = [];
     alone = λ e. refl;
     may = λ running stands. may running stands (sym stands.stopped ∙ going);
     stands = λ running stands. record {
       keeps = keeps running stands;
+      indexed = indexed running stands;
       stopped = still ∙ stands.stopped;
       logs = λ told going. record { entries = logged running stands told going; sure = (stands.logs told going).sure };
       on_rows = λ told. on_rows (with_what running (made commit)) new.rows (keeps running stands).sound (keeps running stands).log.magic
@@ -164,13 +190,14 @@ module _ {D E : Type 0} {disk : Ghosts D} {disk' : Ghosts E} (old new : Engine D
       → (IsTrue disk.tells → disk.images (rows_device new) (disk.seen (rows_device new)))
       → ((running : Running) → Stands running old → IsTrue disk.tells → running.stopped ≡ None
       → LeavesOnly disk (rows_device old) (rows_device new) (MayHold running.state (commit ∷ [])))
-      → Steps engine_sight (to_commit commit) (disk_fault faults) old new
-  fails faults noted rose up sum may keeps counts stays left = record {
+      → StaysIndexed old.kept new.kept → Steps engine_sight (to_commit commit) (disk_fault faults) old new
+  fails faults noted rose up sum may keeps counts stays left indexed = record {
     more = [];
     alone = λ e. refl;
     may = λ running stands. may running stands (sym stands.stopped ∙ going);
     stands = λ running stands. record {
       keeps = keeps running stands;
+      indexed = indexed running.state.commits running.index stands.indexed;
       stopped = noted;
       logs = λ told e. absurd (let no : ◌≡◌ {A = Option ℕ} (Some faults) None = e in cc);
       on_rows = λ told. left_in_doubt disk (rows_device old) (rows_device new) running commit faults (λ t c le may. counts t c told le may) (stays told)

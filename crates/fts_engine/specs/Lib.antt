@@ -1,3 +1,4 @@
+pub mod Indexed
 pub mod Next
 pub mod Kept
 pub mod Bounds

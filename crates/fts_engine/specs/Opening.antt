@@ -1,6 +1,7 @@
 use Rattle.std.specs.Prelude.{◌≡◌, ℕ, List, codes, Result, Ok, Err}
 use Rattle.fts_disk.specs.declared.disk.Disk.{Ghosts}
 use Rattle.fts_commits.specs.Commit.{replay}
+use Rattle.fts_entries.specs.Entry.{no_entries}
 use Rattle.fts_log.specs.Log.{StandsFor, device_of}
 use Rattle.fts_log.specs.declared.log.Log.{Log}
 use Rattle.fts_steps.specs.State.{State, payloads, IsSound, IsCreated, IsRows}
@@ -14,7 +15,7 @@ use Rattle.fts_engine.specs.declared.error.OpenError.TheVariants as opening
 use Rattle.fts_engine.specs.declared.error.LogError.{LogError}
 use Rattle.fts_engine.specs.declared.error.LogError.TheVariants.{NoMemory, NotCreated, Damaged, DiskFault}
 use Rattle.fts_engine.specs.declared.kept.Kept.{Kept}
-use Rattle.fts_engine.specs.Kept.{kept_settings, kept_rows}
+use Rattle.fts_engine.specs.Kept.{kept_settings, kept_rows, IsIndexed}
 
 -- the name of a device
 abbrev pub device_text : Device → List ℕ
@@ -52,12 +53,13 @@ abbrev pub log_left : {D E K : Type 0} {disk : Ghosts D} → Result (Log D disk 
 log_left (Ok both) = device_of both.0
 log_left (Err error) = error.1
 
--- the rows log was opened: it has the entries of a state, whose settings and rows are kept
+-- the rows log was opened: it has the entries of a state, whose settings, rows and index are kept
 pub record AreOpened {D : Type 0} {disk : Ghosts D} (log : Log D disk) (kept : Kept) : Type 0 where
   pub state : State
   pub sound : IsSound state
   pub settings : state.settings ≡ kept_settings kept
   pub rows : kept_rows kept ≡ replay state.commits
+  pub index : IsIndexed kept state.commits no_entries
   pub entries : StandsFor (payloads state) log
 
 -- the file is no rows log of a database

@@ -14,7 +14,7 @@ use Rattle.fts_steps.specs.Crash.{MayHold, HoldsIndex}
 use Rattle.fts_steps.specs.Step.{Sight}
 use Rattle.fts_engine.specs.declared.engine.Engine.{Engine}
 use Rattle.fts_engine.specs.Bounds.{AreWithin}
-use Rattle.fts_engine.specs.Kept.{kept_settings, kept_rows, kept_limits}
+use Rattle.fts_engine.specs.Kept.{kept_settings, kept_rows, kept_limits, IsIndexed}
 
 -- the settings of its database
 abbrev pub engine_settings : {D E : Type 0} {rows : Ghosts D} {index : Ghosts E} → Engine D E rows index → Settings
@@ -91,10 +91,12 @@ pub record Logs {D : Type 0} {disk : Ghosts D} (running : Running) (log : Log D 
   pub entries : StandsFor (payloads running.state) log
   pub sure : running.doubt ≡ []
 
--- the engine stands for what runs: it keeps the state, and where a device tells, its log holds the state
+-- the engine stands for what runs: it keeps the state, its index is right for the commits and stands for the state of
+-- the index, and where a device tells, its log holds the state
 pub record Stands {D E : Type 0} {rows : Ghosts D} {index : Ghosts E} (running : Running)
     (engine : Engine D E rows index) : Type 0 where
   pub keeps : Keeps running.state engine
+  pub indexed : IsIndexed engine.kept running.state.commits running.index
   pub stopped : stopped_at engine ≡ running.stopped
   pub logs : IsTrue rows.tells → running.stopped ≡ None → Logs running engine.rows
   pub on_rows : IsTrue rows.tells → OnRows rows running (rows_device engine)

@@ -7,22 +7,26 @@ ghost use Rattle.fts_log.specs.Log.{count_of};
 ghost use Rattle.fts_commits.specs.Fits.{CanCommit};
 ghost use Rattle.fts_rowcodec.specs.Payload.{IsWritten, commit_payload};
 ghost use Rattle.fts_steps.specs.State.{State};
-ghost use Rattle.fts_steps.specs.Step.{to_commit, to_view, is_disk_fault, Steps};
-ghost use Rattle.fts_steps.specs.Answers.{commit_answer_of, view_answer_of};
+ghost use Rattle.fts_steps.specs.Step.{to_commit, to_sync, to_view, to_list, to_measure, measured};
+ghost use Rattle.fts_steps.specs.Step.{is_disk_fault, Steps};
+ghost use Rattle.fts_steps.specs.Answers.{commit_answer_of, sync_answer_of, view_answer_of};
+ghost use Rattle.fts_steps.specs.Answers.{listing_answer_of};
 
 use crate::kept::Kept;
 use fts_commits::Change;
 use fts_disk::Disk;
+use fts_listing::{ListingKind, NumberedListing};
 use fts_log::{AROUND_PAYLOAD, AppendError, BEFORE_PAYLOAD, Framed, Log};
 use fts_query::{Leaf, View};
 use fts_rowcodec::{commit_size, encode_commit_into};
 use fts_rows::PlanError;
-use fts_steps::CommitError;
+use fts_steps::{CommitError, SyncBatch, SyncError};
 use fts_types::Settings;
 use std::alloc::{AllocError, Global};
 
 /// A database that is open: its rows log and its index log, and its settings, its rows and the
-/// index of their words in memory. After a fault of a commit it takes no more, and views go on.
+/// index of their words in memory. After a fault of a commit it takes no more commits and makes no
+/// more batches, and views and listings go on.
 #[derive(Drop)]
 pub struct Engine<D: Disk, E: Disk> {
     pub(crate) alloc: Global,
@@ -102,6 +106,58 @@ impl<D: Disk, E: Disk> Engine<D, E> {
             Ok(view) => Ok(view),
             Err(AllocError) => Err(AllocError),
         }
+    }
+
+    /// Makes the next batch of the index: the words of the next commits leave the cache for the
+    /// tables, of as many as have at most `batch_docs` births together, and of at least one. It
+    /// tells through which commit all are flushed then, and how many there are; `Nothing` where all
+    /// were flushed. All memory is taken before anything changes. It costs the words of the rows
+    /// that it flushes. The logs are untouched: an opening begins with nothing flushed.
+    ///
+    /// # Errors
+    ///
+    /// After each of them the engine keeps what it kept.
+    ///
+    /// - `NoMemory` if memory ran out.
+    /// - `Stopped` exactly where an earlier commit answered `DiskFault`, with the sum of the counts
+    ///   of faults at that answer.
+    pub fn sync_batch(&mut self) -> Result<SyncBatch, SyncError>
+        ensures steps { Steps engine_sight to_sync (sync_answer_of result) self.old self.new }
+        ensures rows { rows_log self.new ≡ rows_log self.old }
+        ensures index { index_log self.new ≡ index_log self.old }
+    {
+        match self.stopped {
+            None => {}
+            Some(faults) => return Err(SyncError::Stopped { faults }),
+        }
+        let commits = self.commits();
+        match self.kept.sync() {
+            Ok(Some(through)) => Ok(SyncBatch::Flushed { through, commits }),
+            Ok(None) => Ok(SyncBatch::Nothing { commits }),
+            Err(AllocError) => Err(SyncError::NoMemory),
+        }
+    }
+
+    /// What a view of the index lists, with the number of commits. Want of memory is the only
+    /// refusal; it goes on after a fault of a commit. It costs what it lists.
+    pub fn listing(&self, kind: ListingKind) -> Result<NumberedListing, AllocError>
+        ensures { Steps engine_sight (to_list kind) (listing_answer_of result) self.now self.now }
+    {
+        match self.kept.listing(kind) {
+            Ok(listing) => Ok(NumberedListing {
+                number: self.commits(),
+                listing,
+            }),
+            Err(AllocError) => Err(AllocError),
+        }
+    }
+
+    /// The size of the cache in bytes: for each document that is not flushed 16, and for each of
+    /// its indexed words the word's length and 8. Constant time.
+    pub fn cache_size(&self) -> u64
+        ensures { Steps engine_sight to_measure (measured result) self.now self.now }
+    {
+        self.kept.cache_size()
     }
 
     /// How many commits there are.

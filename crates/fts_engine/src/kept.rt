@@ -1,18 +1,18 @@
-ghost use Rattle.std.specs.Prelude.{◌≡◌};
+ghost use Rattle.std.specs.Prelude.{◌≡◌, List, [], ◌∷◌, ◌++◌};
 ghost use Rattle.fts_types.specs.declared.settings.Settings.{Settings};
 ghost use Rattle.fts_types.specs.Settings.{AreSettings};
-ghost use Rattle.fts_types.specs.Rules.{rules_of};
 ghost use Rattle.fts_types.specs.Limits.{standard_limits};
-ghost use Rattle.fts_commits.specs.Commit.{Rows as RowList};
+ghost use Rattle.fts_commits.specs.Commit.{Commit, Rows as RowList};
+ghost use Rattle.fts_entries.specs.Entry.{IndexState};
 ghost use Rattle.fts_rows.specs.Rows.{rows_of, limits_of};
-ghost use Rattle.fts_index.specs.Index.{Indexes};
-ghost use Rattle.fts_index.proofs.Props.{indexes_prop};
 ghost use Rattle.fts_engine.specs.Bounds.{AreWithin};
+ghost use Rattle.fts_engine.specs.Indexed.{IsIndexOf, HasIndex};
 ghost use Rattle.fts_engine.specs.Next.{WillHold};
 
 use crate::looking::candidates;
-use fts_commits::Change;
+use fts_commits::{Change, are_turns};
 use fts_index::{CommitPlan, Index};
+use fts_listing::{Listing, ListingKind};
 use fts_query::{Leaf, View};
 use fts_rows::{Plan, PlanError, Rows};
 use fts_types::{Limits, Settings};
@@ -26,7 +26,7 @@ pub struct Kept {
     index: Index,
     ghost right: { AreSettings settings },
     ghost within: { AreWithin standard_limits (limits_of rows) },
-    ghost indexed: { Indexes (rules_of settings) (rows_of rows) index } by { indexes_prop _ _ _ },
+    ghost indexed: { ∥ HasIndex settings (rows_of rows) index ∥₁ },
 }
 
 /// What a commit makes of the rows and the index. Its room is made.
@@ -38,13 +38,19 @@ pub struct NextKept {
 
 impl Kept {
     ghost use Rattle.std.specs.Prelude.{◌≡◌, ◌≤◌, ℕ, length, IfOk, IfErr, OnOk, Ok};
+    ghost use Rattle.std.specs.Prelude.{List, [], ◌∷◌, ◌++◌, OnErr};
     ghost use Rattle.fts_types.specs.Rules.{rules_of};
-    ghost use Rattle.fts_commits.specs.Commit.{Rows as RowList, after_commit, no_rows};
+    ghost use Rattle.fts_commits.specs.Commit.{Commit, Rows as RowList, after_commit, no_rows};
+    ghost use Rattle.fts_commits.specs.Turn.{turns_from, births_of};
+    ghost use Rattle.fts_entries.specs.Entry.{IndexState, no_entries, unflushed};
+    ghost use Rattle.fts_entries.specs.Words.{rows_size};
+    ghost use Rattle.fts_listing.specs.Listing.{IsListed};
     ghost use Rattle.fts_commits.specs.Fits.{IsCommit};
     ghost use Rattle.fts_meaning.specs.View.{view_of};
     ghost use Rattle.fts_query.specs.Seen.{leaves_seen, view_seen};
     ghost use Rattle.fts_rows.specs.Refusal.{IsNoPlan};
     ghost use Rattle.fts_engine.specs.Kept.{kept_settings, kept_rows, kept_limits, WillKeep};
+    ghost use Rattle.fts_engine.specs.Kept.{IsIndexed, StaysIndexed, IsSynced};
 
     /// No row is kept yet.
     pub fn new(alloc: Global, settings: Settings, limits: Limits) -> Self
@@ -53,7 +59,9 @@ impl Kept {
         ensures rows { kept_rows result ≡ no_rows }
         ensures settings { kept_settings result ≡ settings }
         ensures limits { kept_limits result ≡ limits }
+        ensures index { IsIndexed result [] no_entries }
     {
+        are_turns();
         Kept {
             settings,
             rows: Rows::new(alloc, limits),
@@ -76,6 +84,7 @@ impl Kept {
         ensures rows { kept_rows self.new ≡ kept_rows self.old }
         ensures settings { kept_settings self.new ≡ kept_settings self.old }
         ensures limits { kept_limits self.new ≡ limits }
+        ensures index { StaysIndexed self.old self.new }
     {
         self.rows.set_limits(limits);
     }
@@ -86,18 +95,23 @@ impl Kept {
         ensures planned { IfOk result
             (λ next. (after : RowList)
             × (after_commit (kept_limits self.old) changes.now (kept_rows self.old) ≡ Ok after)
-            × WillKeep self.new next after) }
+            × WillKeep self.new next changes.now after) }
         ensures refused { IfErr result
             (IsNoPlan (after_commit (kept_limits self.old) changes.now (kept_rows self.old))) }
         ensures rows { kept_rows self.new ≡ kept_rows self.old }
         ensures settings { kept_settings self.new ≡ kept_settings self.old }
         ensures limits { kept_limits self.new ≡ kept_limits self.old }
+        ensures index { StaysIndexed self.old self.new }
     {
         let plan = match self.rows.plan(changes) {
             Ok(plan) => plan,
             Err(error) => return Err(error),
         };
-        match self.index.plan_commit(&self.settings, plan.births()) {
+        let births = plan.births();
+        match self
+            .index
+            .plan_commit(&self.settings, births, plan.deaths(), plan.largest())
+        {
             Ok(words) => Ok(NextKept { plan, words }),
             Err(AllocError) => Err(PlanError::NoMemory),
         }
@@ -105,11 +119,14 @@ impl Kept {
 
     /// Keeps what a commit made of the rows and their words.
     pub fn install(&mut self, next: NextKept)
-        requires { (after : RowList) × WillKeep self.old next after }
-        ensures rows { (after : RowList) → WillKeep self.old next after
+        requires { (commit : Commit) × (after : RowList) × WillKeep self.old next commit after }
+        ensures rows { (commit : Commit) (after : RowList) → WillKeep self.old next commit after
             → kept_rows self.new ≡ after }
         ensures settings { kept_settings self.new ≡ kept_settings self.old }
         ensures limits { kept_limits self.new ≡ kept_limits self.old }
+        ensures index { (commit : Commit) (after : RowList) → WillKeep self.old next commit after
+            → (commits : List Commit) (s : IndexState) → IsIndexed self.old commits s
+            → IsIndexed self.new (commits ++ commit ∷ []) s }
     {
         install_next(&mut self.rows, &mut self.index, next);
     }
@@ -123,6 +140,9 @@ impl Kept {
             (IsNoPlan (after_commit (kept_limits self.old) changes.now (kept_rows self.old))) }
         ensures settings { kept_settings self.new ≡ kept_settings self.old }
         ensures limits { kept_limits self.new ≡ kept_limits self.old }
+        ensures index { OnOk result ((commits : List Commit) (s : IndexState)
+            → IsIndexed self.old commits s
+            → IsIndexed self.new (commits ++ changes.now ∷ []) s) }
     {
         match self.plan(changes) {
             Ok(next) => {
@@ -135,7 +155,8 @@ impl Kept {
 
     /// What the rows have for these leaves, as the view of so many commits.
     pub fn view(&self, alloc: Global, number: u64, leaves: Vec<Leaf>) -> Result<View, AllocError>
-        ensures { IfOk result (λ view. view_seen view
+        ensures { IfOk result (λ view. (commits : List Commit) (s : IndexState)
+            → IsIndexed self.now commits s → view_seen view
             ≡ view_of (rules_of (kept_settings self.now)) (kept_rows self.now).list number
             (leaves_seen leaves.items)) }
     {
@@ -147,20 +168,60 @@ impl Kept {
             texts,
         })
     }
+
+    /// Makes the next batch of the index, and tells through which commit this is flushed then; None
+    /// where all commits are flushed. Where there is no memory, nothing changes.
+    pub fn sync(&mut self) -> Result<Option<u64>, AllocError>
+        ensures synced { IfOk result (λ through. (commits : List Commit) (s : IndexState)
+            → IsIndexed self.old commits s → IsSynced self.old self.new commits s through) }
+        ensures failed { OnErr result (StaysIndexed self.old self.new) }
+        ensures rows { kept_rows self.new ≡ kept_rows self.old }
+        ensures settings { kept_settings self.new ≡ kept_settings self.old }
+        ensures limits { kept_limits self.new ≡ kept_limits self.old }
+    {
+        let plan = match self.index.plan_sync(self.settings.batch_docs) {
+            Ok(Some(plan)) => plan,
+            Ok(None) => return Ok(None),
+            Err(AllocError) => return Err(AllocError),
+        };
+        let through = plan.through();
+        self.index.install_sync(plan);
+        Ok(Some(through))
+    }
+
+    /// What a view of the index lists.
+    pub fn listing(&self, kind: ListingKind) -> Result<Listing, AllocError>
+        ensures { IfOk result (λ listing. (commits : List Commit) (s : IndexState)
+            → IsIndexed self.now commits s
+            → IsListed (kept_settings self.now) (turns_from no_rows commits) s kind listing) }
+    {
+        self.index.listing(&self.settings, kind)
+    }
+
+    /// The size of the cache, in bytes. Constant time.
+    pub fn cache_size(&self) -> u64
+        ensures { (commits : List Commit) (s : IndexState) → IsIndexed self.now commits s
+            → result ≡ rows_size (rules_of (kept_settings self.now))
+            (births_of (unflushed (turns_from no_rows commits) s)) }
+    {
+        self.index.cache_size()
+    }
 }
 
 // Puts what a commit made into the rows and the index.
 fn install_next(rows: &mut Rows, index: &mut Index, next: NextKept)
-    requires { (settings : Settings) × (after : RowList)
-        × WillHold settings rows.old index.old next after }
-    ensures rows { (settings : Settings) (after : RowList)
-        → WillHold settings rows.old index.old next after → rows_of rows.new ≡ after }
-    ensures index { (settings : Settings) (after : RowList)
-        → Indexes (rules_of settings) (rows_of rows.old) index.old
-        → WillHold settings rows.old index.old next after
-        → Indexes (rules_of settings) after index.new }
+    requires { (settings : Settings) × (commit : Commit) × (after : RowList)
+        × WillHold settings rows.old index.old next commit after }
+    ensures rows { (settings : Settings) (commit : Commit) (after : RowList)
+        → WillHold settings rows.old index.old next commit after → rows_of rows.new ≡ after }
+    ensures index { (settings : Settings) (commit : Commit) (after : RowList)
+        → WillHold settings rows.old index.old next commit after
+        → (commits : List Commit) (s : IndexState)
+        → IsIndexOf settings (rows_of rows.old) index.old commits s
+        → IsIndexOf settings after index.new (commits ++ commit ∷ []) s }
     ensures limits { limits_of rows.new ≡ limits_of rows.old }
 {
+    are_turns();
     let NextKept { plan, words } = next;
     rows.install(plan);
     index.install_commit(words);

@@ -3,11 +3,15 @@
 //! [`create_engine`] makes a database, and [`open_engine`] finds one:
 //! `let mut engine = open_engine(alloc, rows, index, Limits::standard())?`. Then
 //! `engine.commit(&[change])?` gives the commit's number once it is durable, and
-//! `engine.view(leaves)?` what the rows have for the leaves of a query.
+//! `engine.view(leaves)?` what the rows have for the leaves of a query. `engine.sync_batch()?`
+//! makes the next batch of the index, `engine.listing(kind)?` tells what a view of the index lists,
+//! and `engine.cache_size()` what the cache counts. Batches are in memory alone: an opening begins
+//! with nothing flushed.
 //!
 //! A commit costs the bytes of its changes, a look-up for each key and word, two writes and two
 //! syncs; a view the documents of its leaves' words, and a look-up for each candidate of a phrase
-//! or a distance; an opening each record once and the words of all rows.
+//! or a distance; a batch the words of its rows; a listing what it lists; an opening each record
+//! once and the words of all rows.
 #![tactic(auto)]
 
 mod create;

@@ -4,18 +4,19 @@ ghost use Rattle.fts_commits.specs.Fits.{CanCommit};
 
 use super::*;
 use fts_commits::{Change, Refusal};
-use fts_disk::MemDisk;
+use fts_disk::{Kind, MemDisk};
+use fts_listing::{Listing, ListingKind};
 use fts_log::is_begun;
 use fts_query::{Leaf, View};
-use fts_steps::CommitError;
+use fts_steps::{CommitError, SyncBatch, SyncError};
 use fts_types::{DocId, Key, Limits, Names, RowTexts, Settings, SharedTexts};
 use std::alloc::{AllocError, Global};
 use std::fmt::Display;
 use std::process::Abort;
 use std::test::Fail;
 
-/// Settings of a table with a title and a body.
-fn settings(alloc: Global) -> Result<Settings, AllocError> {
+/// Settings of a table with a title and a body, and of batches of so many documents.
+fn settings(alloc: Global, batch_docs: u32) -> Result<Settings, AllocError> {
     let mut columns = Names::new(alloc);
     columns.push(b"title".to_vec(alloc)?)?;
     columns.push(b"body".to_vec(alloc)?)?;
@@ -26,7 +27,7 @@ fn settings(alloc: Global) -> Result<Settings, AllocError> {
         stopword: true,
         optimize_words: 2_000,
         cache_bytes: 8_000_000,
-        batch_docs: 1_000,
+        batch_docs,
     })
 }
 
@@ -43,9 +44,18 @@ fn empty_disks(alloc: Global) -> Result<(MemDisk, MemDisk), AllocError> {
 /// Makes a database on the devices.
 fn create(
     alloc: Global,
-    (rows, index): (MemDisk, MemDisk),
+    disks: (MemDisk, MemDisk),
 ) -> Result<(MemDisk, MemDisk), CreateError> {
-    let Ok(settings) = settings(alloc) else {
+    create_batched(alloc, disks, 1_000)
+}
+
+/// Makes a database on the devices, with batches of so many documents.
+fn create_batched(
+    alloc: Global,
+    (rows, index): (MemDisk, MemDisk),
+    batch_docs: u32,
+) -> Result<(MemDisk, MemDisk), CreateError> {
+    let Ok(settings) = settings(alloc, batch_docs) else {
         return Err(CreateError::NoMemory);
     };
     if settings.check().is_err() {
@@ -100,6 +110,16 @@ fn two_rows(alloc: Global, first: Key, second: Key) -> Result<Vec<Change>, Alloc
     Ok(vec![in alloc; pie, plum]?)
 }
 
+/// The INSERT of one row.
+fn one_row(alloc: Global, key: Key, title: &[u8], body: &[u8]) -> Result<Vec<Change>, AllocError>
+    requires title { IsText title.now }
+    requires body { IsText body.now }
+    ensures { IfOk result (λ changes. CanCommit 2 changes.items) }
+{
+    let row = insert(alloc, key, title, body)?;
+    Ok(vec![in alloc; row]?)
+}
+
 /// The INSERTs of so many rows, with keys from 1.
 fn many_rows(alloc: Global, count: u64) -> Result<Vec<Change>, AllocError>
     requires some { 1 ≤ count }
@@ -152,23 +172,33 @@ fn view_of(alloc: Global, engine: &Engine<MemDisk, MemDisk>, word: &[u8]) -> Opt
     engine.view(leaves).ok()
 }
 
-/// Whether a view is of one commit, and has these postings alone.
-fn is_view(view: &View, want: &[DocId]) -> bool {
+/// Whether a view is of so many commits, and has these postings alone.
+fn is_view(view: &View, number: u64, want: &[DocId]) -> bool {
     match view.postings.as_slice() {
-        [one] => view.number == 1 && one.ids.as_slice() == want && view.texts.is_empty(),
+        [one] => view.number == number && one.ids.as_slice() == want && view.texts.is_empty(),
         _ => false,
     }
 }
 
-/// Whether a view of each word has what it should after the first commit.
-fn finds_all(alloc: Global, engine: &Engine<MemDisk, MemDisk>, found: &[(&str, &[DocId])]) -> bool {
+/// Whether a view of each word has what it should after so many commits.
+fn finds_after(
+    alloc: Global,
+    engine: &Engine<MemDisk, MemDisk>,
+    number: u64,
+    found: &[(&str, &[DocId])],
+) -> bool {
     for (word, want) in found {
         match view_of(alloc, engine, word.as_bytes()) {
-            Some(view) if is_view(&view, want) => {}
+            Some(view) if is_view(&view, number, want) => {}
             _ => return false,
         }
     }
     true
+}
+
+/// Whether a view of each word has what it should after the first commit.
+fn finds_all(alloc: Global, engine: &Engine<MemDisk, MemDisk>, found: &[(&str, &[DocId])]) -> bool {
+    finds_after(alloc, engine, 1, found)
 }
 
 /// Whether a view of the word has so many postings.
@@ -221,6 +251,104 @@ fn a_word_is_found_whole(rt: HostRuntime) -> Result<(), Fail> {
     assert_eq!(rt; commit(&mut engine, &quoted_row(alloc)?), Some(Ok(1)));
     assert!(rt; finds_all(alloc, &engine, &FOUND_WHOLE));
     engine.close();
+    Ok(())
+}
+
+/// Opens a new database with batches of one document, and commits two rows, each alone.
+fn two_commits(alloc: Global) -> Option<Engine<MemDisk, MemDisk>> {
+    let disks = empty_disks(alloc).ok()?;
+    let devices = create_batched(alloc, disks, 1).ok()?;
+    let mut engine = open(alloc, devices, 2, 4_096).ok()?;
+    let pie = one_row(alloc, 7, b"Apple pie", b"with cream").ok()?;
+    let plum = one_row(alloc, 3, b"Plum", b"no PIE, no apple").ok()?;
+    commit(&mut engine, &pie)?.ok()?;
+    commit(&mut engine, &plum)?.ok()?;
+    Some(engine)
+}
+
+/// What a batch flushes through the first or second of two commits, or what it answers behind.
+fn flushes(through: u64) -> Result<SyncBatch, SyncError> {
+    if through > 2 {
+        return Ok(SyncBatch::Nothing { commits: 2 });
+    }
+    Ok(SyncBatch::Flushed {
+        through,
+        commits: 2,
+    })
+}
+
+#[test]
+fn a_batch_changes_no_view(rt: HostRuntime) -> Result<(), Fail> {
+    let alloc = rt.alloc();
+    let Some(mut engine) = two_commits(alloc) else {
+        return Err(Fail::from("two commits"));
+    };
+    for through in 1..5 {
+        assert!(rt; finds_after(alloc, &engine, 2, &FOUND));
+        assert_eq!(rt; engine.sync_batch(), flushes(through));
+    }
+    engine.close();
+    Ok(())
+}
+
+#[test]
+fn no_batch_is_made_after_a_fault(rt: HostRuntime) -> Result<(), Fail> {
+    let alloc = rt.alloc();
+    let fails = vec![in alloc; (Kind::Write, 4)]?;
+    let rows = MemDisk::from_files(alloc, Vec::new(alloc), fails)?;
+    let devices = create(alloc, (rows, empty_disk(alloc)?))?;
+    let mut engine = open(alloc, devices, 2, 4_096)?;
+    let changes = two_rows(alloc, 7, 3)?;
+    assert_eq!(rt; commit(&mut engine, &changes), Some(Err(CommitError::DiskFault { faults: 1 })));
+    assert_eq!(rt; engine.sync_batch(), Err(SyncError::Stopped { faults: 1 }));
+    Ok(())
+}
+
+/// How many words a view lists, as of how many commits.
+fn listed_words(engine: &Engine<MemDisk, MemDisk>, kind: ListingKind) -> Option<(u64, usize)> {
+    let listed = engine.listing(kind).ok()?;
+    match listed.listing {
+        Listing::Words { words } => Some((listed.number, words.as_slice().len())),
+        _ => None,
+    }
+}
+
+/// Through which commit, and up to which id, the index is flushed, as it lists.
+fn listed_config(engine: &Engine<MemDisk, MemDisk>) -> Option<(u64, DocId)> {
+    let listed = engine.listing(ListingKind::Config).ok()?;
+    match listed.listing {
+        Listing::Config { config } => Some((config.flushed, config.synced)),
+        _ => None,
+    }
+}
+
+#[test]
+fn a_batch_is_listed(rt: HostRuntime) -> Result<(), Fail> {
+    let alloc = rt.alloc();
+    let Some(mut engine) = two_commits(alloc) else {
+        return Err(Fail::from("two commits"));
+    };
+    assert_eq!(rt; listed_config(&engine), Some((0, 0)));
+    assert_eq!(rt; engine.sync_batch(), flushes(1));
+    assert_eq!(rt; listed_config(&engine), Some((1, 1)));
+    assert_eq!(rt; listed_words(&engine, ListingKind::IndexTable), Some((2, 3)));
+    assert_eq!(rt; listed_words(&engine, ListingKind::IndexCache), Some((2, 3)));
+    Ok(())
+}
+
+/// 41 words.
+const PEARS: &[u8] = b"pear pear pear pear pear pear pear pear pear pear pear pear pear pear pear \
+    pear pear pear pear pear pear pear pear pear pear pear pear pear pear pear pear pear pear pear \
+    pear pear pear pear pear pear pear";
+
+#[test]
+fn the_cache_has_a_size(rt: HostRuntime) -> Result<(), Fail> {
+    let alloc = rt.alloc();
+    let devices = create(alloc, empty_disks(alloc)?)?;
+    let mut engine = open(alloc, devices, 2, 4_096)?;
+    let pears = one_row(alloc, 7, PEARS, PEARS)?;
+    assert_eq!(rt; commit(&mut engine, &pears), Some(Ok(1)));
+    assert_eq!(rt; engine.cache_size(), 1_000);
     Ok(())
 }
 

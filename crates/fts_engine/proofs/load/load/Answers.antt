@@ -7,7 +7,7 @@ use Rattle.fts_engine.proofs.load.load.Goals as goal
 pub returns-in-Ok-load_commits-clause-loaded : goal.returns-in-Ok-load_commits-clause-loaded
 returns-in-Ok-load_commits-clause-loaded g c told all holds =
     let first = first_loaded all c.in-Ok.settings c.new-kept.result (c.in-Ok.ensures.loaded told all holds)
-    c.new-kept.ensures.settings c.new-kept.ensures.rows (c.new-kept.ensures.limits ∙ c.standard.ensures) in
+    c.new-kept.ensures.settings c.new-kept.ensures.rows (c.new-kept.ensures.limits ∙ c.standard.ensures) c.new-kept.ensures.index in
     c.in-Ok-load_commits.ensures.loaded told all ((c.in-Ok.ensures.read told).stays all holds) first
 
 pub returns-in-Ok-load_commits-clause-read : goal.returns-in-Ok-load_commits-clause-read
@@ -16,7 +16,7 @@ returns-in-Ok-load_commits-clause-read g c told = read_more c.args.records.now c
 pub returns-in-Err-load_commits-clause-damaged : goal.returns-in-Err-load_commits-clause-damaged
 returns-in-Err-load_commits-clause-damaged g c at e told all holds =
     let first = first_loaded all c.in-Ok.settings c.new-kept.result (c.in-Ok.ensures.loaded told all holds)
-    c.new-kept.ensures.settings c.new-kept.ensures.rows (c.new-kept.ensures.limits ∙ c.standard.ensures) in
+    c.new-kept.ensures.settings c.new-kept.ensures.rows (c.new-kept.ensures.limits ∙ c.standard.ensures) c.new-kept.ensures.index in
     subst (λ magic. IsWrongEntry magic all at) c.in-Ok.ensures.same.magic
     (c.in-Err-load_commits.ensures.damaged at (let failed = e in cc) told all ((c.in-Ok.ensures.read told).stays all holds) first)
 

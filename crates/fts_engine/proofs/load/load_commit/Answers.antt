@@ -38,7 +38,7 @@ returns-in-Ok-replay-clause-loaded g c told all holds loaded =
     (c.deref.ensures.value ∙ c.in_ok-payload.ensures.entry told all holds)
     (subst (λ (n : ℕ). IsWritten n c.as_slice.result.now) columns (subst (λ (commit : Commit). IsWritten c.len-columns.result commit) (sym c.as_slice.ensures) c.in-Ok.ensures.commit.0))
     (c.in-Ok.ensures.commit.1 ∙ ap commit_payload (sym c.as_slice.ensures))
-    c.in-Ok-replay.ensures.rows c.in-Ok-replay.ensures.settings c.in-Ok-replay.ensures.limits
+    c.in-Ok-replay.ensures.rows c.in-Ok-replay.ensures.settings c.in-Ok-replay.ensures.limits c.in-Ok-replay.ensures.index
 
 pub returns-clause-damaged : goal.returns-clause-damaged
 returns-clause-damaged g c at e told all holds loaded =

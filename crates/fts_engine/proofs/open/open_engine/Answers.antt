@@ -43,6 +43,7 @@ returns-in-Ok-open_index-clause-opened g c told =
           limit = kept.1 ∙ ap (λ (l : Limits). l.log_bytes) (sym kept.2);
           entries = c.in-Ok-open_index.ensures.kept.1 ∙ sym (ap length rows.sound.entries);
         };
+        indexed = rows.index;
         stopped = refl;
         logs = λ again going. record { entries = rows.entries; sure = refl };
         on_rows = λ again. on_rows running c.in-Ok.rows rows.sound magic rows.entries;

@@ -1,6 +1,7 @@
 use Rattle.std.proofs.Common.{◌≡◌, ℕ, List, inr, ap, sym, subst, ◌∙◌, arith}
 use Rattle.std.proofs.lemmas.Result.{IfErr-weaker}
 use Rattle.fts_disk.specs.Device.{Files}
+use Rattle.fts_entries.specs.Entry.{no_entries}
 use Rattle.fts_log.specs.Record.{IsLog, IsBrokenBehind}
 use Rattle.fts_log.specs.Log.{StandsFor, device_of}
 use Rattle.fts_log.specs.Records.{records_device}
@@ -53,6 +54,7 @@ returns-in-Ok-into_log-clause-opened g c told =
       sound = loaded.sound;
       settings = loaded.same ∙ sym c.set_limits.ensures.settings;
       rows = c.set_limits.ensures.rows ∙ loaded.rows;
+      index = c.set_limits.ensures.index loaded.state.commits no_entries loaded.index;
       entries = subst (λ (entries : List (List ℕ)). StandsFor entries c.in-Ok-into_log.log) (sym whole) stands;
     }
 

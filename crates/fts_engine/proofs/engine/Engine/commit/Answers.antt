@@ -20,12 +20,12 @@ use Rattle.fts_engine.proofs.engine.Engine.commit.Goals as goal
 
 pub returns-in-Some-clause-steps : goal.returns-in-Some-clause-steps
 returns-in-Some-clause-steps g c =
-    refuses c.args.self.now c.args.self.now refl refl refl refl refl refl _ (stopped c.in-Some.faults) refl refl
-    (λ running stands. is_stopped c.args.self.now (engine_limits c.args.self.now) c.args.changes.now c.in-Some.faults running stands c.in-Some.is)
+    refuses c.args.self.now c.args.self.now refl refl refl refl refl refl (λ commits s is. is) _ (stopped c.in-Some.faults) refl refl
+    (λ running stands. is_stopped c.args.self.now c.in-Some.faults running stands c.in-Some.is _)
 
 pub returns-in-Err-clause-steps : goal.returns-in-Err-clause-steps
 returns-in-Err-clause-steps g c =
-    refuses c.args.self.now _ c.in-Err.ensures.settings c.in-Err.ensures.rows c.in-Err.ensures.limits refl refl refl _ (commit_answer_of (Err c.refusal_of.result))
+    refuses c.args.self.now _ c.in-Err.ensures.settings c.in-Err.ensures.rows c.in-Err.ensures.limits refl refl refl c.in-Err.ensures.index _ (commit_answer_of (Err c.refusal_of.result))
     (refusal_adds c.args.changes.now c.in-Err.error (commit_answer_of (Err c.refusal_of.result)) c.refusal_of.ensures)
     (refusal_calm c.in-Err.error (commit_answer_of (Err c.refusal_of.result)) c.refusal_of.ensures)
     (λ running stands. refusal_answers (engine_limits c.args.self.now) running c.args.changes.now c.in-Err.error (commit_answer_of (Err c.refusal_of.result))
@@ -41,7 +41,7 @@ framed_commit-requires g c = (
 
 pub returns-in-Err-framed_commit-clause-steps : goal.returns-in-Err-framed_commit-clause-steps
 returns-in-Err-framed_commit-clause-steps g c =
-    refuses c.args.self.now _ c.in-Ok.ensures.settings c.in-Ok.ensures.rows c.in-Ok.ensures.limits refl refl refl _ no_memory refl refl (λ running stands. tt)
+    refuses c.args.self.now _ c.in-Ok.ensures.settings c.in-Ok.ensures.rows c.in-Ok.ensures.limits refl refl refl c.in-Ok.ensures.index _ no_memory refl refl (λ running stands. tt)
 
 pub returns-in-Ok-append-clause-steps : goal.returns-in-Ok-append-clause-steps
 returns-in-Ok-append-clause-steps g c =
@@ -61,7 +61,7 @@ returns-in-Ok-append-clause-steps g c =
     (λ past. let no = (c.in-Ok-append.ensures.full (log.end_after old.rows c.in-Ok-framed_commit.framed)).1 (past, refl) in cc))
     ∙ ap committed (sym (numbers.number ∙ stands.keeps.log.count)))
     (λ running stands. keeps_after running.state old stands.keeps changes (can_still running old stands changes c.requires) after ok _
-    same_settings (c.install.ensures.rows after c.in-Ok.ensures.planned.2) same_limits
+    same_settings (c.install.ensures.rows changes after c.in-Ok.ensures.planned.2) same_limits
     numbers.making.magic numbers.making.limit numbers.counted c.in-Ok-framed_commit.framed c.in-Ok-framed_commit.ensures numbers.grown refl)
     (λ running stands told going. logged_after running.state old stands.keeps changes (can_still running old stands changes c.requires) after ok c.append.new.self
     (subst (λ (payload : List ℕ). log.StandsFor (payloads running.state ++ payload ∷ []) c.append.new.self) c.in-Ok-framed_commit.ensures
@@ -70,13 +70,15 @@ returns-in-Ok-append-clause-steps g c =
     (holds_either running.state old stands.keeps changes (can_still running old stands changes c.requires) c.in-Ok.ensures.planned.0 c.in-Ok.ensures.planned.1 (g.D.Disk.images device) (g.D.Disk.seen device))
     (subst (λ (payload : List ℕ). LeavesOnly g.D.Disk device device' (IsBeforeOrAfter (log.magic_of old.rows) (payloads running.state) payload (g.D.Disk.images device) (g.D.Disk.seen device)))
     c.in-Ok-framed_commit.ensures (c.in-Ok-append.ensures.any_moment told (payloads running.state) (stands.logs told going).entries)))
+    (λ running stands. c.install.ensures.index changes after c.in-Ok.ensures.planned.2 running.state.commits running.index
+    (c.in-Ok.ensures.index running.state.commits running.index stands.indexed))
 
 pub returns-in-Err-LogFull-clause-steps : goal.returns-in-Err-LogFull-clause-steps
 returns-in-Err-LogFull-clause-steps g c =
     let old = c.args.self.now in
     let changes = c.args.changes.now in
     let past = (c.in-Err-LogFull.ensures.full c.in-Err-LogFull.end).0 (ap Err c.in-Err-LogFull.field-0-is) in
-    refuses old _ c.in-Ok.ensures.settings c.in-Ok.ensures.rows c.in-Ok.ensures.limits (c.in-Err-LogFull.ensures.unchanged past.0) refl refl _ (full c.in-Err-LogFull.end) refl refl
+    refuses old _ c.in-Ok.ensures.settings c.in-Ok.ensures.rows c.in-Ok.ensures.limits (c.in-Err-LogFull.ensures.unchanged past.0) refl refl c.in-Ok.ensures.index _ (full c.in-Err-LogFull.end) refl refl
     (λ running stands.
     let same = same_end running.state old stands.keeps changes c.in-Ok-framed_commit.framed c.in-Ok-framed_commit.ensures in
     let limit = stands.keeps.limit in
@@ -111,3 +113,4 @@ returns-clause-steps g c =
     (holds_either running.state old stands.keeps changes (can_still running old stands changes c.requires) c.in-Ok.ensures.planned.0 c.in-Ok.ensures.planned.1 (g.D.Disk.images device) (g.D.Disk.seen device))
     (subst (λ (payload : List ℕ). LeavesOnly g.D.Disk device device' (IsBeforeOrAfter (log.magic_of old.rows) (payloads running.state) payload (g.D.Disk.images device) (g.D.Disk.seen device)))
     c.in-Ok-framed_commit.ensures (c.in-Err-DiskFault.ensures.any_moment told (payloads running.state) (stands.logs told going).entries)))
+    c.in-Ok.ensures.index

@@ -9,11 +9,11 @@ pub returns-in-Ok : goal.returns-in-Ok
 returns-in-Ok g c =
     let asked = leaves_seen c.args.leaves.items in
     let view = view_seen c.in-Ok.view in
-    refuses c.args.self.now c.args.self.now refl refl refl refl refl refl (to_view asked) (viewed view) refl refl
+    refuses c.args.self.now c.args.self.now refl refl refl refl refl refl (λ commits s is. is) (to_view asked) (viewed view) refl refl
     (λ running stands. is_viewed running c.args.self.now stands.keeps asked c.commits.result view
-    (c.commits.ensures running.state stands.keeps) c.in-Ok.ensures)
+    (c.commits.ensures running.state stands.keeps) (c.in-Ok.ensures running.state.commits running.index stands.indexed))
 
 pub returns-in-Err : goal.returns-in-Err
 returns-in-Err g c =
-    refuses c.args.self.now c.args.self.now refl refl refl refl refl refl (to_view (leaves_seen c.args.leaves.items)) no_memory refl refl
+    refuses c.args.self.now c.args.self.now refl refl refl refl refl refl (λ commits s is. is) (to_view (leaves_seen c.args.leaves.items)) no_memory refl refl
     (λ running stands. tt)
