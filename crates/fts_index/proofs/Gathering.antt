@@ -1,12 +1,14 @@
 -- What documents have by the cache is what rows have by their texts.
-use Rattle.std.proofs.Common.{◌≡◌, ◌↔◌, ℕ, ◌+◌, ◌-◌, ◌<◌, ◌≤◌, Bool, true, false, cond, not, ◌&&◌, ◌||◌, List, [], ◌∷◌, ◌++◌, map, filter, length, take, get_or, append_assoc, append-nil, nat_eq, Some, refl, sym, ap, ap₂, subst, ◌∙◌, ⊎_elim, arith, All, IsTrue}
+use Rattle.std.proofs.Common.{◌≡◌, ◌↔◌, ℕ, suc, ◌+◌, ◌-◌, ◌<◌, ◌≤◌, Bool, true, false, cond, not, ◌&&◌, ◌||◌, List, [], ◌∷◌, ◌++◌, map, filter, length, take, get_or, nat_lt, append_assoc, append-nil, nat_eq, Some, refl, sym, ap, ap₂, subst, ◌∙◌, ⊎_elim, arith, All, IsTrue}
 use Rattle.std.specs.Prelude.{◌≢◌, Result, Ok, Err, IfOk}
+use Rattle.std.specs.Borrow.{Bor}
 use Rattle.std.specs.List.{AllByRecursion, list_any, list_all}
+use Rattle.fts_cache.specs.Sorted.{IsAmong}
 use Rattle.std.specs.Option.{unwrap_or}
 use Rattle.std.specs.Map.{keys_of, lookup}
 use Rattle.std.specs.BTreeMap.{is_at}
 use Rattle.std.specs.Str.{bytes_eq}
-use Rattle.std.proofs.lemmas.Bool.{cases_Bool, false≢true, eqb-true, or_cases}
+use Rattle.std.proofs.lemmas.Bool.{cases_Bool, false≢true, eqb-true, leb-true, or_cases}
 use Rattle.std.proofs.lemmas.List.{map-append, take-append-drop}
 use Rattle.std.proofs.lemmas.List.Folds.{list_any-append}
 use Rattle.std.proofs.lemmas.Map.Text.{is_eq-slice_cmp}
@@ -17,7 +19,7 @@ use Rattle.fts_words.specs.Order.{begins_with, byte_order}
 use Rattle.fts_words.specs.Indexed.{Rules, indexed_words, placed_words, word_of}
 use Rattle.fts_types.specs.Row.{Row}
 use Rattle.fts_ids.specs.Ids.{has, Ascend, AscendFrom}
-use Rattle.fts_ids.proofs.Ascending.{AscendFrom-sooner, same_ids, has-filter}
+use Rattle.fts_ids.proofs.Ascending.{AscendFrom-sooner, AscendFrom-join, same_ids, has-filter}
 use Rattle.fts_ids.proofs.Marking.{last_most}
 use Rattle.fts_commits.specs.Commit.{Rows}
 use Rattle.fts_commits.specs.Turn.{Turn, RowsAscend, AreTurns, births_of, deaths_of}
@@ -74,6 +76,10 @@ and_false false = refl
 and_true : (a : Bool) → (a && true) ≡ a
 and_true true = refl
 and_true false = refl
+
+or_left : (a b : Bool) → a ≡ true → (a || b) ≡ true
+or_left true b e = refl
+or_left false b e = absurd (false≢true e)
 
 or_right : (a b : Bool) → b ≡ true → (a || b) ≡ true
 or_right true b e = refl
@@ -141,12 +147,24 @@ taken_out ids left taken is id =
     ap (λ (xs : List ℕ). has xs id) is ∙ has-filter (λ k. not (has taken k)) ids id ∙ and_comm (not (has taken id)) (has ids id)
 
 -- ids before others, by the last of the first and the first of the others
-pub before_all : (front rest : List ℕ) (first : ℕ) (more : List ℕ) → AscendFrom 0 front → rest ≡ first ∷ more → AscendFrom 0 rest → get_or front (length front - 1) 0 < first → (id : ℕ) → has front id ≡ true
+pub before_all : (front rest : List ℕ) → AscendFrom 0 front → AscendFrom 0 rest → 0 < length rest → nat_lt (get_or front (length front - 1) 0) (get_or rest 0 0) ≡ true → (id : ℕ) → has front id ≡ true
     → AscendFrom (id + 1) rest
-before_all front rest first more up is down less id there =
+before_all front [] up down some less id there = absurd (omega (arith, some))
+before_all front (x ∷ xs) up down some less id there =
     let low = last_most front id up there in
-    let both : AscendFrom 0 (first ∷ more) = subst (AscendFrom 0) is down in
-    subst (AscendFrom (id + 1)) (sym is) (omega (arith, low, less), both.1)
+    let above = leb-true (suc (get_or front (length front - 1) 0)) x less in
+    (omega (arith, low, above), down.1)
+
+pub joined_up : (a b items : List ℕ) → items ≡ a ++ b → Ascend a → Ascend b → ((id : ℕ) → has a id ≡ true → AscendFrom (id + 1) b) → Ascend items
+joined_up a b items is up down above = subst Ascend (sym is) (AscendFrom-join 0 a b up down above)
+
+pub ok_leads : {X E : Type 0} (r : Result X E) (P Q : X → Type 0) → ((x : X) → P x → Q x) → IfOk r P → IfOk r Q
+ok_leads (Ok x) P Q step h = step x h
+ok_leads (Err e) P Q step h = h
+
+pub any_mapped : {X Y : Type 0} (f : Y → Bool) (g : X → Y) (xs : List X) → list_any f (map g xs) ≡ list_any (λ x. f (g x)) xs
+any_mapped f g [] = refl
+any_mapped f g (x ∷ xs) = ap (λ (b : Bool). f (g x) || b) (any_mapped f g xs)
 
 -- ---- what the index shows is what the rows have
 
@@ -317,6 +335,37 @@ module _ (shown : Shown) (id : ℕ) where
       last_one : (ws : List (List ℕ)) (w : List ℕ) → (list_all (shown id) ws && shown id w) ≡ list_all (shown id) (ws ++ w ∷ [])
       last_one [] w = sym (and_true (shown id w))
       last_one (v ∷ vs) w = and_assoc (shown id v) (list_all (shown id) vs) (shown id w) ∙ ap (λ (b : Bool). shown id v && b) (last_one vs w)
+
+-- the words of the cache, and of the tables, that begin so
+pub cache_told : (index : Index) (id : ℕ) (prefix : List ℕ) (words : List (Bor (List ℕ))) (some : Bool) → some ≡ list_any (λ (w : Bor (List ℕ)). cache_has index id w.now) words
+    → ((w : List ℕ) → IsAmong w words ↔ (IsTrue (begins_with prefix w) × (postings_of index.cache w ≢ []))) → IsTrue some ↔ HasPrefix (cache_has index) id prefix
+cache_told index id prefix words some is tells =
+    prefix_told (cache_has index) id prefix (map (λ (w : Bor (List ℕ)). w.now) words) some (is ∙ sym (any_mapped (cache_has index id) (λ (w : Bor (List ℕ)). w.now) words))
+    (λ w there. ((tells w).0 there).0)
+    (λ w begins here. (tells w).1 (begins,
+    (λ none. false≢true (sym (ap (λ (ps : List Posting). has (doc_ids ps) id && not (has (lists.ids_of DeletedCache index.lists) id)) none) ∙ here))))
+
+pub table_told : (index : Index) (id : ℕ) (prefix : List ℕ) (listing : List (List ℕ × List Docs)) (some : Bool) → some ≡ list_any (table_has index id) (keys_of listing)
+    → IsListing (nodes index.tables) prefix listing → IsTrue some ↔ HasPrefix (table_has index) id prefix
+table_told index id prefix listing some is lists_them =
+    prefix_told (table_has index) id prefix (keys_of listing) some is
+    (λ w there. listed_begin (nodes index.tables) prefix listing lists_them w there)
+    (λ w begins here. listed_all (nodes index.tables) prefix listing lists_them w begins
+    (λ none. false≢true (sym (ap (λ (ns : List Docs). (has (doc_ids (joined ns)) id && not (has (lists.ids_of Deleted index.lists) id)) && not (has (lists.ids_of DeletedCache index.lists) id)) none) ∙ here)))
+
+-- words that begin so, of one kind or the other
+pub either_told : (a b some : Bool) (f g : Shown) (id : ℕ) (prefix : List ℕ) → some ≡ (a || b) → IsTrue a ↔ HasPrefix f id prefix → IsTrue b ↔ HasPrefix g id prefix
+    → IsTrue some ↔ HasPrefix (λ d w. f d w || g d w) id prefix
+either_told a b some f g id prefix is left right = (
+  λ e. ⊎_elim
+      (λ (yes : a ≡ true). (let h = left.0 yes in record { word = h.word; begins = h.begins; here = or_left (f id h.word) (g id h.word) h.here }))
+      (λ (yes : b ≡ true). (let h = right.0 yes in record { word = h.word; begins = h.begins; here = or_right (f id h.word) (g id h.word) h.here }))
+      (or_cases a b (sym is ∙ e)),
+  λ h. is ∙ ⊎_elim
+      (λ (yes : f id h.word ≡ true). or_left a b (left.1 (record { word = h.word; begins = h.begins; here = yes })))
+      (λ (yes : g id h.word ≡ true). or_right a b (right.1 (record { word = h.word; begins = h.begins; here = yes })))
+      (or_cases (f id h.word) (g id h.word) h.here),
+)
 
 module _ (texts : List (List ℕ)) (prefix : List ℕ) where
   -- a word that begins so, among the words of a row

@@ -28,6 +28,10 @@ no_docs : (ns : List Docs) → (ns ≢ [] → ⊥) → ns ≡ []
 no_docs [] h = refl
 no_docs (n ∷ ns) h = absurd (h (λ e. absurd (omega (arith, ap length e))))
 
+pub mapped_twice : {X Y Z : Type 0} (g : Y → Z) (f : X → Y) (xs : List X) → map g (map f xs) ≡ map (λ x. g (f x)) xs
+mapped_twice g f [] = refl
+mapped_twice g f (x ∷ xs) = ap (λ (ys : List _). g (f x) ∷ ys) (mapped_twice g f xs)
+
 module _ (f : List ℕ → List Docs) where
   abbrev pub listed_of : List (List ℕ) → List (List ℕ × List Docs)
   listed_of ws = map (λ w. (w, f w)) ws

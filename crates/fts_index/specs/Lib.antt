@@ -4,3 +4,4 @@ pub mod Births
 pub mod Index
 pub mod Gathered
 pub mod Parts
+pub mod Made

@@ -17,7 +17,7 @@ use crate::document::document_words;
 use crate::gather::{Gathered, needed, told};
 use crate::listing::listed;
 use crate::pending::Pending;
-use crate::sync::{SyncPlan, covered_deaths, covers, move_dead, pop_covered};
+use crate::sync::{SyncPlan, covered_deaths, covers, move_dead, pop_covered, through_of};
 use fts_aux::Tables;
 use fts_cache::{Cache, DocWords};
 use fts_ilist::WordNodes;
@@ -218,12 +218,7 @@ impl Index {
         }
         let count = covers(batch_docs, &self.pending);
         let synced = self.pending[count - 1].largest;
-        // More commits than 64 bits count are more than memory holds.
-        let through = self
-            .lists
-            .flushed()
-            .checked_add(count as u64)
-            .ok_or(AllocError)?;
+        let through = through_of(self.lists.flushed(), count)?;
         let dead = covered_deaths(self.alloc, &self.pending, count)?;
         let nodes = batch(self.alloc, &self.cache, synced, &self.lists)?;
         make_batch_room(self, &nodes, dead.len())?;

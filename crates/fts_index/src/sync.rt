@@ -1,5 +1,5 @@
 //! What a batch takes of an index.
-ghost use Rattle.std.specs.Prelude.{◌≡◌, ◌<◌, ◌≤◌, ◌&&◌, ◌||◌, ℕ, length, drop, map, max, not, IfOk};
+ghost use Rattle.std.specs.Prelude.{◌≡◌, ◌+◌, ◌<◌, ◌≤◌, ◌&&◌, ◌||◌, ℕ, length, drop, map, max, not, IfOk};
 ghost use Rattle.std.specs.Prelude.{nat_le};
 ghost use Rattle.fts_ids.specs.Ids.{has, Ascend};
 ghost use Rattle.fts_lists.specs.State.{ids_of, room_of};
@@ -52,6 +52,17 @@ pub(crate) fn covers(limit: u32, pending: &VecDeque<Pending>) -> usize
         left -= births;
     }
     pending.len()
+}
+
+/// The number of so many commits behind those that are flushed. More than 64 bits count are more
+/// than memory holds.
+pub(crate) fn through_of(flushed: u64, count: usize) -> Result<u64, AllocError>
+    ensures { IfOk result (λ through. through ≡ flushed + count) }
+{
+    match flushed.checked_add(count as u64) {
+        Some(through) => Ok(through),
+        None => Err(AllocError),
+    }
 }
 
 /// What died in the first commits, in their order.

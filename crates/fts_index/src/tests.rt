@@ -1,11 +1,11 @@
-ghost use Rattle.std.specs.Prelude.{◌≡◌, ◌<◌, ◌^◌, ◌++◌, ℕ, map, IfOk, OnOk};
+ghost use Rattle.std.specs.Prelude.{◌≡◌, ◌<◌, ◌^◌, ◌∷◌, [], ℕ, List, map, IfOk, OnOk};
 ghost use Rattle.fts_types.specs.Rules.{rules_of};
-ghost use Rattle.fts_commits.specs.Commit.{Rows};
 ghost use Rattle.fts_types.specs.Row.{row_of};
 ghost use Rattle.fts_index.specs.Births.{CanIndex, AreBirths};
-ghost use Rattle.fts_index.specs.Index.{Indexes};
+ghost use Rattle.fts_index.specs.Made.{IsMade};
 
 use crate::Index;
+use fts_ilist::Node;
 use fts_listing::{Listing, ListingKind};
 use fts_query::Leaf;
 use fts_types::{Names, Row, RowTexts, Settings, Texts};
@@ -14,7 +14,9 @@ use std::process::Abort;
 use std::sync::Arc;
 use std::test::Fail;
 
-fn settings(alloc: Global) -> Settings {
+fn settings(alloc: Global) -> Settings
+    ensures { 0 < result.min }
+{
     Settings {
         columns: Names::new(alloc),
         min: 3,
@@ -72,16 +74,27 @@ fn commit(
     index: &mut Index,
     settings: &Settings,
     births: &[Row],
-    deaths: &[u64],
     largest: u64,
-) -> Result<(), Fail> {
-    let plan = index.plan_commit(settings, births, deaths, largest)?;
+) -> Result<(), Fail>
+    requires { (last : ℕ) × (dead : List ℕ) × IsMade (rules_of settings.now) last dead index.old
+        × AreBirths last largest (map row_of births.now) }
+    ensures { OnOk result ((last : ℕ) (dead : List ℕ)
+        → IsMade (rules_of settings.now) last dead index.old
+        → AreBirths last largest (map row_of births.now)
+        → IsMade (rules_of settings.now) largest dead index.new) }
+{
+    let plan = index.plan_commit(settings, births, &[], largest)?;
     index.install_commit(plan);
     Ok(())
 }
 
 // Makes the next batch, and says through which commit the index is flushed with it.
-fn sync(index: &mut Index, batch_docs: u32) -> Result<Option<u64>, Fail> {
+fn sync(index: &mut Index, settings: &Settings, batch_docs: u32) -> Result<Option<u64>, Fail>
+    requires { (last : ℕ) × (dead : List ℕ) × IsMade (rules_of settings.now) last dead index.old }
+    ensures { OnOk result ((last : ℕ) (dead : List ℕ)
+        → IsMade (rules_of settings.now) last dead index.old
+        → IsMade (rules_of settings.now) last dead index.new) }
+{
     match index.plan_sync(batch_docs)? {
         Some(plan) => {
             let through = plan.through();
@@ -98,8 +111,8 @@ fn filled(rt: &impl Abort, alloc: Global) -> Result<Index, Fail> {
     let first = first_rows(rt, alloc)?;
     let later = later_rows(rt, alloc)?;
     let mut index = Index::new(alloc);
-    commit(&mut index, &settings, &first, &[], 4)?;
-    commit(&mut index, &settings, &later, &[], 900)?;
+    commit(&mut index, &settings, &first, 4)?;
+    commit(&mut index, &settings, &later, 900)?;
     Ok(index)
 }
 
@@ -242,18 +255,65 @@ fn leaves_are_told_in_their_order(rt: HostRuntime) -> Result<(), Fail> {
     Ok(())
 }
 
+// A row alone.
+fn one_row(
+    rt: &impl Abort,
+    alloc: Global,
+    last: u64,
+    doc: u64,
+    text: &[u8],
+) -> Result<Vec<Row>, Fail>
+    requires above { last < doc }
+    requires limit { doc < 2 ^ 63 }
+    ensures { IfOk result (λ rows. AreBirths last doc (map row_of rows.items)) }
+{
+    let mut rows = Vec::new(alloc);
+    rows.push(row(rt, alloc, doc, &[text])?)?;
+    Ok(rows)
+}
+
 // The index of the commits `apple` and `apple pie`.
-fn with_apples(rt: &impl Abort, alloc: Global) -> Result<Index, Fail> {
-    let settings = settings(alloc);
+fn with_apples(rt: &impl Abort, alloc: Global, settings: &Settings) -> Result<Index, Fail>
+    requires { 0 < settings.now.min }
+    ensures { IfOk result (λ index. IsMade (rules_of settings.now) 2 [] index) }
+{
+    let first = one_row(rt, alloc, 0, 1, b"apple")?;
+    let second = one_row(rt, alloc, 1, 2, b"apple pie")?;
     let mut index = Index::new(alloc);
-    let first = vec![in alloc; row(rt, alloc, 1, &[b"apple"])?]?;
-    let second = vec![in alloc; row(rt, alloc, 2, &[b"apple pie"])?]?;
-    commit(&mut index, &settings, &first, &[], 1)?;
-    commit(&mut index, &settings, &second, &[], 2)?;
+    commit(&mut index, settings, &first, 1)?;
+    commit(&mut index, settings, &second, 2)?;
     Ok(index)
 }
 
-// What is listed: a line for each word, with the number of its groups and of its documents.
+// A commit in which the row 1 dies.
+fn without_first(index: &mut Index, settings: &Settings) -> Result<(), Fail>
+    requires { IsMade (rules_of settings.now) 2 [] index.old }
+    ensures { OnOk result (IsMade (rules_of settings.now) 2 (1 ∷ []) index.new) }
+{
+    let plan = index.plan_commit(settings, &[], &[1], 2)?;
+    index.install_commit(plan);
+    Ok(())
+}
+
+// Both rows are found.
+fn finds_apples(rt: &impl Abort, alloc: Global, index: &Index) -> Result<(), Fail> {
+    finds_word(rt, alloc, index, b"apple", &[1, 2])?;
+    finds_word(rt, alloc, index, b"pie", &[2])?;
+    finds_prefix(rt, alloc, index, b"", &[1, 2])?;
+    finds_prefix(rt, alloc, index, b"p", &[2])?;
+    Ok(())
+}
+
+// The documents of nodes.
+fn documents(nodes: &[Node]) -> usize {
+    let mut documents: usize = 0;
+    for node in nodes {
+        documents = documents.saturating_add(node.count());
+    }
+    documents
+}
+
+// Words are listed, each with so many nodes and documents.
 fn lists(
     rt: &impl Abort,
     alloc: Global,
@@ -261,21 +321,13 @@ fn lists(
     kind: ListingKind,
     expected: &[(&[u8], usize, usize)],
 ) -> Result<(), Fail> {
-    let listing = index.listing(&settings(alloc), kind)?;
-    let Listing::Words { words } = listing else {
-        assert!(rt; false, "words");
-        return Ok(());
+    let Listing::Words { words } = index.listing(&settings(alloc), kind)? else {
+        return Err(Fail::from("no words"));
     };
     assert_eq!(rt; words.as_slice().len(), expected.len());
     for (found, row) in words.as_slice().iter().zip(expected.iter()) {
-        let mut documents = 0;
-        for node in found.nodes() {
-            documents += node.count();
-        }
-        assert_eq!(rt;
-            (found.word().as_bytes(), found.nodes().len(), documents),
-            *row
-        );
+        assert_eq!(rt; found.word().as_bytes(), row.0);
+        assert_eq!(rt; (found.nodes().len(), documents(found.nodes())), (row.1, row.2));
     }
     Ok(())
 }
@@ -283,65 +335,77 @@ fn lists(
 #[test]
 fn a_search_is_the_same_before_and_behind_batches(rt: HostRuntime) -> Result<(), Fail> {
     let alloc = rt.alloc();
-    let mut index = with_apples(&rt, alloc)?;
-    for through in [Some(1), Some(2), None] {
-        finds_word(&rt, alloc, &index, b"apple", &[1, 2])?;
-        finds_word(&rt, alloc, &index, b"pie", &[2])?;
-        finds_prefix(&rt, alloc, &index, b"", &[1, 2])?;
-        finds_prefix(&rt, alloc, &index, b"p", &[2])?;
-        assert_eq!(rt; sync(&mut index, 1)?, through);
-    }
-    finds_word(&rt, alloc, &index, b"apple", &[1, 2])?;
-    finds_prefix(&rt, alloc, &index, b"", &[1, 2])?;
+    let settings = settings(alloc);
+    let mut index = with_apples(&rt, alloc, &settings)?;
+    finds_apples(&rt, alloc, &index)?;
+    assert_eq!(rt; sync(&mut index, &settings, 1)?, Some(1));
+    finds_apples(&rt, alloc, &index)?;
+    assert_eq!(rt; sync(&mut index, &settings, 1)?, Some(2));
+    finds_apples(&rt, alloc, &index)?;
+    assert_eq!(rt; sync(&mut index, &settings, 1)?, None);
     Ok(())
 }
 
 #[test]
-fn batches_have_their_own_nodes(rt: HostRuntime) -> Result<(), Fail> {
+fn each_batch_has_its_own_nodes(rt: HostRuntime) -> Result<(), Fail> {
     let alloc = rt.alloc();
-    let mut index = with_apples(&rt, alloc)?;
-    lists(&rt, alloc, &index, ListingKind::IndexTable, &[])?;
+    let settings = settings(alloc);
+    let mut index = with_apples(&rt, alloc, &settings)?;
     let both: [(&[u8], usize, usize); 2] = [(b"apple", 1, 2), (b"pie", 1, 1)];
     lists(&rt, alloc, &index, ListingKind::IndexCache, &both)?;
-    sync(&mut index, 1)?;
-    sync(&mut index, 1)?;
+    sync(&mut index, &settings, 1)?;
+    sync(&mut index, &settings, 1)?;
     let nodes: [(&[u8], usize, usize); 2] = [(b"apple", 2, 2), (b"pie", 1, 1)];
     lists(&rt, alloc, &index, ListingKind::IndexTable, &nodes)?;
     lists(&rt, alloc, &index, ListingKind::IndexCache, &[])?;
     Ok(())
 }
 
-// A commit without births rides along, and one above the limit is a batch of its own.
+// A commit without births rides along.
 #[test]
 fn a_batch_covers_what_fits(rt: HostRuntime) -> Result<(), Fail> {
     let alloc = rt.alloc();
     let settings = settings(alloc);
-    let mut index = with_apples(&rt, alloc)?;
-    commit(&mut index, &settings, &[], &[1], 2)?;
-    assert_eq!(rt; sync(&mut index, 1)?, Some(1));
+    let mut index = with_apples(&rt, alloc, &settings)?;
+    without_first(&mut index, &settings)?;
+    assert_eq!(rt; sync(&mut index, &settings, 1)?, Some(1));
     finds_word(&rt, alloc, &index, b"apple", &[2])?;
-    assert_eq!(rt; sync(&mut index, 1)?, Some(3));
+    assert_eq!(rt; sync(&mut index, &settings, 1)?, Some(3));
     finds_word(&rt, alloc, &index, b"apple", &[2])?;
-    assert_eq!(rt; sync(&mut index, 1)?, None);
-    commit(&mut index, &settings, &first_rows(&rt, alloc)?, &[], 4)?;
-    assert_eq!(rt; sync(&mut index, 1)?, Some(4));
+    Ok(())
+}
+
+// A commit above the limit is a batch of its own.
+#[test]
+fn a_large_commit_is_a_batch_alone(rt: HostRuntime) -> Result<(), Fail> {
+    let alloc = rt.alloc();
+    let settings = settings(alloc);
+    let births = first_rows(&rt, alloc)?;
+    let mut index = Index::new(alloc);
+    commit(&mut index, &settings, &births, 4)?;
+    assert_eq!(rt; sync(&mut index, &settings, 1)?, Some(1));
     finds_word(&rt, alloc, &index, b"pear", &[3, 4])?;
     Ok(())
+}
+
+// So many words `pear`, a space behind each.
+fn pears(alloc: Global, count: usize) -> Result<Vec<u8>, Fail> {
+    let mut text = Vec::new(alloc);
+    for _ in 0..count {
+        text.extend_from_slice(b"pear ")?;
+    }
+    Ok(text)
 }
 
 #[test]
 fn the_cache_counts_occurrences(rt: HostRuntime) -> Result<(), Fail> {
     let alloc = rt.alloc();
-    let mut text = Vec::new(alloc);
-    for _ in 0..82 {
-        text.extend_from_slice(b"pear ")?;
-    }
-    let births = vec![in alloc; row(&rt, alloc, 7, &[text.as_slice()])?]?;
+    let settings = settings(alloc);
+    let births = one_row(&rt, alloc, 0, 7, &pears(alloc, 82)?)?;
     let mut index = Index::new(alloc);
-    assert_eq!(rt; index.cache_size(), 0);
-    commit(&mut index, &settings(alloc), &births, &[], 7)?;
+    commit(&mut index, &settings, &births, 7)?;
     assert_eq!(rt; index.cache_size(), 1_000);
-    sync(&mut index, 1)?;
+    sync(&mut index, &settings, 1)?;
     assert_eq!(rt; index.cache_size(), 0);
     Ok(())
 }

@@ -38,12 +38,11 @@ fn first_word<'a>(
     ensures { IfOk result (λ found. IsWalked (nodes tables.now) []
         (map (λ p. (p.0.now, p.1)) found.items)) }
 {
-    let nodes = tables.nodes_of(b"");
     let mut words = Vec::new(alloc);
-    if nodes.is_empty() {
-        return Ok(words);
+    let nodes = tables.nodes_of(b"");
+    if !nodes.is_empty() {
+        words.push((empty, nodes))?;
     }
-    words.push((empty, nodes))?;
     Ok(words)
 }
 

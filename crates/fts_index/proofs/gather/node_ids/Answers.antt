@@ -1,7 +1,7 @@
 use Rattle.std.proofs.Common.{List, subst, ap, ◌++◌, ◌∙◌}
 use Rattle.fts_ilist.specs.Spelling.{Posting, ArePostings}
 use Rattle.fts_index.specs.Gathered.{doc_ids}
-use Rattle.fts_index.proofs.Gathering.{reading_begins, reading_more, read_all, read_ascend}
+use Rattle.fts_index.proofs.Gathering.{reading_more, read_ascend}
 use Rattle.fts_index.proofs.gather.node_ids.Goals as goal
 
 pub loop-node-preserved : goal.loop-node-preserved
@@ -12,3 +12,6 @@ loop-node-preserved c = record {
       c.loop-node.invariant.reading c.in-Some.ensures.steps (subst ArePostings c.cursor.ensures.documents c.cursor.ensures.are)
       (c.in_ok-push_ids.ensures ∙ ap (λ (ps : List Posting). c.loop-node.ids.items ++ doc_ids ps) c.cursor.ensures.documents);
 }
+
+pub returns-clause-ascend : goal.returns-clause-ascend
+returns-clause-ascend c = read_ascend c.args.nodes c.loop-node.ids.items c.loop-node.node-iterator c.loop-node.invariant.reading c.in-None.ensures.steps c.requires

@@ -17,5 +17,5 @@ returns-clause-each c = λ id.
     let is = dedup_is nat_eq sorted c.dedup.new.self.items c.dedup.ensures.filtered in
     ap (λ ids. has ids id) is
     ∙ dedup_has sorted id
-    ∙ list_any-IsPermutation (nat_eq id) c.in_ok-dead.dead.items sorted c.sort_unstable.ensures.permutation
+    ∙ sym (list_any-IsPermutation (nat_eq id) c.in_ok-dead.dead.items sorted c.sort_unstable.ensures.permutation)
     ∙ ap (λ ids. has ids id) c.in_ok-dead.ensures

@@ -4,8 +4,8 @@ use Rattle.fts_aux.specs.Tables.{nodes}
 use Rattle.fts_index.proofs.Walks.{behind}
 use Rattle.fts_index.proofs.walk.all_words.Given as goal
 
-abbrev pub invariant-loop : goal.invariant-loop
-invariant-loop l = IsWalked (nodes l.tables) l.last (map (λ p. (p.0.now, p.1)) l.words.items)
+abbrev pub invariant-loop-word : goal.invariant-loop-word
+invariant-loop-word l = IsWalked (nodes l.tables) l.last (map (λ p. (p.0.now, p.1)) l.words.items)
 
-abbrev pub decreases-loop : goal.decreases-loop
-decreases-loop l = behind l.last l.tables
+abbrev pub decreases-loop-word : goal.decreases-loop-word
+decreases-loop-word l = behind l.last l.tables

@@ -1,4 +1,4 @@
-use Rattle.std.proofs.Common.{◌≤◌, map, subst, sym, arith, ap}
+use Rattle.std.proofs.Common.{◌≡◌, ◌≤◌, length, map, subst, sym, arith, ap}
 use Rattle.std.proofs.lemmas.List.{length-map}
 use Rattle.fts_types.specs.Rules.{rules_of}
 use Rattle.fts_types.specs.Row.{row_of}
@@ -20,15 +20,16 @@ returns-clause-planned c =
     let now = c.make_room.new.index in
     let stands = c.requires.stands.2 in
     let can = c.requires.stands.3 in
+    let same : c.in_ok-deaths.deaths.items ≡ c.args.deaths.now = c.in_ok-deaths.ensures.items_if_clones_equal (λ x y e. e) in
     let last : now.cache.last ≤ largest = (let e = c.make_room.ensures.same.cache.last in let le = stands.last in omega (arith, e, le)) in
     record {
       words = c.in_ok-documents.ensures;
-      pending = λ i. record { births = sym (length-map c.args.births.now row_of) i; deaths = c.in_ok-deaths.ensures i; largest = c.args.largest };
+      pending = λ i. record { births = sym (length-map c.args.births.now row_of) i; deaths = same i; largest = c.args.largest };
       fits = record {
         ids = documents_ascend (rules_of c.args.settings.now) now.cache.last largest c.args.largest (map row_of c.args.births.now) documents last can.ids c.in_ok-documents.ensures;
         room = subst (HasRoom now.cache) c.deref.ensures.value c.in_ok-make_room.ensures.documents;
-        ascend = subst Ascend (sym c.in_ok-deaths.ensures) c.requires.ascending;
-        dead = (let few = c.in_ok-make_room.ensures.deaths in omega (arith, few, c.len.ensures, c.in_ok-deaths.deaths.ok.0));
+        ascend = subst Ascend (sym same) c.requires.ascending;
+        dead = (let few = c.in_ok-make_room.ensures.deaths in omega (arith, few, c.len.ensures, c.in_ok-deaths.ensures.len, ap length same));
         queue = c.in_ok-make_room.ensures.queue;
       };
     }

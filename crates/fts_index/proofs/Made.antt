@@ -1,0 +1,87 @@
+-- Commits and batches of an index, one after another.
+use Rattle.std.proofs.Common.{◌≡◌, ℕ, ◌<◌, ◌≤◌, List, [], ◌∷◌, ◌++◌, append-nil, nat_eq, refl, sym, ap, ap₂, subst, ◌∙◌, arith}
+use Rattle.std.specs.List.{All, IsDistinct}
+use Rattle.std.proofs.lemmas.Grind.{flat_map-append}
+use Rattle.fts_words.specs.Indexed.{Rules}
+use Rattle.fts_types.specs.Row.{Row}
+use Rattle.fts_commits.specs.Turn.{Turn, RowsAscend, AreTurns, deaths_of}
+use Rattle.fts_entries.specs.Entry.{IndexState, no_entries, sealed, after_entry}
+use Rattle.fts_entries.specs.Batch.{IsBatch, largest_after, after_batch}
+use Rattle.fts_entries.specs.Exact.{FitsTurns}
+use Rattle.fts_entries.proofs.Commits.{one_fits, none_fits}
+use Rattle.fts_entries.proofs.Kept.{still_fits, same_state}
+use Rattle.fts_entries.proofs.Turns.{largest_behind}
+use Rattle.fts_index.specs.declared.index.Index.{Index}
+use Rattle.fts_index.specs.declared.sync.SyncPlan.{SyncPlan}
+use Rattle.fts_index.specs.Births.{AreBirths, turn_of}
+use Rattle.fts_index.specs.Index.{StandsFor, AreCommits, CanTurn}
+use Rattle.fts_index.specs.Made.{IsMade}
+
+turns_push : (n : ℕ) (turns : List Turn) (turn : Turn) → AreTurns n turns → RowsAscend (largest_after n turns) turn.largest turn.births → All (λ id. id ≤ largest_after n turns) turn.deaths → AreTurns n (turns ++ turn ∷ [])
+turns_push n [] turn are births deaths = (births, deaths, tt)
+turns_push n (t ∷ ts) turn are births deaths = (are.0, are.1, turns_push t.largest ts turn are.2 births deaths)
+
+pub made_first : (rules : Rules) (index : Index) → StandsFor rules [] no_entries index → 0 < rules.min → IsMade rules 0 [] index
+unfolding IsDistinct
+made_first rules index stands some = record {
+  turns = [];
+  state = no_entries;
+  stands = stands;
+  commits = record { ascend = tt; once = tt };
+  fits = none_fits [];
+  last_is = refl;
+  dead_are = refl;
+  positive = some;
+}
+
+module _ (rules : Rules) (last : ℕ) (dead : List ℕ) (old new : Index) (made : IsMade rules last dead old) where
+  -- a commit that can come
+  pub made_can : (births : List Row) (deaths : List ℕ) (largest : ℕ) → AreBirths last largest births → CanTurn made.turns (turn_of births deaths largest)
+  made_can births deaths largest are = subst (λ n. AreBirths n largest births) (sym made.last_is) are
+
+  pub made_more : (births : List Row) (deaths : List ℕ) (largest : ℕ) → AreBirths last largest births → All (λ id. id ≤ last) deaths → IsDistinct nat_eq (dead ++ deaths)
+      → StandsFor rules (made.turns ++ turn_of births deaths largest ∷ []) made.state new → IsMade rules largest (dead ++ deaths) new
+  made_more births deaths largest are low once stands =
+      let turn = turn_of births deaths largest in
+      let all : deaths_of (made.turns ++ turn ∷ []) ≡ dead ++ deaths =
+      flat_map-append (λ (t : Turn). t.deaths) made.turns (turn ∷ []) ∙ ap₂ (λ (a b : List ℕ). a ++ b) made.dead_are (append-nil deaths) in
+      record {
+        turns = made.turns ++ turn ∷ [];
+        state = made.state;
+        stands = stands;
+        commits = record {
+          ascend = turns_push 0 made.turns turn made.commits.ascend (subst (λ n. RowsAscend n largest births) (sym made.last_is) are.ids) (subst (λ n. All (λ id. id ≤ n) deaths) (sym made.last_is) low);
+          once = subst (IsDistinct nat_eq) (sym all) once;
+        };
+        fits = one_fits made.turns turn made.state made.fits;
+        last_is = largest_behind 0 made.turns (turn ∷ []);
+        dead_are = all;
+        positive = made.positive;
+      }
+
+  -- and a batch
+  pub made_flushed : (limit : ℕ) (plan : SyncPlan) → IsBatch rules limit made.turns made.state plan.through plan.synced plan.nodes.items
+      → StandsFor rules made.turns (after_batch rules limit made.turns made.state) new → IsMade rules last dead new
+  made_flushed limit plan batch stands = record {
+    turns = made.turns;
+    state = after_batch rules limit made.turns made.state;
+    stands = stands;
+    commits = made.commits;
+    fits = subst (FitsTurns made.turns) (same_state rules limit made.turns made.state plan.through plan.synced plan.nodes.items batch)
+        (still_fits rules limit made.turns made.state plan.through plan.synced plan.nodes.items batch made.positive made.commits.ascend made.fits);
+    last_is = made.last_is;
+    dead_are = made.dead_are;
+    positive = made.positive;
+  }
+
+  pub made_same : StandsFor rules made.turns made.state new → IsMade rules last dead new
+  made_same stands = record {
+    turns = made.turns;
+    state = made.state;
+    stands = stands;
+    commits = made.commits;
+    fits = made.fits;
+    last_is = made.last_is;
+    dead_are = made.dead_are;
+    positive = made.positive;
+  }
