@@ -12,3 +12,4 @@ pub mod Syncing
 pub mod Walks
 pub mod Listings
 pub mod Sizes
+pub mod Made
