@@ -353,6 +353,9 @@ table_told index id prefix listing some is lists_them =
     (λ w begins here. listed_all (nodes index.tables) prefix listing lists_them w begins
     (λ none. false≢true (sym (ap (λ (ns : List Docs). (has (doc_ids (joined ns)) id && not (has (lists.ids_of Deleted index.lists) id)) && not (has (lists.ids_of DeletedCache index.lists) id)) none) ∙ here)))
 
+pub truth_moves : (a b : Bool) (P : Type 0) → a ≡ b → IsTrue b ↔ P → IsTrue a ↔ P
+truth_moves a b P e h = (λ x. h.0 (sym e ∙ x), λ p. e ∙ h.1 p)
+
 -- words that begin so, of one kind or the other
 pub either_told : (a b some : Bool) (f g : Shown) (id : ℕ) (prefix : List ℕ) → some ≡ (a || b) → IsTrue a ↔ HasPrefix f id prefix → IsTrue b ↔ HasPrefix g id prefix
     → IsTrue some ↔ HasPrefix (λ d w. f d w || g d w) id prefix

@@ -2,6 +2,7 @@
 use Rattle.std.proofs.Common.{◌≡◌, ℕ, ◌<◌, ◌≤◌, List, [], ◌∷◌, ◌++◌, append-nil, nat_eq, refl, sym, ap, ap₂, subst, ◌∙◌, arith}
 use Rattle.std.specs.List.{All, IsDistinct}
 use Rattle.std.proofs.lemmas.Grind.{flat_map-append}
+use Rattle.std.proofs.lemmas.List.Elements.{All-from_recursion}
 use Rattle.fts_words.specs.Indexed.{Rules}
 use Rattle.fts_types.specs.Row.{Row}
 use Rattle.fts_commits.specs.Turn.{Turn, RowsAscend, AreTurns, deaths_of}
@@ -97,3 +98,19 @@ module _ (rules : Rules) (last : ℕ) (dead : List ℕ) (old new : Index) (made 
     dead_are = made.dead_are;
     positive = made.positive;
   }
+
+  -- a commit in which none dies
+  pub made_quiet : (births : List Row) (largest : ℕ) → AreBirths last largest births → StandsFor rules (made.turns ++ turn_of births [] largest ∷ []) made.state new → IsMade rules largest dead new
+  made_quiet births largest are stands =
+      subst (λ (d : List ℕ). IsMade rules largest d new) (append-nil dead)
+      (made_more births [] largest are (λ k d less. absurd (omega (arith, less))) (subst (IsDistinct nat_eq) (made.dead_are ∙ sym (append-nil dead)) made.commits.once) stands)
+
+pub no_births : (last : ℕ) → AreBirths last last []
+no_births last = record { ids = omega arith; rows = λ k d less. absurd (omega (arith, less)) }
+
+-- one in which one alone dies
+pub made_without : (rules : Rules) (last id : ℕ) (old new : Index) (made : IsMade rules last [] old) → id ≤ last
+    → StandsFor rules (made.turns ++ turn_of [] (id ∷ []) last ∷ []) made.state new → IsMade rules last (id ∷ []) new
+unfolding IsDistinct
+made_without rules last id old new made low stands =
+    made_more rules last [] old new made [] (id ∷ []) last (no_births last) (All-from_recursion (λ (n : ℕ). n ≤ last) (id ∷ []) (low, tt)) (tt, tt) stands

@@ -1,5 +1,6 @@
 //! What an index tells of the leaves of a query.
-ghost use Rattle.std.specs.Prelude.{◌≡◌, ◌∷◌, ◌++◌, ◌+◌, ◌↔◌, ◌&&◌, ◌||◌, ℕ, not, IfOk, OnOk, IsTrue};
+ghost use Rattle.std.specs.Prelude.{◌≡◌, ◌∷◌, ◌++◌, ◌+◌, ◌↔◌, ◌&&◌, ◌||◌, ℕ, not, IfOk, OnOk};
+ghost use Rattle.std.specs.Prelude.{IsTrue};
 ghost use Rattle.std.specs.Prelude.{map};
 ghost use Rattle.std.specs.List.{list_any};
 ghost use Rattle.fts_ids.specs.Ids.{has, Ascend, AscendFrom};
@@ -213,7 +214,8 @@ fn prefix_ids(index: &Index, prefix: &[u8]) -> Result<IdList, AllocError>
 fn each_of(index: &Index, first: &[u8], others: &[Vec<u8>]) -> Result<IdList, AllocError>
     ensures ascend { IfOk result Ascend }
     ensures each { IfOk result (λ ids. (id : ℕ)
-        → has ids id ≡ doc_has_words (doc_has index.now) id (first.now ∷ map (λ w. w.items) others.now)) }
+        → has ids id
+        ≡ doc_has_words (doc_has index.now) id (first.now ∷ map (λ w. w.items) others.now)) }
 {
     let mut ids = word_ids(index, first)?;
     for word in others {

@@ -199,8 +199,8 @@ impl Index {
         add_commit(self, plan);
     }
 
-    /// The next batch, which flushes the first commits that are not flushed: as many as have at most
-    /// `batch_docs` documents together, and at least one. It is None where all are flushed.
+    /// The next batch, which flushes the first commits that are not flushed: as many as have at
+    /// most `batch_docs` documents together, and at least one. It is None where all are flushed.
     ///
     /// It costs the documents of these commits and their words, and the ids that died in them.
     /// Where there is no memory, the index has what it had.

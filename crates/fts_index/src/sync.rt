@@ -1,6 +1,7 @@
 //! What a batch takes of an index.
-ghost use Rattle.std.specs.Prelude.{◌≡◌, ◌+◌, ◌<◌, ◌≤◌, ◌&&◌, ◌||◌, ℕ, length, drop, map, max, not, IfOk};
-ghost use Rattle.std.specs.Prelude.{nat_le};
+ghost use Rattle.std.specs.Prelude.{◌≡◌, ◌+◌, ◌<◌, ◌≤◌, ℕ, length, drop, map, max, IfOk};
+ghost use Rattle.std.specs.Prelude.{◌&&◌, nat_le};
+ghost use Rattle.std.specs.List.{take_while};
 ghost use Rattle.fts_ids.specs.Ids.{has, Ascend};
 ghost use Rattle.fts_lists.specs.State.{ids_of, room_of};
 ghost use Rattle.fts_lists.specs.declared.lists.DeleteList.TheVariants.{Deleted, DeletedCache};
@@ -108,6 +109,13 @@ pub(crate) fn pop_covered(pending: &mut VecDeque<Pending>, count: usize)
     }
 }
 
+/// How many ids stand before the first that is above one.
+fn count_up_to(ids: &[DocId], last: DocId) -> usize
+    ensures { result ≡ length (take_while (λ id. nat_le id last) ids.now) }
+{
+    ids.iter().take_while(|id| **id <= last).count()
+}
+
 /// The first of ascending ids, up to one.
 fn up_to(ids: &[DocId], last: DocId) -> &[DocId]
     requires { Ascend ids.now }
@@ -115,8 +123,7 @@ fn up_to(ids: &[DocId], last: DocId) -> &[DocId]
     ensures each { (id : ℕ) → has result.now id ≡ (nat_le id last && has ids.now id) }
     ensures few { length result.now ≤ length ids.now }
 {
-    let count = ids.iter().take_while(|id| **id <= last).count();
-    ids.split_at(count).0
+    ids.split_at(count_up_to(ids, last)).0
 }
 
 /// What died in the commits of a batch leaves DELETED_CACHE, and what of it was flushed before

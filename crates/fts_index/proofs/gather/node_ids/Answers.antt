@@ -14,4 +14,4 @@ loop-node-preserved c = record {
 }
 
 pub returns-clause-ascend : goal.returns-clause-ascend
-returns-clause-ascend c = read_ascend c.args.nodes c.loop-node.ids.items c.loop-node.node-iterator c.loop-node.invariant.reading c.in-None.ensures.steps c.requires
+returns-clause-ascend c = read_ascend c.args.nodes c.loop-node.ids.items c.loop-node.node-iterator c.loop-node.invariant.reading c.in-None.ensures.steps.0 c.requires

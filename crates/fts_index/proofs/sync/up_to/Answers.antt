@@ -1,5 +1,4 @@
-use Rattle.std.proofs.Common.{◌≡◌, List, ℕ, length, nat_le, ap, sym, subst, ◌∙◌}
-use Rattle.std.specs.List.{take_while}
+use Rattle.std.proofs.Common.{List, ℕ, ap, sym, subst, ◌∙◌}
 use Rattle.fts_ids.specs.Ids.{has, Ascend}
 use Rattle.fts_ids.proofs.Ascending.{AscendFrom-take}
 use Rattle.fts_index.proofs.Syncing.{up_to_is}
@@ -9,6 +8,4 @@ pub returns-clause-ascend : goal.returns-clause-ascend
 returns-clause-ascend c = subst Ascend (sym c.split_at.ensures.front) (AscendFrom-take 0 c.args.ids.now _ c.requires)
 
 pub returns-clause-each : goal.returns-clause-each
-returns-clause-each c = λ id.
-    let is : c.count-count.result ≡ length (take_while (λ x. nat_le x c.args.last) c.args.ids.now) = search in
-    ap (λ (ids : List ℕ). has ids id) c.split_at.ensures.front ∙ up_to_is c.args.last c.args.ids.now c.count-count.result c.requires is id
+returns-clause-each c = λ id. ap (λ (ids : List ℕ). has ids id) c.split_at.ensures.front ∙ up_to_is c.args.last c.args.ids.now c.count_up_to.result c.requires c.count_up_to.ensures id

@@ -14,6 +14,3 @@ loop-word-preserved c =
 
 pub loop-word-smaller : goal.loop-word-smaller
 loop-word-smaller c = fewer_behind c.args.tables.now c.loop-word.last.now c.in-Some.word.now c.in-Some.ensures.found.0
-
-pub returns : goal.returns
-returns c = c.in_default.ensures.walk _ c.loop-word.invariant

@@ -1,4 +1,5 @@
-use Rattle.std.proofs.Common.{◌≡◌, List, ℕ, [], ◌∷◌, ◌++◌, map, ap, ap₂, sym, ◌∙◌, false≢true}
+use Rattle.std.proofs.Common.{◌≡◌, List, ℕ, [], ◌∷◌, ◌++◌, map, ap, ap₂, sym, ◌∙◌}
+use Rattle.std.proofs.lemmas.Bool.{false≢true}
 use Rattle.fts_ilist.specs.Node.{Docs}
 use Rattle.fts_aux.specs.Tables.{nodes}
 use Rattle.fts_index.proofs.Walks.{walk_begins, walk_begins_with}

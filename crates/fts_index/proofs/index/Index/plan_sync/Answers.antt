@@ -1,4 +1,4 @@
-use Rattle.std.proofs.Common.{◌<◌, map, length, refl, subst, arith}
+use Rattle.std.proofs.Common.{ℕ, ◌+◌, ◌<◌, map, length, refl, ap, subst, ◌∙◌, arith}
 use Rattle.std.proofs.Math.Nat.{le-max_left}
 use Rattle.fts_aux.specs.Tables.{HasRoomOf}
 use Rattle.fts_index.specs.declared.sync.SyncPlan.{SyncPlan}
@@ -21,7 +21,7 @@ returns-clause-planned c = λ rules turns s stands commits fits.
       last = c.index.result.now;
       last_is = c.index.ensures;
       synced = refl;
-      through = search;
+      through = c.in_ok-through.ensures ∙ ap (λ (n : ℕ). n + c.covers-count.result) c.flushed.ensures;
       ascend = c.in_ok-dead.ensures.ascend;
       each = c.in_ok-dead.ensures.each;
       words = c.in_ok-nodes.ensures.ascending;
