@@ -1,13 +1,7 @@
-use Rattle.std.proofs.Common.{◌≡◌, ℕ, List, [], map, sym, subst}
+use Rattle.std.proofs.Common.{[]}
 use Rattle.fts_types.specs.Rules.{rules_of}
-use Rattle.fts_types.specs.declared.row.Row.{Row}
-use Rattle.fts_types.specs.Row.{row_of}
-use Rattle.fts_index.specs.Births.{AreBirths}
-use Rattle.fts_index.proofs.Made.{made_first}
+use Rattle.fts_index.proofs.Made.{made_first, lent}
 use Rattle.fts_index.proofs.tests.filled.Goals as goal
-
-lent : (last largest : ℕ) (rows births : List Row) → births ≡ rows → AreBirths last largest (map row_of rows) → AreBirths last largest (map row_of births)
-lent last largest rows births e are = subst (λ (rs : List Row). AreBirths last largest (map row_of rs)) (sym e) are
 
 pub commit-requires : goal.commit-requires
 commit-requires g c =
