@@ -78,7 +78,7 @@ pub record Indexes (rules : Rules) (rows : Rows) (turns : List Turn) (s : IndexS
 abbrev pub CanTurn : List Turn → Turn → Type 0
 CanTurn turns turn = AreBirths (largest_after 0 turns) turn.largest turn.births
 
--- its rows can be indexed behind the documents of the cache
+-- the rows of one more commit can be indexed behind the documents that came into the cache
 abbrev pub CanAdd : Index → Turn → Type 0
 CanAdd index turn = AreBirths index.cache.last turn.largest turn.births
 

@@ -13,16 +13,16 @@ returns-clause-stays c = stands_still c.args.self.now c.make_room.new.index c.ma
 
 pub returns-clause-planned : goal.returns-clause-planned
 returns-clause-planned c =
-    let low = c.args.self.now.cache.last in
+    let before = c.args.self.now.cache.last in
     let documents = c.in_ok-documents.documents.items in
     let now = c.make_room.new.index in
     let same : c.in_ok-deaths.deaths.items ≡ c.args.deaths.now = c.in_ok-deaths.ensures.items_if_clones_equal (λ x y e. e) in
-    let last : now.cache.last ≤ low = (let e = c.make_room.ensures.same.cache.last in omega (arith, e)) in
+    let last : now.cache.last ≤ before = (let e = c.make_room.ensures.same.cache.last in omega (arith, e)) in
     record {
       words = c.in_ok-documents.ensures;
       pending = λ i. record { births = sym (length-map c.args.births.now row_of) i; deaths = same i; largest = c.args.largest };
       fits = record {
-        ids = documents_ascend (rules_of c.args.settings.now) now.cache.last low c.args.largest (map row_of c.args.births.now) documents last c.requires.room.ids c.in_ok-documents.ensures;
+        ids = documents_ascend (rules_of c.args.settings.now) now.cache.last before c.args.largest (map row_of c.args.births.now) documents last c.requires.births.ids c.in_ok-documents.ensures;
         room = subst (HasRoom now.cache) c.deref.ensures.value c.in_ok-make_room.ensures.documents;
         ascend = subst Ascend (sym same) c.requires.ascending;
         dead = (let few = c.in_ok-make_room.ensures.deaths in omega (arith, few, c.len.ensures, c.in_ok-deaths.ensures.len, ap length same));
