@@ -42,10 +42,7 @@ fn empty_disks(alloc: Global) -> Result<(MemDisk, MemDisk), AllocError> {
 }
 
 /// Makes a database on the devices.
-fn create(
-    alloc: Global,
-    disks: (MemDisk, MemDisk),
-) -> Result<(MemDisk, MemDisk), CreateError> {
+fn create(alloc: Global, disks: (MemDisk, MemDisk)) -> Result<(MemDisk, MemDisk), CreateError> {
     create_batched(alloc, disks, 1_000)
 }
 
@@ -254,13 +251,18 @@ fn a_word_is_found_whole(rt: HostRuntime) -> Result<(), Fail> {
     Ok(())
 }
 
+/// Opens a new database with batches of so many documents.
+fn new_engine(alloc: Global, batch_docs: u32) -> Option<Engine<MemDisk, MemDisk>> {
+    let disks = empty_disks(alloc).ok()?;
+    let devices = create_batched(alloc, disks, batch_docs).ok()?;
+    open(alloc, devices, 2, 4_096).ok()
+}
+
 /// Opens a new database with batches of one document, and commits two rows, each alone.
 fn two_commits(alloc: Global) -> Option<Engine<MemDisk, MemDisk>> {
-    let disks = empty_disks(alloc).ok()?;
-    let devices = create_batched(alloc, disks, 1).ok()?;
-    let mut engine = open(alloc, devices, 2, 4_096).ok()?;
     let pie = one_row(alloc, 7, b"Apple pie", b"with cream").ok()?;
     let plum = one_row(alloc, 3, b"Plum", b"no PIE, no apple").ok()?;
+    let mut engine = new_engine(alloc, 1)?;
     commit(&mut engine, &pie)?.ok()?;
     commit(&mut engine, &plum)?.ok()?;
     Some(engine)
@@ -291,15 +293,23 @@ fn a_batch_changes_no_view(rt: HostRuntime) -> Result<(), Fail> {
     Ok(())
 }
 
+/// Opens a new database whose rows device fails at the first commit.
+fn failing_engine(alloc: Global) -> Option<Engine<MemDisk, MemDisk>> {
+    let fails = vec![in alloc; (Kind::Write, 4)].ok()?;
+    let rows = MemDisk::from_files(alloc, Vec::new(alloc), fails).ok()?;
+    let index = empty_disk(alloc).ok()?;
+    let devices = create(alloc, (rows, index)).ok()?;
+    open(alloc, devices, 2, 4_096).ok()
+}
+
 #[test]
 fn no_batch_is_made_after_a_fault(rt: HostRuntime) -> Result<(), Fail> {
-    let alloc = rt.alloc();
-    let fails = vec![in alloc; (Kind::Write, 4)]?;
-    let rows = MemDisk::from_files(alloc, Vec::new(alloc), fails)?;
-    let devices = create(alloc, (rows, empty_disk(alloc)?))?;
-    let mut engine = open(alloc, devices, 2, 4_096)?;
-    let changes = two_rows(alloc, 7, 3)?;
-    assert_eq!(rt; commit(&mut engine, &changes), Some(Err(CommitError::DiskFault { faults: 1 })));
+    let changes = two_rows(rt.alloc(), 7, 3)?;
+    let Some(mut engine) = failing_engine(rt.alloc()) else {
+        return Err(Fail::from("no engine"));
+    };
+    let failed = commit(&mut engine, &changes);
+    assert_eq!(rt; failed, Some(Err(CommitError::DiskFault { faults: 1 })));
     assert_eq!(rt; engine.sync_batch(), Err(SyncError::Stopped { faults: 1 }));
     Ok(())
 }
@@ -322,33 +332,57 @@ fn listed_config(engine: &Engine<MemDisk, MemDisk>) -> Option<(u64, DocId)> {
     }
 }
 
+/// How many words tables and cache list after one of two batches.
+fn listed_between(alloc: Global) -> Option<[Option<(u64, usize)>; 2]> {
+    let mut engine = two_commits(alloc)?;
+    engine.sync_batch().ok()?;
+    Some([
+        listed_words(&engine, ListingKind::IndexTable),
+        listed_words(&engine, ListingKind::IndexCache),
+    ])
+}
+
+/// How far the index is flushed before and after one of two batches, as it lists.
+fn flushed_between(alloc: Global) -> Option<[Option<(u64, DocId)>; 2]> {
+    let mut engine = two_commits(alloc)?;
+    let before = listed_config(&engine);
+    engine.sync_batch().ok()?;
+    Some([before, listed_config(&engine)])
+}
+
 #[test]
 fn a_batch_is_listed(rt: HostRuntime) -> Result<(), Fail> {
     let alloc = rt.alloc();
-    let Some(mut engine) = two_commits(alloc) else {
-        return Err(Fail::from("two commits"));
-    };
-    assert_eq!(rt; listed_config(&engine), Some((0, 0)));
-    assert_eq!(rt; engine.sync_batch(), flushes(1));
-    assert_eq!(rt; listed_config(&engine), Some((1, 1)));
-    assert_eq!(rt; listed_words(&engine, ListingKind::IndexTable), Some((2, 3)));
-    assert_eq!(rt; listed_words(&engine, ListingKind::IndexCache), Some((2, 3)));
+    assert_eq!(rt; listed_between(alloc), Some([Some((2, 3)), Some((2, 3))]));
+    assert_eq!(rt; flushed_between(alloc), Some([Some((0, 0)), Some((1, 1))]));
     Ok(())
 }
 
-/// 41 words.
-const PEARS: &[u8] = b"pear pear pear pear pear pear pear pear pear pear pear pear pear pear pear \
-    pear pear pear pear pear pear pear pear pear pear pear pear pear pear pear pear pear pear pear \
-    pear pear pear pear pear pear pear";
+/// A text of so many words.
+fn pears(alloc: Global, count: usize) -> Result<Vec<u8>, AllocError>
+    ensures { IfOk result (λ text. IsText text.items) }
+{
+    let mut text = Vec::new(alloc);
+    for _word in 0..count {
+        text.extend_from_slice(b"pear ")?;
+    }
+    Ok(text)
+}
+
+/// The size of the cache after a commit of one row with this title.
+fn size_with(alloc: Global, title: &[u8]) -> Option<u64>
+    requires { IsText title.now }
+{
+    let row = one_row(alloc, 7, title, b"").ok()?;
+    let mut engine = new_engine(alloc, 1_000)?;
+    commit(&mut engine, &row)?.ok()?;
+    Some(engine.cache_size())
+}
 
 #[test]
 fn the_cache_has_a_size(rt: HostRuntime) -> Result<(), Fail> {
-    let alloc = rt.alloc();
-    let devices = create(alloc, empty_disks(alloc)?)?;
-    let mut engine = open(alloc, devices, 2, 4_096)?;
-    let pears = one_row(alloc, 7, PEARS, PEARS)?;
-    assert_eq!(rt; commit(&mut engine, &pears), Some(Ok(1)));
-    assert_eq!(rt; engine.cache_size(), 1_000);
+    let pears = pears(rt.alloc(), 82)?;
+    assert_eq!(rt; size_with(rt.alloc(), &pears), Some(1_000));
     Ok(())
 }
 
