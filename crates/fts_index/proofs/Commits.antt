@@ -94,6 +94,6 @@ module _ (rules : Rules) (turns : List Turn) (s : IndexState) (turn : Turn) (old
         ∙ sym (map-append pending_of then (turn ∷ []))
         ∙ ap (map pending_of) (sym now_is);
     last = (let end = is.cache.last in
-    let limit = documents_end rules old.cache.last (largest_after 0 turns) turn.largest turn.births plan.documents.items stands.last can.ids will.words in
-    let largest = largest_behind 0 turns (turn ∷ []) in omega (arith, end, limit, largest));
+        let limit = documents_end rules old.cache.last (largest_after 0 turns) turn.largest turn.births plan.documents.items stands.last can.ids will.words in
+        let largest = largest_behind 0 turns (turn ∷ []) in omega (arith, end, limit, largest));
   }

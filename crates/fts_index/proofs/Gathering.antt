@@ -342,8 +342,10 @@ pub cache_told : (index : Index) (id : ℕ) (prefix : List ℕ) (words : List (B
 cache_told index id prefix words some is tells =
     prefix_told (cache_has index) id prefix (map (λ (w : Bor (List ℕ)). w.now) words) some (is ∙ sym (any_mapped (cache_has index id) (λ (w : Bor (List ℕ)). w.now) words))
     (λ w there. ((tells w).0 there).0)
-    (λ w begins here. (tells w).1 (begins,
-    (λ none. false≢true (sym (ap (λ (ps : List Posting). has (doc_ids ps) id && not (has (lists.ids_of DeletedCache index.lists) id)) none) ∙ here))))
+    (λ w begins here. (tells w).1 (
+      begins,
+      (λ none. false≢true (sym (ap (λ (ps : List Posting). has (doc_ids ps) id && not (has (lists.ids_of DeletedCache index.lists) id)) none) ∙ here)),
+    ))
 
 pub table_told : (index : Index) (id : ℕ) (prefix : List ℕ) (listing : List (List ℕ × List Docs)) (some : Bool) → some ≡ list_any (table_has index id) (keys_of listing)
     → IsListing (nodes index.tables) prefix listing → IsTrue some ↔ HasPrefix (table_has index) id prefix

@@ -1,10 +1,11 @@
 -- Commits and batches of an index, one after another.
-use Rattle.std.proofs.Common.{◌≡◌, ℕ, ◌<◌, ◌≤◌, List, [], ◌∷◌, ◌++◌, append-nil, nat_eq, refl, sym, ap, ap₂, subst, ◌∙◌, arith}
+use Rattle.std.proofs.Common.{◌≡◌, ℕ, ◌<◌, ◌≤◌, List, [], ◌∷◌, ◌++◌, append-nil, map, nat_eq, refl, sym, ap, ap₂, subst, ◌∙◌, arith}
 use Rattle.std.specs.List.{All, IsDistinct}
 use Rattle.std.proofs.lemmas.Grind.{flat_map-append}
 use Rattle.std.proofs.lemmas.List.Elements.{All-from_recursion}
 use Rattle.fts_words.specs.Indexed.{Rules}
-use Rattle.fts_types.specs.Row.{Row}
+use Rattle.fts_types.specs.Row.{Row, row_of}
+use Rattle.fts_types.specs.declared.row.Row.{Row as Kept}
 use Rattle.fts_commits.specs.Turn.{Turn, RowsAscend, AreTurns, deaths_of}
 use Rattle.fts_entries.specs.Entry.{IndexState, no_entries, sealed, after_entry}
 use Rattle.fts_entries.specs.Batch.{IsBatch, largest_after, after_batch}
@@ -102,3 +103,7 @@ pub made_without : (rules : Rules) (last id : ℕ) (old new : Index) (made : IsM
 unfolding IsDistinct
 made_without rules last id old new made low stands =
     made_more rules last [] old new made [] (id ∷ []) last (no_births last) (All-from_recursion (λ (n : ℕ). n ≤ last) (id ∷ []) (low, tt)) (tt, tt) stands
+
+-- births that are lent
+pub lent : (last largest : ℕ) (rows births : List Kept) → births ≡ rows → AreBirths last largest (map row_of rows) → AreBirths last largest (map row_of births)
+lent last largest rows births e are = subst (λ (rs : List Kept). AreBirths last largest (map row_of rs)) (sym e) are

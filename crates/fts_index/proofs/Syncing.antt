@@ -467,7 +467,7 @@ module _ (rules : Rules) (limit : ℕ) (turns : List Turn) (s : IndexState) (old
         ∙ drop-map pending_of plan.count (unflushed turns s)
         ∙ ap (map pending_of) (sym rest_at);
     last = (let e = is.last in let le = stands.last in
-    let up = synced_within rules turns s plan.count plan.synced old stands commits fits within_all synced_at_all in omega (arith, e, le, up, max-le le up));
+        let up = synced_within rules turns s plan.count plan.synced old stands commits fits within_all synced_at_all in omega (arith, e, le, up, max-le le up));
   }
 
   -- the index stands for the state behind the batch

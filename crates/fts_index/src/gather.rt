@@ -14,7 +14,7 @@ ghost use Rattle.fts_index.specs.Gathered.{is_needed, table_has, cache_has, doc_
 
 use crate::index::Index;
 use crate::walk::words_with;
-use fts_ids::{IdList, both, united, union, without};
+use fts_ids::{IdList, both, union, united, without};
 use fts_ilist::{Cursor, NodeSlice};
 use fts_lists::{DeleteList, Lists};
 use fts_query::{Leaf, Postings};
@@ -142,11 +142,7 @@ fn joined_ids(alloc: Global, front: IdList, rest: IdList) -> Result<IdList, Allo
         ids.extend_from_slice(rest.as_slice())?;
         return Ok(IdList::new(ids));
     }
-    Ok(IdList::new(union(
-        alloc,
-        front.as_slice(),
-        rest.as_slice(),
-    )?))
+    Ok(IdList::new(union(alloc, front.as_slice(), rest.as_slice())?))
 }
 
 /// The ids of the documents that have the word. It costs them.

@@ -1,10 +1,9 @@
 //! What views of an index list.
 ghost use Rattle.std.specs.Prelude.{◌≡◌, ◌≢◌, [], ℕ, List, map, IfOk};
-ghost use Rattle.std.specs.List.{All};
+ghost use Rattle.std.specs.List.{AllByRecursion};
 ghost use Rattle.fts_types.specs.Rules.{rules_of};
 ghost use Rattle.fts_commits.specs.Turn.{Turn};
 ghost use Rattle.fts_ilist.specs.Spelling.{ArePostings};
-ghost use Rattle.fts_ilist.specs.Node.{NodesAfter};
 ghost use Rattle.fts_cache.specs.Cache.{postings_of};
 ghost use Rattle.fts_aux.specs.Table.{IsListing};
 ghost use Rattle.fts_aux.specs.Tables.{nodes};
@@ -36,7 +35,7 @@ fn list_of(alloc: Global, documents: Cursor<'_>) -> Result<Ilist, AllocError>
 
 /// A copy of nodes that are lent.
 fn copied_nodes(alloc: Global, nodes: NodeSlice<'_>) -> Result<Vec<Node>, AllocError>
-    requires { NodesAfter 0 nodes }
+    requires { AllByRecursion (λ docs. docs ≢ []) nodes }
     ensures { IfOk result (λ copied. copied.items ≡ nodes.entry) }
 {
     let mut copied = Vec::with_capacity(alloc, nodes.len())?;

@@ -70,12 +70,7 @@ fn later_rows(rt: &impl Abort, alloc: Global) -> Result<Vec<Row>, Fail>
 }
 
 // Commits the rows.
-fn commit(
-    index: &mut Index,
-    settings: &Settings,
-    births: &[Row],
-    largest: u64,
-) -> Result<(), Fail>
+fn commit(index: &mut Index, settings: &Settings, births: &[Row], largest: u64) -> Result<(), Fail>
     requires { (last : ℕ) × (dead : List ℕ) × IsMade (rules_of settings.now) last dead index.old
         × AreBirths last largest (map row_of births.now) }
     ensures { OnOk result ((last : ℕ) (dead : List ℕ)
@@ -327,7 +322,10 @@ fn lists(
     assert_eq!(rt; words.as_slice().len(), expected.len());
     for (found, row) in words.as_slice().iter().zip(expected.iter()) {
         assert_eq!(rt; found.word().as_bytes(), row.0);
-        assert_eq!(rt; (found.nodes().len(), documents(found.nodes())), (row.1, row.2));
+        assert_eq!(rt;
+            (found.nodes().len(), documents(found.nodes())),
+            (row.1, row.2)
+        );
     }
     Ok(())
 }
