@@ -1,5 +1,7 @@
--- The text of what a view lists: a line with the names of its columns, a line for each row, and how many rows there are.
-use Rattle.std.specs.Prelude.{Bool, true, false, ℕ, List, [], ◌∷◌, ◌++◌, length, map, codes, decimal, Option, Some, None}
+-- The text of what a view lists: a line with the names of its columns, a line for each row, and how many rows there
+-- are.
+use Rattle.std.specs.Prelude.{Bool, true, false, ℕ, List, [], ◌∷◌, ◌++◌, length, map, codes, decimal}
+use Rattle.std.specs.Prelude.{Option, Some, None}
 use Rattle.std.specs.List.{flat_map}
 use Rattle.fts_words.specs.Stopwords.{default_stopwords}
 use Rattle.fts_ilist.specs.Spelling.{Posting, first_id, last_id}
@@ -12,10 +14,12 @@ use Rattle.fts_listing.specs.declared.listing.Listing.TheVariants as listing
 abbrev pub bar : ℕ
 bar = 124
 
--- what the rows of a group of documents begin with: the word, the first and the last id, and how many documents there are
+-- what the rows of a group of documents begin with: the word, the first and the last id, and how many documents there
+-- are
 abbrev pub group_front : List ℕ → Docs → List ℕ
 group_front word group =
-    word ++ bar ∷ (decimal (first_id group) ++ bar ∷ (decimal (last_id group) ++ bar ∷ (decimal (length group) ++ bar ∷ [])))
+    word ++ bar ∷ (decimal (first_id group) ++ bar
+    ∷ (decimal (last_id group) ++ bar ∷ (decimal (length group) ++ bar ∷ [])))
 
 -- a row: behind that front a document's id and a position at which the document has the word
 abbrev pub position_row : List ℕ → ℕ → ℕ → List ℕ

@@ -20,8 +20,8 @@ Says settings line calls reply =
 -- steps are made, and then a reply is given, of which `Told` says what they are. On each engine for which the steps
 -- stood they answered as they may, and stand then for what these made of it; where there are no others, a crash at any
 -- moment leaves what was before them or what is behind them, and the index log as it was
-pub record Proceeds {S : Type 0} (sight : Sight S) (Told : List Call → Reply → Type 0) (old : S) (reply : Reply) (new : S)
-    : Type 0 where
+pub record Proceeds {S : Type 0} (sight : Sight S) (Told : List Call → Reply → Type 0)
+    (old : S) (reply : Reply) (new : S) : Type 0 where
   pub calls : List Call
   pub says : Told calls reply
   pub alone : sight.is_shared ≡ false → AreAlone calls
