@@ -5,7 +5,7 @@ ghost use Rattle.fts_commits.specs.Fits.{CanCommit};
 use super::*;
 use fts_commits::{Change, Refusal};
 use fts_disk::{Kind, MemDisk};
-use fts_listing::{Listing, ListingKind};
+use fts_listing::{Listing, ListingKind, NumberedListing};
 use fts_log::is_begun;
 use fts_query::{Leaf, View};
 use fts_steps::{CommitError, SyncBatch, SyncError};
@@ -316,17 +316,17 @@ fn no_batch_is_made_after_a_fault(rt: HostRuntime) -> Result<(), Fail> {
 
 /// How many words a view lists, as of how many commits.
 fn listed_words(engine: &Engine<MemDisk, MemDisk>, kind: ListingKind) -> Option<(u64, usize)> {
-    let listed = engine.listing(kind).ok()?;
-    match listed.listing {
-        Listing::Words { words } => Some((listed.number, words.as_slice().len())),
+    let NumberedListing { number, listing } = engine.listing(kind).ok()?;
+    match listing {
+        Listing::Words { words } => Some((number, words.as_slice().len())),
         _ => None,
     }
 }
 
 /// Through which commit, and up to which id, the index is flushed, as it lists.
 fn listed_config(engine: &Engine<MemDisk, MemDisk>) -> Option<(u64, DocId)> {
-    let listed = engine.listing(ListingKind::Config).ok()?;
-    match listed.listing {
+    let NumberedListing { listing, .. } = engine.listing(ListingKind::Config).ok()?;
+    match listing {
         Listing::Config { config } => Some((config.flushed, config.synced)),
         _ => None,
     }

@@ -16,7 +16,7 @@ use Rattle.fts_entries.proofs.Turns.{largest_behind}
 use Rattle.fts_index.specs.declared.index.Index.{Index}
 use Rattle.fts_index.specs.declared.sync.SyncPlan.{SyncPlan}
 use Rattle.fts_index.specs.Births.{AreBirths, turn_of}
-use Rattle.fts_index.specs.Index.{StandsFor, AreCommits, CanTurn}
+use Rattle.fts_index.specs.Index.{StandsFor, AreCommits, CanTurn, CanAdd}
 use Rattle.fts_index.specs.Made.{IsMade}
 
 turns_push : (n : ℕ) (turns : List Turn) (turn : Turn) → AreTurns n turns → RowsAscend (largest_after n turns) turn.largest turn.births → All (λ id. id ≤ largest_after n turns) turn.deaths → AreTurns n (turns ++ turn ∷ [])
@@ -36,7 +36,19 @@ made_first rules index stands some = record {
   positive = some;
 }
 
+-- rows that ascend from an id ascend from a smaller one
+ids_lower : (less low high : ℕ) (rows : List Row) → less ≤ low → RowsAscend low high rows → RowsAscend less high rows
+ids_lower less low high [] under up = omega (arith, under, up)
+ids_lower less low high (row ∷ rows) under up = (omega (arith, under, up.0), up.1)
+
 module _ (rules : Rules) (last : ℕ) (dead : List ℕ) (old new : Index) (made : IsMade rules last dead old) where
+  -- rows that can be indexed behind the largest id can be added
+  pub made_add : (births : List Row) (deaths : List ℕ) (largest : ℕ) → AreBirths last largest births → CanAdd old (turn_of births deaths largest)
+  made_add births deaths largest are =
+      let held = made.stands.last in
+      let used = made.last_is in
+      record { ids = ids_lower old.cache.last last largest births (omega (arith, held, used)) are.ids; rows = are.rows }
+
   -- a commit that can come
   pub made_can : (births : List Row) (deaths : List ℕ) (largest : ℕ) → AreBirths last largest births → CanTurn made.turns (turn_of births deaths largest)
   made_can births deaths largest are = subst (λ n. AreBirths n largest births) (sym made.last_is) are

@@ -78,6 +78,10 @@ pub record Indexes (rules : Rules) (rows : Rows) (turns : List Turn) (s : IndexS
 abbrev pub CanTurn : List Turn → Turn → Type 0
 CanTurn turns turn = AreBirths (largest_after 0 turns) turn.largest turn.births
 
+-- the rows of one more commit can be indexed behind the documents that came into the cache
+abbrev pub CanAdd : Index → Turn → Type 0
+CanAdd index turn = AreBirths index.cache.last turn.largest turn.births
+
 -- the ids of the documents ascend, the first above `last`
 abbrev pub IdsAscendFrom : ℕ → List Document → Type 0
 IdsAscendFrom last [] = Unit {0}

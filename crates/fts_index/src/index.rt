@@ -144,8 +144,8 @@ impl Index {
     ghost use Rattle.fts_query.specs.Seen.{leaves_seen};
     ghost use Rattle.fts_index.specs.Births.{turn_of};
     ghost use Rattle.fts_index.specs.Gathered.{IsGathered};
-    ghost use Rattle.fts_index.specs.Index.{StandsFor, Indexes, AreCommits, CanTurn, WillTurn};
-    ghost use Rattle.fts_index.specs.Index.{PlansBatch};
+    ghost use Rattle.fts_index.specs.Index.{StandsFor, Indexes, AreCommits, CanTurn, CanAdd};
+    ghost use Rattle.fts_index.specs.Index.{WillTurn, PlansBatch};
 
     /// An index of no commits. What it holds later lies in this allocator.
     pub fn new(alloc: Global) -> Self
@@ -170,9 +170,7 @@ impl Index {
         deaths: &[DocId],
         largest: DocId,
     ) -> Result<CommitPlan, AllocError>
-        requires stands { (turns : List Turn) × (s : IndexState)
-            × StandsFor (rules_of settings.now) turns s self.old
-            × CanTurn turns (turn_of (map row_of births.now) deaths.now largest) }
+        requires births { CanAdd self.old (turn_of (map row_of births.now) deaths.now largest) }
         requires ascending { Ascend deaths.now }
         ensures planned { IfOk result (λ plan. WillTurn (rules_of settings.now)
             (turn_of (map row_of births.now) deaths.now largest) self.new plan) }

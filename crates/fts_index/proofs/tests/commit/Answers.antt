@@ -1,14 +1,12 @@
 use Rattle.std.proofs.Common.{map, []}
 use Rattle.fts_types.specs.Rules.{rules_of}
 use Rattle.fts_types.specs.Row.{row_of}
-use Rattle.fts_index.proofs.Made.{made_can, made_quiet}
+use Rattle.fts_index.proofs.Made.{made_add, made_can, made_quiet}
 use Rattle.fts_index.proofs.tests.commit.Goals as goal
 
-pub plan_commit-requires-clause-stands : goal.plan_commit-requires-clause-stands
-plan_commit-requires-clause-stands c =
-    let rules = rules_of c.args.settings.now in
-    let made = c.requires.2 in
-    (made.turns, made.state, made.stands, made_can rules c.requires.0 c.requires.1 c.args.index.now c.args.index.now made (map row_of c.args.births.now) [] c.args.largest c.requires.3)
+pub plan_commit-requires-clause-births : goal.plan_commit-requires-clause-births
+plan_commit-requires-clause-births c =
+    made_add (rules_of c.args.settings.now) c.requires.0 c.requires.1 c.args.index.now c.args.index.now c.requires.2 (map row_of c.args.births.now) [] c.args.largest c.requires.3
 
 pub returns : goal.returns
 returns c = λ last dead made are.

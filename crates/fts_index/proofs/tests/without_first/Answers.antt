@@ -1,13 +1,11 @@
 use Rattle.std.proofs.Common.{[], ◌∷◌, arith}
 use Rattle.fts_types.specs.Rules.{rules_of}
-use Rattle.fts_index.proofs.Made.{made_can, made_without, no_births}
+use Rattle.fts_index.proofs.Made.{made_add, made_can, made_without, no_births}
 use Rattle.fts_index.proofs.tests.without_first.Goals as goal
 
-pub plan_commit-requires-clause-stands : goal.plan_commit-requires-clause-stands
-plan_commit-requires-clause-stands c =
-    let rules = rules_of c.args.settings.now in
-    let made = c.requires in
-    (made.turns, made.state, made.stands, made_can rules 2 [] c.args.index.now c.args.index.now made [] (1 ∷ []) 2 (no_births 2))
+pub plan_commit-requires-clause-births : goal.plan_commit-requires-clause-births
+plan_commit-requires-clause-births c =
+    made_add (rules_of c.args.settings.now) 2 [] c.args.index.now c.args.index.now c.requires [] (1 ∷ []) 2 (no_births 2)
 
 pub returns : goal.returns
 returns c =

@@ -17,8 +17,8 @@ use Rattle.fts_engine.proofs.Births.{births_fit}
 use Rattle.fts_engine.proofs.Indexing.{births_lower, last_used, same_right}
 use Rattle.fts_engine.proofs.kept.Kept.plan.Goals as goal
 
-pub plan_commit-requires-clause-room : goal.plan_commit-requires-clause-room
-plan_commit-requires-clause-room c =
+pub plan_commit-requires-clause-births : goal.plan_commit-requires-clause-births
+plan_commit-requires-clause-births c =
     let kept = c.args.self.now in
     let held = c.plan.new.self in
     let planned = c.in-Ok.ensures.planned in

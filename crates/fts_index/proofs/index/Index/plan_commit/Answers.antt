@@ -4,7 +4,6 @@ use Rattle.fts_types.specs.Rules.{rules_of}
 use Rattle.fts_types.specs.Row.{row_of}
 use Rattle.fts_ids.specs.Ids.{Ascend}
 use Rattle.fts_cache.specs.Cache.{HasRoom}
-use Rattle.fts_entries.specs.Batch.{largest_after}
 use Rattle.fts_index.proofs.Births.{documents_ascend}
 use Rattle.fts_index.proofs.Commits.{stands_still}
 use Rattle.fts_index.proofs.index.Index.plan_commit.Goals as goal
@@ -14,19 +13,16 @@ returns-clause-stays c = stands_still c.args.self.now c.make_room.new.index c.ma
 
 pub returns-clause-planned : goal.returns-clause-planned
 returns-clause-planned c =
-    let turns = c.requires.stands.0 in
-    let largest = largest_after 0 turns in
+    let before = c.args.self.now.cache.last in
     let documents = c.in_ok-documents.documents.items in
     let now = c.make_room.new.index in
-    let stands = c.requires.stands.2 in
-    let can = c.requires.stands.3 in
     let same : c.in_ok-deaths.deaths.items ≡ c.args.deaths.now = c.in_ok-deaths.ensures.items_if_clones_equal (λ x y e. e) in
-    let last : now.cache.last ≤ largest = (let e = c.make_room.ensures.same.cache.last in let le = stands.last in omega (arith, e, le)) in
+    let last : now.cache.last ≤ before = (let e = c.make_room.ensures.same.cache.last in omega (arith, e)) in
     record {
       words = c.in_ok-documents.ensures;
       pending = λ i. record { births = sym (length-map c.args.births.now row_of) i; deaths = same i; largest = c.args.largest };
       fits = record {
-        ids = documents_ascend (rules_of c.args.settings.now) now.cache.last largest c.args.largest (map row_of c.args.births.now) documents last can.ids c.in_ok-documents.ensures;
+        ids = documents_ascend (rules_of c.args.settings.now) now.cache.last before c.args.largest (map row_of c.args.births.now) documents last c.requires.births.ids c.in_ok-documents.ensures;
         room = subst (HasRoom now.cache) c.deref.ensures.value c.in_ok-make_room.ensures.documents;
         ascend = subst Ascend (sym same) c.requires.ascending;
         dead = (let few = c.in_ok-make_room.ensures.deaths in omega (arith, few, c.len.ensures, c.in_ok-deaths.ensures.len, ap length same));
