@@ -90,7 +90,8 @@ fn sync(index: &mut Index, settings: &Settings, batch_docs: u32) -> Result<Optio
         → IsMade (rules_of settings.now) last dead index.old
         → IsMade (rules_of settings.now) last dead index.new) }
 {
-    match index.plan_sync(batch_docs)? {
+    let planned = index.plan_sync(batch_docs)?;
+    match planned {
         Some(plan) => {
             let through = plan.through();
             index.install_sync(plan);
