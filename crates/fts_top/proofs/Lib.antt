@@ -8,3 +8,4 @@ pub mod Asking
 pub mod Health
 pub mod Crashing
 pub mod Making
+pub mod Rounds

@@ -44,18 +44,18 @@ one_line limits running settings line here here' more more' reply reply' (inr (n
 -- the answer of a step that met nothing, and is no listing's, is the plain one
 sound_plain : (limits : Limits) (running : Running) (ask : Ask) (answer : Answer) → ((number : ℕ) (listing : Listing) → Lists running ask number listing → ⊥)
     → MayAnswer limits running ask answer → health_of_answer answer ≡ Sound → answer ≡ plain_answer limits running ask
-sound_plain limits running ask (committed number) no may sound = sym may
-sound_plain limits running ask (refused why) no may sound = sym may
-sound_plain limits running ask (full end_) no may sound = sym may
-sound_plain limits running ask (flushed through commits) no may sound = sym may
-sound_plain limits running ask (all_flushed commits) no may sound = sym may
-sound_plain limits running ask (viewed view) no may sound = sym may
-sound_plain limits running ask (found number docs) no may sound = sym may
-sound_plain limits running ask (listed number listing) no may sound = absurd (no number listing may)
-sound_plain limits running ask (measured size) no may sound = sym may
-sound_plain limits running ask (stopped faults) no may sound = sym may
-sound_plain limits running ask (disk_fault faults) no may sound = absurd (let e : ◌≡◌ {A = Health} Failed Sound = sound in cc)
-sound_plain limits running ask no_memory no may sound = absurd (let e : ◌≡◌ {A = Health} Short Sound = sound in cc)
+sound_plain limits running ask (committed number) others may sound = sym may
+sound_plain limits running ask (refused why) others may sound = sym may
+sound_plain limits running ask (full end_) others may sound = sym may
+sound_plain limits running ask (flushed through commits) others may sound = sym may
+sound_plain limits running ask (all_flushed commits) others may sound = sym may
+sound_plain limits running ask (viewed view) others may sound = sym may
+sound_plain limits running ask (found number docs) others may sound = sym may
+sound_plain limits running ask (listed number listing) others may sound = absurd (others number listing may)
+sound_plain limits running ask (measured size) others may sound = sym may
+sound_plain limits running ask (stopped faults) others may sound = sym may
+sound_plain limits running ask (disk_fault faults) others may sound = absurd (let e : ◌≡◌ {A = Health} Failed Sound = sound in cc)
+sound_plain limits running ask no_memory others may sound = absurd (let e : ◌≡◌ {A = Health} Short Sound = sound in cc)
 
 one_call : (call call' : Call) → call.more ≡ call'.more → call.ask ≡ call'.ask → call.answer ≡ call'.answer → call ≡ call'
 one_call call call' before asked answered =
@@ -69,17 +69,17 @@ module _ (limits : Limits) where
       → ((number : ℕ) (listing : Listing) → Lists running ask number listing → ⊥) → call.more ≡ [] → call'.more ≡ []
       → MayAnswer limits (grown running call.more) call.ask call.answer → MayAnswer limits (grown running call'.more) call'.ask call'.answer
       → health_of_answer call.answer ≡ Sound → health_of_answer call'.answer ≡ Sound → call ≡ call'
-  same_call running ask call call' asks asks' no alone alone' may may' sound sound' =
+  same_call running ask call call' asks asks' others alone alone' may may' sound sound' =
       one_call call call' (alone ∙ sym alone') (asks ∙ sym asks')
       (plain call asks alone may sound ∙ sym (plain call' asks' alone' may' sound'))
     where
       plain : (call : Call) → call.ask ≡ ask → call.more ≡ [] → MayAnswer limits (grown running call.more) call.ask call.answer → health_of_answer call.answer ≡ Sound
           → call.answer ≡ plain_answer limits running ask
-      plain call asks alone may sound = sound_plain limits running ask call.answer no
+      plain call asks alone may sound = sound_plain limits running ask call.answer others
           (subst (λ (a : Ask). MayAnswer limits running a call.answer) asks
           (subst (λ (more : List Entry). MayAnswer limits (grown running more) call.ask call.answer) alone may)) sound
 
-  Unique : ℕ → ℕ → Type 0
+  abbrev Unique : ℕ → ℕ → Type 0
   Unique bytes most = (running : Running) (batches others more more' : List Call) → AreBatches bytes most batches → AreBatches bytes most others
       → Follows limits running (batches ++ more) → Follows limits running (others ++ more') → AreAlone (batches ++ more) → AreAlone (others ++ more')
       → health_of_steps batches ≡ Sound → health_of_steps others ≡ Sound → batches ≡ others
@@ -110,7 +110,7 @@ module _ (limits : Limits) where
   behind_size bytes most one running true [] others more more' are are' f g alone alone' sound sound' = absurd are
   behind_size bytes most one running true (call ∷ calls) [] more more' are are' f g alone alone' sound sound' = absurd are'
   behind_size bytes most one running true (call ∷ calls) (call' ∷ others) more more' are are' f g alone alone' sound sound' =
-      let same = same_call running to_sync call call' are.0 are'.0 (λ number listing no. no) alone.0 alone'.0 f.0 g.0
+      let same = same_call running to_sync call call' are.0 are'.0 (λ number listing is. is) alone.0 alone'.0 f.0 g.0
       (sound_before (health_of_answer call.answer) (health_of_steps calls) sound) (sound_before (health_of_answer call'.answer) (health_of_steps others) sound') in
       let behind = behind_batch bytes most one (after_call running call) call.answer calls others more more' are.1
       (subst (λ (c : Call). unless_refused c.answer (AreBatches bytes most) others) (sym same) are'.1)
@@ -124,7 +124,7 @@ module _ (limits : Limits) where
   one_batches bytes (suc most) running [] others more more' are are' f g alone alone' sound sound' = absurd are
   one_batches bytes (suc most) running (call ∷ calls) [] more more' are are' f g alone alone' sound sound' = absurd are'
   one_batches bytes (suc most) running (call ∷ calls) (call' ∷ others) more more' (size, asks, told, are) (size', asks', told', are') f g alone alone' sound sound' =
-      let same = same_call running to_measure call call' asks asks' (λ number listing no. no) alone.0 alone'.0 f.0 g.0
+      let same = same_call running to_measure call call' asks asks' (λ number listing is. is) alone.0 alone'.0 f.0 g.0
       (sound_before (health_of_answer call.answer) (health_of_steps calls) sound) (sound_before (health_of_answer call'.answer) (health_of_steps others) sound') in
       let sizes : size ≡ size' = (let e : measured size ≡ measured size' = sym told ∙ ap (λ (c : Call). c.answer) same ∙ told' in cc) in
       let behind = behind_size bytes most (one_batches bytes most) (after_call running call) (nat_lt bytes size) calls others more more' are

@@ -1,3 +1,4 @@
+ghost use Rattle.std.specs.Prelude.{◌≡◌};
 ghost use Rattle.fts_top.specs.Batches.{MakesBatches, MakesRound};
 ghost use Rattle.fts_top.specs.Talk.{committed_by};
 
@@ -12,9 +13,32 @@ use fts_steps::{SyncBatch, SyncError};
 pub fn batches_behind<S: EngineSteps>(steps: &mut S, reply: &Reply) -> Health
     ensures { MakesBatches S.sight (committed_by reply.now) result steps.old steps.new }
 {
+    make_batches(steps, commits_told(reply))
+}
+
+// The number of the commit that a reply tells, 0 where it tells none.
+fn commits_told(reply: &Reply) -> u64
+    ensures { result ≡ committed_by reply.now }
+{
     match reply {
-        Reply::Committed { number } => make_batches(steps, *number),
-        _ => Health::Sound,
+        Reply::Committed { number } => *number,
+        Reply::Found { .. } => 0,
+        Reply::Synced { .. } => 0,
+        Reply::Listed { .. } => 0,
+        Reply::Refused { .. } => 0,
+        Reply::LogFull { .. } => 0,
+        Reply::Nothing => 0,
+        Reply::Syntax { .. } => 0,
+        Reply::NoSuchTable { .. } => 0,
+        Reply::NoSuchColumn { .. } => 0,
+        Reply::WrongColumns => 0,
+        Reply::QuerySyntax { .. } => 0,
+        Reply::QueryTooLong { .. } => 0,
+        Reply::QueryTooDeep { .. } => 0,
+        Reply::LineTooLong => 0,
+        Reply::NoMemory => 0,
+        Reply::DiskFault => 0,
+        Reply::Stopped { .. } => 0,
     }
 }
 

@@ -1,4 +1,4 @@
-use Rattle.std.proofs.Common.{◌≡◌, arith, inl, refl, ap, sym, subst, ◌∙◌, []}
+use Rattle.std.proofs.Common.{◌≡◌, true, arith, refl, ap, sym, subst, ◌∙◌, []}
 use Rattle.std.specs.Prelude.{Err}
 use Rattle.fts_io.specs.Text.{lines_of}
 use Rattle.fts_io.specs.Reading.{ahead, given_by}
@@ -16,8 +16,9 @@ returns-in-Err-clause-runs g c tells_input tells_out start stands =
     let left = g.I.Source.left c.args.input.now in
     record {
       ahead = lines_of left;
+      sent = true;
       front = nothing_yet g.S.EngineSteps.sight start (lines_of left) (sides left (g.O.Sink.holds c.args.out.now) c.args.steps.now) stands;
-      written = inl refl;
+      written = refl;
       rest = ([], [], refl);
     }
 
@@ -27,7 +28,7 @@ lines-init g c = record {
       let left = g.I.Source.left c.args.input.now in
       let here = sides left (g.O.Sink.holds c.args.out.now) c.args.steps.now in
       record {
-        front = again g.S.EngineSteps.sight start (lines_of left) (lines_of left) (ahead c.in-Ok.lines left) here here here
+        front = again g.S.EngineSteps.sight start (lines_of left) true (lines_of left) (ahead c.in-Ok.lines left) here here here
             (nothing_yet g.S.EngineSteps.sight start (lines_of left) here stands) (sym (c.in-Ok.ensures.lines left)) (record { unwritten = refl; unmade = refl });
         whole = refl;
         met_is = refl;
