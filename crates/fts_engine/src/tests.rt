@@ -258,14 +258,29 @@ fn new_engine(alloc: Global, batch_docs: u32) -> Option<Engine<MemDisk, MemDisk>
     open(alloc, devices, 2, 4_096).ok()
 }
 
+/// The engine behind a commit of these changes.
+fn behind(
+    engine: Option<Engine<MemDisk, MemDisk>>,
+    changes: &[Change],
+) -> Option<Engine<MemDisk, MemDisk>>
+    requires { CanCommit 2 changes.now }
+{
+    let mut engine = engine?;
+    match commit(&mut engine, changes) {
+        Some(Ok(_)) => Some(engine),
+        _ => None,
+    }
+}
+
 /// Opens a new database with batches of one document, and commits two rows, each alone.
 fn two_commits(alloc: Global) -> Option<Engine<MemDisk, MemDisk>> {
-    let pie = one_row(alloc, 7, b"Apple pie", b"with cream").ok()?;
-    let plum = one_row(alloc, 3, b"Plum", b"no PIE, no apple").ok()?;
-    let mut engine = new_engine(alloc, 1)?;
-    commit(&mut engine, &pie)?.ok()?;
-    commit(&mut engine, &plum)?.ok()?;
-    Some(engine)
+    let Ok(pie) = one_row(alloc, 7, b"Apple pie", b"with cream") else {
+        return None;
+    };
+    let Ok(plum) = one_row(alloc, 3, b"Plum", b"no PIE, no apple") else {
+        return None;
+    };
+    behind(behind(new_engine(alloc, 1), &pie), &plum)
 }
 
 /// What a batch flushes through the first or second of two commits, or what it answers behind.
@@ -369,14 +384,20 @@ fn pears(alloc: Global, count: usize) -> Result<Vec<u8>, AllocError>
     Ok(text)
 }
 
+/// The size of the engine's cache.
+fn size_of(engine: Option<Engine<MemDisk, MemDisk>>) -> Option<u64> {
+    let engine = engine?;
+    Some(engine.cache_size())
+}
+
 /// The size of the cache after a commit of one row with this title.
 fn size_with(alloc: Global, title: &[u8]) -> Option<u64>
     requires { IsText title.now }
 {
-    let row = one_row(alloc, 7, title, b"").ok()?;
-    let mut engine = new_engine(alloc, 1_000)?;
-    commit(&mut engine, &row)?.ok()?;
-    Some(engine.cache_size())
+    let Ok(row) = one_row(alloc, 7, title, b"") else {
+        return None;
+    };
+    size_of(behind(new_engine(alloc, 1_000), &row))
 }
 
 #[test]

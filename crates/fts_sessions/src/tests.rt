@@ -412,16 +412,6 @@ fn filled(alloc: Global) -> Result<Direct<MemDisk, MemDisk>, AllocError> {
     Ok(steps)
 }
 
-/// The text of the reply to a search of these rows.
-fn found_by(alloc: Global, query: &str) -> Result<Vec<u8>, Fail> {
-    let mut steps = filled(alloc)?;
-    let line = format!(in alloc;
-        "SELECT FTS_DOC_ID FROM docs WHERE MATCH (title, body) AGAINST ('{query}' IN BOOLEAN MODE)"
-    )?;
-    let reply = executed(alloc, &mut steps, &line);
-    Ok(reply_text(alloc, &reply)?)
-}
-
 /// The text of the reply to a line.
 fn told_by(
     alloc: Global,
@@ -430,6 +420,15 @@ fn told_by(
 ) -> Result<Vec<u8>, AllocError> {
     let reply = executed(alloc, steps, line);
     reply_text(alloc, &reply)
+}
+
+/// The text of the reply to a search of these rows.
+fn found_by(alloc: Global, query: &str) -> Result<Vec<u8>, Fail> {
+    let line = format!(in alloc;
+        "SELECT FTS_DOC_ID FROM docs WHERE MATCH (title, body) AGAINST ('{query}' IN BOOLEAN MODE)"
+    )?;
+    let mut steps = filled(alloc)?;
+    Ok(told_by(alloc, &mut steps, &line)?)
 }
 
 const CACHE: &str = "POSITION
