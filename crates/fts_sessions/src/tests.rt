@@ -422,13 +422,18 @@ fn told_by(
     reply_text(alloc, &reply)
 }
 
+/// The text of the reply to a line behind these rows.
+fn told_behind(alloc: Global, line: &str) -> Result<Vec<u8>, AllocError> {
+    let mut steps = filled(alloc)?;
+    told_by(alloc, &mut steps, line)
+}
+
 /// The text of the reply to a search of these rows.
 fn found_by(alloc: Global, query: &str) -> Result<Vec<u8>, Fail> {
     let line = format!(in alloc;
         "SELECT FTS_DOC_ID FROM docs WHERE MATCH (title, body) AGAINST ('{query}' IN BOOLEAN MODE)"
     )?;
-    let mut steps = filled(alloc)?;
-    Ok(told_by(alloc, &mut steps, &line)?)
+    Ok(told_behind(alloc, &line)?)
 }
 
 const CACHE: &str = "POSITION
