@@ -347,29 +347,24 @@ fn listed_config(engine: &Engine<MemDisk, MemDisk>) -> Option<(u64, DocId)> {
     }
 }
 
-/// How many words tables and cache list after one of two batches.
-fn listed_between(alloc: Global) -> Option<[Option<(u64, usize)>; 2]> {
-    let mut engine = two_commits(alloc)?;
-    engine.sync_batch().ok()?;
-    Some([
-        listed_words(&engine, ListingKind::IndexTable),
-        listed_words(&engine, ListingKind::IndexCache),
-    ])
-}
-
-/// How far the index is flushed before and after one of two batches, as it lists.
-fn flushed_between(alloc: Global) -> Option<[Option<(u64, DocId)>; 2]> {
-    let mut engine = two_commits(alloc)?;
-    let before = listed_config(&engine);
-    engine.sync_batch().ok()?;
-    Some([before, listed_config(&engine)])
+/// How many words the tables and the cache list.
+fn listed_in_both(engine: &Engine<MemDisk, MemDisk>) -> [Option<(u64, usize)>; 2] {
+    [
+        listed_words(engine, ListingKind::IndexTable),
+        listed_words(engine, ListingKind::IndexCache),
+    ]
 }
 
 #[test]
 fn a_batch_is_listed(rt: HostRuntime) -> Result<(), Fail> {
-    let alloc = rt.alloc();
-    assert_eq!(rt; listed_between(alloc), Some([Some((2, 3)), Some((2, 3))]));
-    assert_eq!(rt; flushed_between(alloc), Some([Some((0, 0)), Some((1, 1))]));
+    let Some(mut engine) = two_commits(rt.alloc()) else {
+        return Err(Fail::from("two commits"));
+    };
+    assert_eq!(rt; listed_config(&engine), Some((0, 0)));
+    assert_eq!(rt; engine.sync_batch(), flushes(1));
+    assert_eq!(rt; listed_in_both(&engine), [Some((2, 3)), Some((2, 3))]);
+    assert_eq!(rt; listed_config(&engine), Some((1, 1)));
+    engine.close();
     Ok(())
 }
 
