@@ -1,19 +1,15 @@
 -- What follows of a commit that the rows accept.
 use Rattle.std.proofs.Common.{◌≡◌, ℕ, ◌+◌, ◌≤◌, List, [], ◌∷◌, ◌++◌, refl, sym, ◌∙◌, length, arith, Option, Some, None}
-use Rattle.std.proofs.lemmas.List.Sums.{fold-append, sum_by-cons}
-use Rattle.std.proofs.lemmas.List.Elements.{All-cons}
+use Rattle.std.proofs.lemmas.List.Sums.{fold-append}
 use Rattle.std.proofs.lemmas.Bool.{ltb-true, false≢true}
-use Rattle.std.specs.Prelude.{Bool, true, false, nat_lt, Result, Ok, Err, IsOk, fold, sum_by, All}
+use Rattle.std.specs.Prelude.{Bool, true, false, nat_lt, Result, Ok, Err, IsOk, fold}
 use Rattle.fts_types.specs.declared.limits.Limits.{Limits}
 use Rattle.fts_types.specs.Limits.{standard_limits}
 use Rattle.fts_commits.specs.declared.refusal.Refusal.{Refusal}
 use Rattle.fts_types.specs.Row.{Row}
 use Rattle.fts_commits.specs.Commit.{Commit, Rows, no_rows, has_key, with_key, without_key, doc_within, doc_for, with_texts, with_document, updated, after_update, after_change, on_rows, after_changes, within_rows, after_commit, rows_after, replay, AreAccepted}
-use Rattle.fts_commits.specs.Fits.{IsPlainInsert, FitsNumbers, CanCommit}
 use Rattle.fts_commits.specs.declared.change.Change.{Change}
 use Rattle.fts_commits.specs.declared.change.Change.TheVariants.{Insert, Update, Delete}
-use Rattle.fts_rowcodec.specs.Payload.{FitsText, FitsBytes, IsWritten, commit_payload}
-use Rattle.fts_rowcodec.proofs.Sizes.{IsShort, short_commit_size}
 use Rattle.fts_engine.specs.Bounds.{AreWithin}
 
 -- what was accepted within a limit is accepted within a larger one
@@ -109,64 +105,3 @@ pub AreAccepted-push : (rows : Rows) (commits : List Commit) (commit : Commit) �
     → IsOk (after_commit standard_limits commit (fold rows_after rows commits)) → AreAccepted rows (commits ++ commit ∷ [])
 AreAccepted-push rows [] commit accepted ok = (ok, tt)
 AreAccepted-push rows (first ∷ commits) commit accepted ok = (accepted.0, AreAccepted-push (rows_after rows first) commits commit accepted.1 ok)
-
--- the texts of a change that is taken are short together
-taken_texts : (number key new : ℕ) (texts : List (List ℕ)) (rows after : Rows) (long : Bool) → nat_lt 65535 (sum_by length texts) ≡ long
-    → with_texts number key new texts rows ≡ Ok after → sum_by length texts ≤ 65535
-taken_texts number key new texts rows after true is ok = absurd (let no = (rw is at ok) in cc)
-taken_texts number key new texts rows after false is ok = grind (arith, is)
-
-taken_document : (number key : ℕ) (texts : List (List ℕ)) (rows after : Rows) (doc : Result ℕ Refusal) → with_document number key doc texts rows ≡ Ok after
-    → sum_by length texts ≤ 65535
-taken_document number key texts rows after (Err why) ok = absurd cc
-taken_document number key texts rows after (Ok new) ok = taken_texts number key new texts rows after (nat_lt 65535 (sum_by length texts)) refl ok
-
-taken_insert : (limit number key : ℕ) (doc : Option ℕ) (texts : List (List ℕ)) (rows after : Rows) (taken : Bool) → has_key key rows.list ≡ taken
-    → after_change limit number (Insert key doc texts) rows ≡ Ok after → sum_by length texts ≤ 65535
-taken_insert limit number key doc texts rows after true is ok = absurd (let no = (rw is at ok) in cc)
-taken_insert limit number key doc texts rows after false is ok = taken_document number key texts rows after (doc_for limit rows.largest doc) (rw is at ok)
-
-taken_change : (limit number : ℕ) (change : Change) (rows after : Rows) → after_change limit number change rows ≡ Ok after → IsShort change
-taken_change limit number (Insert key doc texts) rows after ok = taken_insert limit number key doc texts rows after (has_key key rows.list) refl ok
-taken_change limit number (Update key news) rows after ok = tt
-taken_change limit number (Delete key) rows after ok = tt
-
-taken_changes : (limit number : ℕ) (changes : List Change) (rows after : Rows) → after_changes limit number changes rows ≡ Ok after → All IsShort changes
-taken_changes limit number [] rows after ok = λ k d less. absurd (omega arith)
-taken_changes limit number (change ∷ changes) rows after ok =
-    let w = went (after_change limit number change rows) (after_changes limit (number + 1) changes) after ok in
-    All-cons IsShort change changes (taken_change limit number change rows w.middle w.first) (taken_changes limit (number + 1) changes w.middle after w.last)
-
-taken_commit : (limits : Limits) (changes : List Change) (rows after : Rows) (next : Result Rows Refusal) → after_changes limits.ids 1 changes rows ≡ next
-    → within_rows limits.rows next ≡ Ok after → All IsShort changes
-taken_commit limits changes rows after (Err why) is ok = absurd cc
-taken_commit limits changes rows after (Ok next) is ok = taken_changes limits.ids 1 changes rows next is
-
--- a commit that is accepted has short texts
-accepted_short : (limits : Limits) (changes : List Change) (rows after : Rows) → after_commit limits changes rows ≡ Ok after → All IsShort changes
-accepted_short limits changes rows after ok = taken_commit limits changes rows after (after_changes limits.ids 1 changes rows) refl ok
-
--- each text is as short as all together
-short_texts : (texts : List (List ℕ)) → sum_by length texts ≤ 65535 → All FitsText texts
-short_texts [] short = λ k d less. absurd (omega arith)
-short_texts (text ∷ texts) short =
-    let sum = sum_by-cons length text texts in
-    All-cons FitsText text texts (omega (arith, short, sum)) (short_texts texts (omega (arith, short, sum)))
-
-fits_change : (change : Change) → FitsNumbers change → IsPlainInsert change → IsShort change → FitsBytes change
-fits_change (Insert key doc texts) fits plain short = (fits.0, short_texts texts short, fits.1)
-fits_change (Update key news) fits plain short = absurd plain
-fits_change (Delete key) fits plain short = absurd plain
-
--- a commit that is accepted fits the log
-pub accepted_fits : (columns : ℕ) (limits : Limits) (changes : List Change) (rows after : Rows) → CanCommit columns changes
-    → after_commit limits changes rows ≡ Ok after → IsWritten columns changes
-accepted_fits columns limits changes rows after can ok =
-    let short = accepted_short limits changes rows after ok in
-    record { made = can.made; fits = λ k d less. fits_change _ (can.numbers k d less) (can.made.plain k d less) (short k d less) }
-
--- and its payload is not longer than one may be
-pub accepted_size : (columns : ℕ) (limits : Limits) (changes : List Change) (rows : Rows) (answer : Result Rows Refusal) → columns ≤ 8 → IsWritten columns changes
-    → after_commit limits changes rows ≡ answer → IsOk answer → length (commit_payload changes) ≤ 65561003
-accepted_size columns limits changes rows (Err why) few written is ok = absurd (let no = ok in cc)
-accepted_size columns limits changes rows (Ok after) few written is ok = short_commit_size columns changes few written (accepted_short limits changes rows after is)

@@ -37,7 +37,8 @@ use Rattle.fts_engine.specs.declared.engine.Engine.{Engine}
 use Rattle.fts_engine.specs.Bounds.{AreWithin}
 use Rattle.fts_engine.specs.Kept.{kept_settings, kept_rows, kept_limits}
 use Rattle.fts_engine.specs.Stands.{Keeps, OnRows, OnIndex, engine_limits}
-use Rattle.fts_engine.proofs.Accepting.{accepted_more, accepted_fits, replay_accepted, AreAccepted-push}
+use Rattle.fts_engine.proofs.Accepting.{accepted_more, replay_accepted, AreAccepted-push}
+use Rattle.fts_engine.proofs.Fitting.{accepted_fits, replay_fits}
 
 -- the entries of a state with one commit more
 pub payloads-push : (state : State) (commit : Commit) → payloads (with_commits state (commit ∷ [])) ≡ payloads state ++ commit_payload commit ∷ []
@@ -122,7 +123,8 @@ module _ {D E : Type 0} {disk : Ghosts D} {disk' : Ghosts E} (state : State) (en
     accepted = accepted_more (engine_limits engine) standard_limits commit (replay state.commits) after keeps.within (same_rows (Ok after) ok)
 
     written : IsWritten (length state.settings.columns) commit
-    written = accepted_fits (length state.settings.columns) (engine_limits engine) commit (replay state.commits) after can (same_rows (Ok after) ok)
+    written = accepted_fits (length state.settings.columns) (engine_limits engine) commit (replay state.commits) after keeps.within
+        (replay_fits (length state.settings.columns) state.commits keeps.sound.written keeps.sound.accepted) can (same_rows (Ok after) ok)
 
     -- the state after the commit is sound
     pub sound_after : IsSound (with_commits state (commit ∷ []))

@@ -1,9 +1,9 @@
 -- That an index in memory stays right for commits.
-use Rattle.std.proofs.Common.{◌≡◌, ℕ, ◌+◌, ◌<◌, ◌≤◌, List, [], ◌∷◌, ◌++◌, refl, ap, subst, sym, ◌∙◌, length, arith}
+use Rattle.std.proofs.Common.{◌≡◌, ℕ, ◌+◌, ◌<◌, ◌≤◌, List, [], ◌∷◌, ◌++◌, refl, ap, subst, sym, ◌∙◌, length, arith, cond}
 use Rattle.std.proofs.lemmas.List.Sums.{fold-append}
 use Rattle.std.proofs.lemmas.Bool.{and_parts, leb-true}
-use Rattle.std.specs.Prelude.{Ok, fold, nat_eq, Bool, true, false, nat_le, if◌then◌else◌, Option, Some, None}
-use Rattle.std.specs.List.{IsDistinct}
+use Rattle.std.specs.Prelude.{Ok, fold, nat_eq, Bool, true, false, nat_le, if◌then◌else◌, Option, Some, None, filter, not, ◌==◌}
+use Rattle.std.specs.List.{IsDistinct, list_any}
 use Rattle.fts_types.specs.declared.settings.Settings.{Settings}
 use Rattle.fts_types.specs.declared.check.Field.{Field}
 use Rattle.fts_types.specs.declared.check.Field.TheVariants.{Columns, Min, Max, OptimizeWords, CacheBytes, BatchDocs}
@@ -13,7 +13,7 @@ use Rattle.fts_types.specs.Row.{Row}
 use Rattle.fts_types.specs.Rules.{rules_of}
 use Rattle.fts_words.specs.Indexed.{Rules}
 use Rattle.fts_commits.specs.Commit.{Commit, Rows, no_rows, after_commit, rows_after, replay}
-use Rattle.fts_commits.specs.Turn.{Turn, RowsAscend, AreTurns, rows_by, turn_between, turns_from, deaths_of}
+use Rattle.fts_commits.specs.Turn.{Turn, RowsAscend, AreTurns, rows_but, rows_by, turn_between, turns_from, deaths_of}
 use Rattle.fts_rows.specs.Rows.{Held, rows_of}
 use Rattle.fts_rows.specs.Plan.{rows_with}
 use Rattle.fts_entries.specs.Entry.{Batch, IndexState, no_entries, sealed, after_entry}
@@ -38,6 +38,19 @@ ids_order low high (row ∷ rows) up = (let rest = ids_order row.doc high rows u
 rows_join : (low middle high : ℕ) (rows more : List Row) → RowsAscend low middle rows → RowsAscend middle high more → RowsAscend low high (rows ++ more)
 rows_join low middle high [] more up rise = ids_lower low middle high more up rise
 rows_join low middle high (row ∷ rows) more up rise = (up.0, rows_join row.doc middle high rows more up.1 rise)
+
+-- rows of which some are taken out ascend still
+rows_lower : (low low' high : ℕ) (rows : List Row) → low ≤ low' → RowsAscend low' high rows → RowsAscend low high rows
+rows_lower low low' high [] less up = omega (arith, less, up)
+rows_lower low low' high (row ∷ rows) less up = (omega (arith, less, up.0), up.1)
+
+rows_left : (left : Row → Bool) (low high : ℕ) (rows : List Row) → RowsAscend low high rows → RowsAscend low high (filter left rows)
+rows_left left low high [] up = up
+rows_left left low high (row ∷ rows) up = by (left row) refl (rows_left left row.doc high rows up.1)
+  where
+    by : (b : Bool) → left row ≡ b → RowsAscend row.doc high (filter left rows) → RowsAscend low high (cond b (row ∷ filter left rows) (filter left rows))
+    by true is rest = (up.0, rest)
+    by false is rest = rows_lower low row.doc high (filter left rows) (omega (arith, up.0)) rest
 
 -- the turns of one commit more
 turns-push : (rows : Rows) (commits : List Commit) (commit : Commit)
@@ -115,10 +128,10 @@ module _ (settings : Settings) (held : Held) (old new : Index) (next : NextKept)
   led = ap (λ (rows : Rows). rows_by rows turn) (sym (laws.rows commits)) ∙ sym (fold-append rows_by no_rows turns (turn ∷ []))
       ∙ ap (fold rows_by no_rows) (sym grown) ∙ laws.rows (commits ++ commit ∷ [])
 
-  rows_ascend : RowsAscend 0 after.largest after.list
-  rows_ascend = subst (λ (rows : Rows). RowsAscend 0 rows.largest rows.list) will.plan.leads
-      (rows_join 0 (rows_of held).largest next.plan.largest (rows_of held).list next.plan.births
-      (subst (λ (rows : Rows). RowsAscend 0 rows.largest rows.list) (sym is.same) is.right.ascend) will.births.ids)
+  rows_ascend : RowsAscend 0 (replay (commits ++ commit ∷ [])).largest (replay (commits ++ commit ∷ [])).list
+  rows_ascend = subst (λ (rows : Rows). RowsAscend 0 rows.largest rows.list) led
+      (rows_join 0 (replay commits).largest turn.largest (rows_but turn.deaths (replay commits).list) turn.births
+      (rows_left (λ row. not (list_any (λ id. id == row.doc) turn.deaths)) 0 (replay commits).largest (replay commits).list is.right.ascend) births.ids)
 
   -- an index that got the turn of one commit more is right for it
   pub one_right : IsIndexOf settings after new (commits ++ commit ∷ []) s
@@ -130,7 +143,7 @@ module _ (settings : Settings) (held : Held) (old new : Index) (next : NextKept)
       fits = one_fits turns turn s is.right.fits;
       exact = subst (λ (rows : Rows). IsExact (rules_of settings) rows.list (turns ++ turn ∷ []) s) led
           (one_exact turns turn s is.right.fits are (rules_of settings) (replay commits) is.right.exact);
-      ascend = subst (λ (rows : Rows). RowsAscend 0 rows.largest rows.list) (sym replayed) rows_ascend;
+      ascend = rows_ascend;
     });
   }
 

@@ -1,5 +1,5 @@
 pub mod Accepting
-pub mod Births
+pub mod Fitting
 pub mod Committing
 pub mod Framing
 pub mod Loading

@@ -20,12 +20,14 @@ use Rattle.fts_steps.specs.State.{State, payloads, with_commits, IsSound}
 use Rattle.fts_engine.specs.declared.kept.Kept.{Kept}
 use Rattle.fts_entries.specs.Entry.{IndexState, no_entries}
 use Rattle.fts_engine.specs.Kept.{kept_settings, kept_rows, kept_limits, IsIndexed}
+use Rattle.fts_engine.specs.Fitting.{IsTableRow}
 use Rattle.fts_engine.specs.Loading.{BeginsWith, IsLoaded, IsWrongEntry}
 use Rattle.fts_steps.specs.Fault.{AreNoState}
 use Rattle.fts_log.specs.Record.{gate_at}
 use Rattle.fts_rowcodec.proofs.Bounds.{few_columns}
 use Rattle.fts_rowcodec.proofs.Sizes.{settings_size}
-use Rattle.fts_engine.proofs.Accepting.{replay_accepted, accepted_size}
+use Rattle.fts_engine.proofs.Accepting.{replay_accepted}
+use Rattle.fts_engine.proofs.Fitting.{accepted_size, replay_fits}
 use Rattle.fts_engine.proofs.Committing.{payloads-push, sound-push}
 
 -- a list of commits goes on behind another with one commit more
@@ -130,7 +132,10 @@ module _ (all : List (List ℕ)) (k : ℕ) (kept : Kept) (l : IsLoaded all k kep
       let next = whole_goes_on whole sound whole_is in
       let accepted : AreAccepted no_rows (l.state.commits ++ next.commit ∷ next.rest) = subst (λ (commits : List Commit). AreAccepted no_rows commits) next.is sound.accepted in
       let few : length (kept_settings kept).columns ≤ 8 = subst (λ (s : Settings). length s.columns ≤ 8) l.same (few_columns l.state.settings l.sound.settings) in
-      let most = accepted_size (length (kept_settings kept).columns) standard_limits next.commit (replay l.state.commits) _ few next.written refl
+      let fit = subst (λ (s : Settings). All (IsTableRow (length s.columns)) (replay l.state.commits).list) l.same
+      (replay_fits (length l.state.settings.columns) l.state.commits l.sound.written l.sound.accepted) in
+      let most = accepted_size (length (kept_settings kept).columns) standard_limits next.commit (replay l.state.commits) _ few
+      (record { rows = omega arith; ids = omega arith; log_bytes = omega arith }) fit next.written refl
       (accepted_at no_rows l.state.commits next.commit next.rest accepted) in
       omega (arith, long, most, ap length (entry_is whole sound whole_is))
 

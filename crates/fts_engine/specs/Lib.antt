@@ -1,3 +1,4 @@
+pub mod Fitting
 pub mod Indexed
 pub mod Next
 pub mod Kept

@@ -6,6 +6,7 @@ ghost use Rattle.fts_commits.specs.Commit.{Commit, Rows as RowList};
 ghost use Rattle.fts_entries.specs.Entry.{IndexState};
 ghost use Rattle.fts_rows.specs.Rows.{rows_of, limits_of};
 ghost use Rattle.fts_engine.specs.Bounds.{AreWithin};
+ghost use Rattle.fts_engine.specs.Fitting.{AreTableRows};
 ghost use Rattle.fts_engine.specs.Indexed.{IsIndexOf, HasIndex};
 ghost use Rattle.fts_engine.specs.Next.{WillHold};
 
@@ -26,6 +27,7 @@ pub struct Kept {
     index: Index,
     ghost right: { AreSettings settings },
     ghost within: { AreWithin standard_limits (limits_of rows) },
+    ghost fit: { AreTableRows settings (rows_of rows) },
     ghost indexed: { ∥ HasIndex settings (rows_of rows) index ∥₁ },
 }
 
@@ -91,7 +93,7 @@ impl Kept {
 
     /// What a commit makes of the rows and their words, with the room for it.
     pub fn plan(&mut self, changes: &[Change]) -> Result<NextKept, PlanError>
-        requires { (columns : ℕ) × (1 ≤ columns) × (columns ≤ 8) × IsCommit columns changes.now }
+        requires { IsCommit (length (kept_settings self.old).columns) changes.now }
         ensures planned { IfOk result
             (λ next. (after : RowList)
             × (after_commit (kept_limits self.old) changes.now (kept_rows self.old) ≡ Ok after)
@@ -133,7 +135,7 @@ impl Kept {
 
     /// Makes a commit that stands in the log already.
     pub fn replay(&mut self, changes: &[Change]) -> Result<(), PlanError>
-        requires { (columns : ℕ) × (1 ≤ columns) × (columns ≤ 8) × IsCommit columns changes.now }
+        requires { IsCommit (length (kept_settings self.old).columns) changes.now }
         ensures rows { OnOk result (after_commit (kept_limits self.old) changes.now
             (kept_rows self.old) ≡ Ok (kept_rows self.new)) }
         ensures refused { IfErr result

@@ -49,6 +49,10 @@ pub few_columns : (settings : Settings) → AreSettings settings → length sett
 few_columns settings are =
     at_most 1 8 (length settings.columns) (and_parts _ _ (and_parts _ _ (right_columns settings are)).0).0
 
+pub some_columns : (settings : Settings) → AreSettings settings → 1 ≤ length settings.columns
+some_columns settings are =
+    leb-true 1 (length settings.columns) (and_parts _ _ (and_parts _ _ (and_parts _ _ (right_columns settings are)).0).0).0
+
 pub short_columns : (settings : Settings) → AreSettings settings → All (λ name. length name ≤ 32) settings.columns
 short_columns settings are =
     let names = and_parts _ _ (and_parts _ _ (right_columns settings are)).0 in

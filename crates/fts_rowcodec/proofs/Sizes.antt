@@ -8,7 +8,7 @@ use Rattle.std.proofs.lemmas.List.Sums.{sum_by-cons}
 use Rattle.std.proofs.lemmas.List.Elements.{All-head, All-tail}
 use Rattle.fts_types.specs.declared.settings.Settings.{Settings}
 use Rattle.fts_types.specs.Settings.{AreSettings}
-use Rattle.fts_commits.specs.Commit.{Commit}
+use Rattle.fts_commits.specs.Commit.{Commit, set_bytes}
 use Rattle.fts_commits.specs.declared.change.Change.{Change}
 use Rattle.fts_commits.specs.declared.change.Change.TheVariants.{Insert, Update, Delete}
 use Rattle.fts_rowcodec.specs.Payload.{IsWritten, FitsText, text_payload, change_payload, commit_payload, column_payload, numbers_payload, settings_payload}
@@ -49,7 +49,7 @@ settings_size settings are =
 -- the texts of a change have at most 65,535 bytes together
 abbrev pub IsShort : Change → Type 0
 IsShort (Insert key doc texts) = sum_by length texts ≤ 65535
-IsShort (Update key news) = Unit {0}
+IsShort (Update key news) = set_bytes news ≤ 65535
 IsShort (Delete key) = Unit {0}
 
 -- such a change of a row of at most 8 columns has at most 65,561

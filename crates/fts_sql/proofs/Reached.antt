@@ -4,9 +4,8 @@ use Rattle.std.proofs.lemmas.Bool.{both_ways}
 use Rattle.std.proofs.lemmas.List.{append-nil, append_assoc, take-append-drop, take_all, take_more, get_or-map, length-map}
 use Rattle.fts_sql.specs.Token.{Token}
 use Rattle.fts_sql.specs.Reading.{token_of}
-use Rattle.fts_sql.specs.Table.{taken_by, Says}
+use Rattle.fts_sql.specs.Table.{taken_by, Says, Part}
 use Rattle.fts_sql.specs.declared.piece.Piece.{Piece}
-use Rattle.fts_sql.specs.declared.piece.Part.{Part}
 use Rattle.fts_sql.specs.declared.line.Placed.{Placed}
 use Rattle.fts_sql.specs.Reader.{is_table, Spot, SaysFrom, behind, ends, Begins, IsReached, tokens_at}
 use Rattle.fts_sql.proofs.Tables.{IsStep, behind_is, spot_end, spot_completes}

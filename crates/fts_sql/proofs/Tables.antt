@@ -9,9 +9,7 @@ use Rattle.fts_sql.specs.Token.{Token, name, number, string, mark}
 use Rattle.fts_sql.specs.declared.word.Word.TheVariants as word
 use Rattle.fts_sql.specs.declared.piece.Piece.{Piece}
 use Rattle.fts_sql.specs.declared.piece.Piece.TheVariants.{Keyword, Mark, Name, Number, String, Value}
-use Rattle.fts_sql.specs.declared.piece.Part.{Part}
-use Rattle.fts_sql.specs.declared.piece.Part.TheVariants.{Once, Optional, Repeated}
-use Rattle.fts_sql.specs.Table.{letters, is_piece, taken_by, Are, Often, Says}
+use Rattle.fts_sql.specs.Table.{letters, is_piece, taken_by, Are, Often, Says, Part, Once, Optional, Repeated}
 use Rattle.fts_sql.specs.Reader.{are_apart, firsts, are_told, is_table, Spot, SaysFrom, or_else, enter, behind, can_end, ends}
 
 equal_bytes : (xs ys : List ℕ) → bytes_eq xs ys ≡ true → xs ≡ ys
@@ -259,15 +257,19 @@ sample Value = number 0
 sample_is : (p : Piece) → is_piece p (sample p) ≡ true
 sample_is (Keyword word.Against) = refl
 sample_is (Keyword word.Boolean) = refl
+sample_is (Keyword word.Delete) = refl
 sample_is (Keyword word.From) = refl
 sample_is (Keyword word.FtsDocId) = refl
+sample_is (Keyword word.Id) = refl
 sample_is (Keyword word.In) = refl
 sample_is (Keyword word.Insert) = refl
 sample_is (Keyword word.Into) = refl
 sample_is (Keyword word.Match) = refl
 sample_is (Keyword word.Mode) = refl
 sample_is (Keyword word.Select) = refl
+sample_is (Keyword word.Set) = refl
 sample_is (Keyword word.Sync) = refl
+sample_is (Keyword word.Update) = refl
 sample_is (Keyword word.Values) = refl
 sample_is (Keyword word.Where) = refl
 sample_is (Mark b) = same_byte b

@@ -6,7 +6,7 @@ use Rattle.fts_sql.specs.Token.{Token, name, number, string, mark}
 use Rattle.fts_sql.specs.declared.piece.Piece.{Piece}
 use Rattle.fts_sql.specs.declared.value.Value.TheVariants.{Number, Text}
 use Rattle.fts_sql.specs.declared.statement.Statement.{Statement}
-use Rattle.fts_sql.specs.declared.statement.Statement.TheVariants.{Insert, Match, Sync, List as ListView}
+use Rattle.fts_sql.specs.declared.statement.Statement.TheVariants.{Insert, Update, Delete, Match, Sync, List as ListView}
 use Rattle.fts_sql.specs.declared.form.Form.{Form}
 use Rattle.fts_sql.specs.declared.form.Form.TheVariants as form
 use Rattle.fts_sql.specs.Table.{taken_by, Says}
@@ -154,6 +154,8 @@ open_row = writes_none insert_front none
   where
     none : (one : Form) → takes (after (start one) insert_front []) ≡ None
     none form.Insert = refl
+    none form.Update = refl
+    none form.Delete = refl
     none form.Match = refl
     none form.Sync = refl
     none form.List = refl
@@ -167,6 +169,8 @@ no_column = begins_none (name (codes "insert") ∷ name (codes "into") ∷ name 
   where
     none : (one : Form) → is_front (after (start one) (name (codes "insert") ∷ name (codes "into") ∷ name (codes "t") ∷ mark 40 ∷ mark 41 ∷ []) []) ≡ false
     none form.Insert = refl
+    none form.Update = refl
+    none form.Delete = refl
     none form.Match = refl
     none form.Sync = refl
     none form.List = refl
@@ -190,6 +194,8 @@ match_open = writes_none match_front none
   where
     none : (one : Form) → takes (after (start one) match_front []) ≡ None
     none form.Insert = refl
+    none form.Update = refl
+    none form.Delete = refl
     none form.Match = refl
     none form.Sync = refl
     none form.List = refl
@@ -218,6 +224,8 @@ list_open = writes_none list_front none
   where
     none : (one : Form) → takes (after (start one) list_front []) ≡ None
     none form.Insert = refl
+    none form.Update = refl
+    none form.Delete = refl
     none form.Match = refl
     none form.Sync = refl
     none form.List = refl
@@ -228,6 +236,52 @@ no_column_behind = begins_none (name (codes "select") ∷ mark 42 ∷ name (code
   where
     none : (one : Form) → is_front (after (start one) (name (codes "select") ∷ mark 42 ∷ name (codes "fts_doc_id") ∷ []) []) ≡ false
     none form.Insert = refl
+    none form.Update = refl
+    none form.Delete = refl
     none form.Match = refl
     none form.Sync = refl
     none form.List = refl
+
+-- UPDATE t SET a = 'x', b = 'y' WHERE id = 7
+
+abbrev update_front : List Token
+update_front =
+    name (codes "UPDATE") ∷ name (codes "t") ∷ name (codes "set") ∷ name (codes "a") ∷ mark 61 ∷ string (codes "x") ∷ mark 44 ∷ name (codes "b") ∷ mark 61
+    ∷ string (codes "y") ∷ name (codes "WHERE") ∷ name (codes "Id") ∷ mark 61 ∷ []
+
+update_row : Writes (Update (codes "t") (codes "a" ∷ codes "b" ∷ []) (codes "x" ∷ codes "y" ∷ []) 7) (update_front ++ number 7 ∷ [])
+update_row = (form.Update, _, says form.Update (update_front ++ number 7 ∷ []) _ refl, refl)
+
+update_closed : Writes (Update (codes "t") (codes "a" ∷ codes "b" ∷ []) (codes "x" ∷ codes "y" ∷ []) 7) (update_front ++ number 7 ∷ mark 59 ∷ [])
+update_closed = (form.Update, _, says form.Update (update_front ++ number 7 ∷ mark 59 ∷ []) _ refl, refl)
+
+update_open : Viable update_front
+update_open = begins form.Update update_front refl
+
+-- UPDATE t SET a = 7 ..
+no_number_is_set : Viable (name (codes "update") ∷ name (codes "t") ∷ name (codes "set") ∷ name (codes "a") ∷ mark 61 ∷ number 7 ∷ []) → ⊥
+no_number_is_set = begins_none (name (codes "update") ∷ name (codes "t") ∷ name (codes "set") ∷ name (codes "a") ∷ mark 61 ∷ number 7 ∷ []) none
+  where
+    none : (one : Form) → is_front (after (start one) (name (codes "update") ∷ name (codes "t") ∷ name (codes "set") ∷ name (codes "a") ∷ mark 61 ∷ number 7 ∷ []) []) ≡ false
+    none form.Insert = refl
+    none form.Update = refl
+    none form.Delete = refl
+    none form.Match = refl
+    none form.Sync = refl
+    none form.List = refl
+
+-- DELETE FROM t WHERE id = 7
+
+delete_row : Writes (Delete (codes "t") 7)
+    (name (codes "delete") ∷ name (codes "FROM") ∷ name (codes "t") ∷ name (codes "where") ∷ name (codes "ID") ∷ mark 61 ∷ number 7 ∷ [])
+delete_row =
+    (form.Delete, _, says form.Delete (name (codes "delete") ∷ name (codes "FROM") ∷ name (codes "t") ∷ name (codes "where") ∷ name (codes "ID") ∷ mark 61 ∷ number 7 ∷ []) _ refl, refl)
+
+delete_closed : Writes (Delete (codes "t") 7)
+    (name (codes "delete") ∷ name (codes "FROM") ∷ name (codes "t") ∷ name (codes "where") ∷ name (codes "ID") ∷ mark 61 ∷ number 7 ∷ mark 59 ∷ [])
+delete_closed = (
+  form.Delete,
+  _,
+  says form.Delete (name (codes "delete") ∷ name (codes "FROM") ∷ name (codes "t") ∷ name (codes "where") ∷ name (codes "ID") ∷ mark 61 ∷ number 7 ∷ mark 59 ∷ []) _ refl,
+  refl,
+)

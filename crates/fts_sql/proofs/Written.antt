@@ -3,12 +3,11 @@ use Rattle.std.proofs.Common.{◌≡◌, ◌⊎◌, inl, inr, ℕ, zero, suc, �
 use Rattle.std.proofs.lemmas.Bool.{both_ways, cases_Bool, eqb-true, eqb-false}
 use Rattle.std.proofs.lemmas.List.{append_assoc, append-nil, take-append-drop}
 use Rattle.fts_sql.specs.Token.{Token}
-use Rattle.fts_sql.specs.declared.piece.Part.{Part}
 use Rattle.fts_sql.specs.declared.statement.Statement.{Statement}
 use Rattle.fts_sql.specs.declared.form.Form.{Form}
 use Rattle.fts_sql.specs.declared.form.Form.TheVariants as form
 use Rattle.fts_sql.specs.declared.form.TheConstants.{FORMS}
-use Rattle.fts_sql.specs.Table.{Says}
+use Rattle.fts_sql.specs.Table.{Says, Part}
 use Rattle.fts_sql.specs.Statement.{table_of, statement_of, Writes}
 use Rattle.fts_sql.specs.Fault.{Viable}
 use Rattle.fts_sql.specs.Reader.{is_table, Begins, IsReached, IsFurthest}
@@ -18,12 +17,16 @@ use Rattle.fts_sql.proofs.Tables.{one_taken, no_tokens, spot_completes, are_part
 
 abbrev place_of : Form → ℕ
 place_of form.Insert = 0
-place_of form.Match = 1
-place_of form.Sync = 2
-place_of form.List = 3
+place_of form.Update = 1
+place_of form.Delete = 2
+place_of form.Match = 3
+place_of form.Sync = 4
+place_of form.List = 5
 
 pub is_listed : (one : Form) (d : Form) → (place_of one < length FORMS) × (get_or FORMS (place_of one) d ≡ one)
 is_listed form.Insert d = (omega arith, refl)
+is_listed form.Update d = (omega arith, refl)
+is_listed form.Delete d = (omega arith, refl)
 is_listed form.Match d = (omega arith, refl)
 is_listed form.Sync d = (omega arith, refl)
 is_listed form.List d = (omega arith, refl)
@@ -31,6 +34,8 @@ is_listed form.List d = (omega arith, refl)
 -- each table can be read from the left
 pub tables_are : (one : Form) → is_table (table_of one) ≡ true
 tables_are form.Insert = refl
+tables_are form.Update = refl
+tables_are form.Delete = refl
 tables_are form.Match = refl
 tables_are form.Sync = refl
 tables_are form.List = refl
@@ -38,18 +43,38 @@ tables_are form.List = refl
 -- two of them part
 one_or_parted : (one other : Form) → (one ≡ other) ⊎ (are_parted (table_of one) (table_of other) ≡ true)
 one_or_parted form.Insert form.Insert = inl refl
+one_or_parted form.Insert form.Update = inr refl
+one_or_parted form.Insert form.Delete = inr refl
 one_or_parted form.Insert form.Match = inr refl
 one_or_parted form.Insert form.Sync = inr refl
 one_or_parted form.Insert form.List = inr refl
+one_or_parted form.Update form.Insert = inr refl
+one_or_parted form.Update form.Update = inl refl
+one_or_parted form.Update form.Delete = inr refl
+one_or_parted form.Update form.Match = inr refl
+one_or_parted form.Update form.Sync = inr refl
+one_or_parted form.Update form.List = inr refl
+one_or_parted form.Delete form.Insert = inr refl
+one_or_parted form.Delete form.Update = inr refl
+one_or_parted form.Delete form.Delete = inl refl
+one_or_parted form.Delete form.Match = inr refl
+one_or_parted form.Delete form.Sync = inr refl
+one_or_parted form.Delete form.List = inr refl
 one_or_parted form.Match form.Insert = inr refl
+one_or_parted form.Match form.Update = inr refl
+one_or_parted form.Match form.Delete = inr refl
 one_or_parted form.Match form.Match = inl refl
 one_or_parted form.Match form.Sync = inr refl
 one_or_parted form.Match form.List = inr refl
 one_or_parted form.Sync form.Insert = inr refl
+one_or_parted form.Sync form.Update = inr refl
+one_or_parted form.Sync form.Delete = inr refl
 one_or_parted form.Sync form.Match = inr refl
 one_or_parted form.Sync form.Sync = inl refl
 one_or_parted form.Sync form.List = inr refl
 one_or_parted form.List form.Insert = inr refl
+one_or_parted form.List form.Update = inr refl
+one_or_parted form.List form.Delete = inr refl
 one_or_parted form.List form.Match = inr refl
 one_or_parted form.List form.Sync = inr refl
 one_or_parted form.List form.List = inl refl
@@ -96,6 +121,8 @@ viable_nothing =
 -- no tokens write no statement
 pub none_written : (statement : Statement) → Writes statement [] → ⊥
 none_written statement (form.Insert, all, (t, more, e, is, says), same) = no_tokens t more (sym e)
+none_written statement (form.Update, all, (t, more, e, is, says), same) = no_tokens t more (sym e)
+none_written statement (form.Delete, all, (t, more, e, is, says), same) = no_tokens t more (sym e)
 none_written statement (form.Match, all, (t, more, e, is, says), same) = no_tokens t more (sym e)
 none_written statement (form.Sync, all, (t, more, e, is, says), same) = no_tokens t more (sym e)
 none_written statement (form.List, all, (t, more, e, is, says), same) = no_tokens t more (sym e)

@@ -7,11 +7,9 @@ use Rattle.fts_sql.specs.Line.{Placed, Ending, whole, unreadable}
 use Rattle.fts_sql.specs.Fault.{Viable, IsMisplaced, IsCutShort, IsFaultAt}
 use Rattle.fts_sql.specs.Reading.{token_of}
 use Rattle.fts_sql.specs.Statement.{tokens_in, IsStatement, Writes, table_of}
-use Rattle.fts_sql.specs.Table.{letters, is_piece, Are, Says}
+use Rattle.fts_sql.specs.Table.{letters, is_piece, Are, Says, Part, Once, Optional, Repeated, parts_of}
 use Rattle.fts_sql.specs.declared.piece.Piece.{Piece}
 use Rattle.fts_sql.specs.declared.piece.Piece.TheVariants.{Keyword, Mark}
-use Rattle.fts_sql.specs.declared.piece.Part.{Part}
-use Rattle.fts_sql.specs.declared.piece.Part.TheVariants.{Once, Optional, Repeated}
 use Rattle.fts_sql.specs.declared.line.Placed as code
 use Rattle.fts_sql.specs.declared.reader.Step.{Step}
 use Rattle.fts_sql.specs.declared.reader.Place as code_place
@@ -63,7 +61,7 @@ pub record Spot : Type 0 where
   pub ahead : List Part
 
 abbrev pub spot_of : code_place.Place → Spot
-spot_of place = record { begun = place.begun.now; ahead = place.ahead.now }
+spot_of place = record { begun = place.begun.now; ahead = parts_of place.ahead.now }
 
 -- what the tokens from a place on take
 abbrev pub SaysFrom : Spot → List Token → List Token → List Token → Type 0

@@ -2,14 +2,14 @@ use Rattle.std.specs.Prelude.{◌≡◌, ℕ, List, [], ◌∷◌, drop}
 use Rattle.fts_sql.specs.declared.value.Value.{Value}
 use Rattle.fts_sql.specs.declared.value.Value.TheVariants.{Number, Text}
 use Rattle.fts_sql.specs.declared.statement.Statement.{Statement}
-use Rattle.fts_sql.specs.declared.statement.Statement.TheVariants.{Insert, Match, Sync, List as ListView}
+use Rattle.fts_sql.specs.declared.statement.Statement.TheVariants.{Insert, Update, Delete, Match, Sync}
+use Rattle.fts_sql.specs.declared.statement.Statement.TheVariants.{List as ListView}
 use Rattle.fts_sql.specs.declared.form.Form.{Form}
 use Rattle.fts_sql.specs.declared.form.Form.TheVariants as form
-use Rattle.fts_sql.specs.declared.form.TheConstants.{INSERT, MATCH, SYNC, LIST}
-use Rattle.fts_sql.specs.declared.piece.Part.{Part}
+use Rattle.fts_sql.specs.declared.form.TheConstants.{INSERT, UPDATE, DELETE, MATCH, SYNC, LIST}
 use Rattle.fts_sql.specs.Token.{Token, name, number, string, mark}
 use Rattle.fts_sql.specs.Line.{Placed, placed, whole, Reads}
-use Rattle.fts_sql.specs.Table.{Says}
+use Rattle.fts_sql.specs.Table.{Says, Part, parts_of}
 
 -- the names among some tokens, in their order
 abbrev pub names_in : List Token → List (List ℕ)
@@ -40,16 +40,37 @@ first_string (number n ∷ tokens) = first_string tokens
 first_string (string text ∷ tokens) = text
 first_string (mark b ∷ tokens) = first_string tokens
 
+-- the texts of the strings among them
+abbrev pub strings_in : List Token → List (List ℕ)
+strings_in [] = []
+strings_in (name written ∷ tokens) = strings_in tokens
+strings_in (number n ∷ tokens) = strings_in tokens
+strings_in (string text ∷ tokens) = text ∷ strings_in tokens
+strings_in (mark b ∷ tokens) = strings_in tokens
+
+-- the first number among them
+abbrev pub first_number : List Token → ℕ
+first_number [] = 0
+first_number (name written ∷ tokens) = first_number tokens
+first_number (number n ∷ tokens) = n
+first_number (string text ∷ tokens) = first_number tokens
+first_number (mark b ∷ tokens) = first_number tokens
+
 -- the table of each form
 abbrev pub table_of : Form → List Part
-table_of form.Insert = INSERT
-table_of form.Match = MATCH
-table_of form.Sync = SYNC
-table_of form.List = LIST
+table_of form.Insert = parts_of INSERT
+table_of form.Update = parts_of UPDATE
+table_of form.Delete = parts_of DELETE
+table_of form.Match = parts_of MATCH
+table_of form.Sync = parts_of SYNC
+table_of form.List = parts_of LIST
 
 -- the statement of a form that takes these tokens
 abbrev pub statement_of : Form → List Token → Statement
 statement_of form.Insert taken = Insert (first_name taken) (names_in (drop 1 taken)) (values_in taken)
+statement_of form.Update taken =
+    Update (first_name taken) (names_in (drop 1 taken)) (strings_in taken) (first_number taken)
+statement_of form.Delete taken = Delete (first_name taken) (first_number taken)
 statement_of form.Match taken = Match (first_name taken) (names_in (drop 1 taken)) (first_string taken)
 statement_of form.Sync taken = Sync
 statement_of form.List taken = ListView (first_name taken) (first_name (drop 1 taken))

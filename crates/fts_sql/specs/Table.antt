@@ -1,26 +1,30 @@
-use Rattle.std.specs.Prelude.{◌≡◌, ◌⊎◌, ℕ, zero, suc, Bool, ◌==◌, true, false, List, [], ◌∷◌, ◌++◌, codes}
+use Rattle.std.specs.Prelude.{◌≡◌, ◌⊎◌, ℕ, zero, suc, Bool, ◌==◌, true, false, List, [], ◌∷◌, ◌++◌, codes, map}
 use Rattle.std.specs.Str.{str_eq_ignore_ascii_case}
 use Rattle.fts_sql.specs.Token.{Token, name, number, string, mark}
 use Rattle.fts_sql.specs.declared.word.Word.{Word}
 use Rattle.fts_sql.specs.declared.word.Word.TheVariants as word
 use Rattle.fts_sql.specs.declared.piece.Piece.{Piece}
 use Rattle.fts_sql.specs.declared.piece.Piece.TheVariants.{Keyword, Mark, Name, Number, String, Value}
-use Rattle.fts_sql.specs.declared.piece.Part.{Part}
-use Rattle.fts_sql.specs.declared.piece.Part.TheVariants.{Once, Optional, Repeated}
+use Rattle.fts_sql.specs.declared.piece.Part as code
+use Rattle.fts_sql.specs.declared.piece.Part.TheVariants as part
 
 -- a keyword's letters, in lower case
 abbrev pub letters : Word → List ℕ
 letters word.Against = codes "against"
 letters word.Boolean = codes "boolean"
+letters word.Delete = codes "delete"
 letters word.From = codes "from"
 letters word.FtsDocId = codes "fts_doc_id"
+letters word.Id = codes "id"
 letters word.In = codes "in"
 letters word.Insert = codes "insert"
 letters word.Into = codes "into"
 letters word.Match = codes "match"
 letters word.Mode = codes "mode"
 letters word.Select = codes "select"
+letters word.Set = codes "set"
 letters word.Sync = codes "sync"
+letters word.Update = codes "update"
 letters word.Values = codes "values"
 letters word.Where = codes "where"
 
@@ -52,6 +56,21 @@ Are (piece ∷ pieces) Rest tokens taken =
 abbrev pub Often : ℕ → List Piece → (List Token → List Token → Type 0) → List Token → List Token → Type 0
 Often zero pieces Rest = Rest
 Often (suc n) pieces Rest = Are pieces (Often n pieces Rest)
+
+-- a part of a table: this piece; this piece, or nothing; these pieces, as often as one likes
+pub data Part : Type 0 where
+  Once : Piece → Part
+  Optional : Piece → Part
+  Repeated : List Piece → Part
+
+abbrev pub part_of : code.Part → Part
+part_of (part.Once piece) = Once piece
+part_of (part.Optional piece) = Optional piece
+part_of (part.Pairs pieces) = Repeated pieces
+part_of (part.Fours pieces) = Repeated pieces
+
+abbrev pub parts_of : List code.Part → List Part
+parts_of parts = map part_of parts
 
 -- the tokens are a table's parts, one after another, and what is taken of them, behind what was taken so far, is all
 abbrev pub Says : List Part → List Token → List Token → List Token → Type 0

@@ -1,12 +1,12 @@
 ghost use Rattle.std.specs.Prelude.{◌≡◌, ◌++◌, [], map, drop, length, ◌<◌, IfOk, IfSome, IfNone};
 ghost use Rattle.fts_sql.specs.Reading.{token_of, unquoted};
 ghost use Rattle.fts_sql.specs.Statement as taken;
-ghost use Rattle.fts_sql.specs.Statement.{names_in, values_in};
+ghost use Rattle.fts_sql.specs.Statement.{names_in, strings_in, values_in};
 
 use crate::token::Token;
 use crate::value::Value;
 use crate::values::Values;
-use fts_types::{Names, Text};
+use fts_types::{Names, RowTexts, Text};
 use memchr::memchr;
 use std::alloc::{AllocError, Global};
 
@@ -48,6 +48,31 @@ pub fn first_string<'l>(tokens: &[Token<'l>]) -> &'l [u8]
         }
     }
     b""
+}
+
+/// The first number among the tokens; 0 where there is none.
+pub fn first_number(tokens: &[Token]) -> u64
+    ensures { result ≡ taken.first_number (map token_of tokens.now) }
+{
+    for token in tokens {
+        if let Token::Number(number) = token {
+            return *number;
+        }
+    }
+    0
+}
+
+/// The texts of the strings among the tokens.
+pub fn copy_strings(alloc: Global, tokens: &[Token]) -> Result<RowTexts, AllocError>
+    ensures { IfOk result (λ texts. texts ≡ strings_in (map token_of tokens.now)) }
+{
+    let mut texts = RowTexts::new(alloc);
+    for token in tokens {
+        if let Token::String(written) = token {
+            texts.push(copy_unquoted(alloc, written)?.into_vec())?;
+        }
+    }
+    Ok(texts)
 }
 
 /// The names among the tokens.

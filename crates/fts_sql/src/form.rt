@@ -7,11 +7,12 @@ ghost use Rattle.fts_sql.specs.Statement.{table_of, statement_of};
 ghost use Rattle.fts_sql.specs.Reader.{tokens_at, IsRead};
 
 use crate::copy::{
-    behind_first, copy_first_name, copy_names, copy_unquoted, copy_values, first_string,
+    behind_first, copy_first_name, copy_names, copy_strings, copy_unquoted, copy_values,
+    first_number, first_string,
 };
 use crate::line::Placed;
-use crate::piece::Part::{self, Once, Optional, Repeated};
-use crate::piece::Piece::{Keyword, Mark, Name, String, Value};
+use crate::piece::Part::{self, Fours, Once, Optional, Pairs};
+use crate::piece::Piece::{Keyword, Mark, Name, Number, String, Value};
 use crate::reader::{Reached, read};
 use crate::statement::Statement;
 use crate::token::Token;
@@ -22,13 +23,22 @@ use std::alloc::{AllocError, Global};
 #[derive(Clone, Copy)]
 pub enum Form {
     Insert,
+    Update,
+    Delete,
     Match,
     Sync,
     List,
 }
 
 /// The forms that there are.
-pub const FORMS: [Form; 4] = [Form::Insert, Form::Match, Form::Sync, Form::List];
+pub const FORMS: [Form; 6] = [
+    Form::Insert,
+    Form::Update,
+    Form::Delete,
+    Form::Match,
+    Form::Sync,
+    Form::List,
+];
 
 /// `INSERT INTO table (column, ..) VALUES (value, ..)`
 pub const INSERT: [Part; 13] = [
@@ -37,13 +47,41 @@ pub const INSERT: [Part; 13] = [
     Once(Name),
     Once(Mark(b'(')),
     Once(Name),
-    Repeated([Mark(b','), Name]),
+    Pairs([Mark(b','), Name]),
     Once(Mark(b')')),
     Once(Keyword(Word::Values)),
     Once(Mark(b'(')),
     Once(Value),
-    Repeated([Mark(b','), Value]),
+    Pairs([Mark(b','), Value]),
     Once(Mark(b')')),
+    Optional(Mark(b';')),
+];
+
+/// `UPDATE table SET column = 'text', .. WHERE id = key`
+pub const UPDATE: [Part; 12] = [
+    Once(Keyword(Word::Update)),
+    Once(Name),
+    Once(Keyword(Word::Set)),
+    Once(Name),
+    Once(Mark(b'=')),
+    Once(String),
+    Fours([Mark(b','), Name, Mark(b'='), String]),
+    Once(Keyword(Word::Where)),
+    Once(Keyword(Word::Id)),
+    Once(Mark(b'=')),
+    Once(Number),
+    Optional(Mark(b';')),
+];
+
+/// `DELETE FROM table WHERE id = key`
+pub const DELETE: [Part; 8] = [
+    Once(Keyword(Word::Delete)),
+    Once(Keyword(Word::From)),
+    Once(Name),
+    Once(Keyword(Word::Where)),
+    Once(Keyword(Word::Id)),
+    Once(Mark(b'=')),
+    Once(Number),
     Optional(Mark(b';')),
 ];
 
@@ -57,7 +95,7 @@ pub const MATCH: [Part; 18] = [
     Once(Keyword(Word::Match)),
     Once(Mark(b'(')),
     Once(Name),
-    Repeated([Mark(b','), Name]),
+    Pairs([Mark(b','), Name]),
     Once(Mark(b')')),
     Once(Keyword(Word::Against)),
     Once(Mark(b'(')),
@@ -91,6 +129,8 @@ impl Form {
     {
         match self {
             Form::Insert => read(alloc, &INSERT, tokens),
+            Form::Update => read(alloc, &UPDATE, tokens),
+            Form::Delete => read(alloc, &DELETE, tokens),
             Form::Match => read(alloc, &MATCH, tokens),
             Form::Sync => read(alloc, &SYNC, tokens),
             Form::List => read(alloc, &LIST, tokens),
@@ -107,6 +147,16 @@ impl Form {
                 table: copy_first_name(alloc, taken)?,
                 columns: copy_names(alloc, behind_first(taken))?,
                 values: copy_values(alloc, taken)?,
+            }),
+            Form::Update => Ok(Statement::Update {
+                table: copy_first_name(alloc, taken)?,
+                columns: copy_names(alloc, behind_first(taken))?,
+                texts: copy_strings(alloc, taken)?,
+                key: first_number(taken),
+            }),
+            Form::Delete => Ok(Statement::Delete {
+                table: copy_first_name(alloc, taken)?,
+                key: first_number(taken),
             }),
             Form::Match => Ok(Statement::Match {
                 table: copy_first_name(alloc, taken)?,

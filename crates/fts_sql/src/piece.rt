@@ -30,8 +30,10 @@ pub enum Part {
     Once(Piece),
     /// This piece, or nothing.
     Optional(Piece),
-    /// These pieces, as often as one likes.
-    Repeated([Piece; 2]),
+    /// These two pieces, as often as one likes.
+    Pairs([Piece; 2]),
+    /// These four pieces, as often as one likes.
+    Fours([Piece; 4]),
 }
 
 impl Piece {

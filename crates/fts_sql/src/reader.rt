@@ -1,6 +1,7 @@
 ghost use Rattle.std.specs.Prelude.{◌≡◌, ◌∷◌, [], length, map, true, IfOk, IfSome};
 ghost use Rattle.std.specs.Option.{option_map};
 ghost use Rattle.fts_sql.specs.Reading.{token_of};
+ghost use Rattle.fts_sql.specs.Table.{parts_of};
 ghost use Rattle.fts_sql.specs.Reader.{begin, enter, behind, can_end, step_of, is_table, tokens_at};
 ghost use Rattle.fts_sql.specs.Reader.{IsRead, ends};
 
@@ -38,7 +39,7 @@ pub struct Reached<'l> {
 
 /// The step of a token that stands where the pieces begin.
 fn begin<'g>(pieces: &'g [Piece], ahead: &'g [Part], token: &Token) -> Option<Step<'g>>
-    ensures { option_map step_of result ≡ begin pieces.now ahead.now (token_of token.now) }
+    ensures { option_map step_of result ≡ begin pieces.now (parts_of ahead.now) (token_of token.now) }
 {
     let (first, begun) = pieces.split_first()?;
     if !first.has(token) {
@@ -53,7 +54,7 @@ fn begin<'g>(pieces: &'g [Piece], ahead: &'g [Part], token: &Token) -> Option<St
 /// The step of a token that stands where a part is this one piece.
 fn begin_one<'g>(piece: &Piece, ahead: &'g [Part], token: &Token) -> Option<Step<'g>>
     ensures { option_map step_of result
-        ≡ begin (piece.now ∷ []) ahead.now (token_of token.now) }
+        ≡ begin (piece.now ∷ []) (parts_of ahead.now) (token_of token.now) }
 {
     if !piece.has(token) {
         return None;
@@ -66,7 +67,7 @@ fn begin_one<'g>(piece: &Piece, ahead: &'g [Part], token: &Token) -> Option<Step
 
 /// The step of a token that stands where the parts begin.
 fn enter<'g>(ahead: &'g [Part], token: &Token) -> Option<Step<'g>>
-    ensures { option_map step_of result ≡ enter ahead.now (token_of token.now) }
+    ensures { option_map step_of result ≡ enter (parts_of ahead.now) (token_of token.now) }
 {
     let (first, rest) = ahead.split_first()?;
     match first {
@@ -75,7 +76,11 @@ fn enter<'g>(ahead: &'g [Part], token: &Token) -> Option<Step<'g>>
             Some(step) => Some(step),
             None => enter(rest, token),
         },
-        Part::Repeated(pieces) => match begin(pieces, ahead, token) {
+        Part::Pairs(pieces) => match begin(pieces, ahead, token) {
+            Some(step) => Some(step),
+            None => enter(rest, token),
+        },
+        Part::Fours(pieces) => match begin(pieces, ahead, token) {
             Some(step) => Some(step),
             None => enter(rest, token),
         },
@@ -86,7 +91,8 @@ impl<'g> Place<'g> {
     /// The step of a token that stands there.
     fn behind(self, token: &Token) -> Option<Step<'g>>
         ensures { option_map step_of result
-            ≡ behind self.entry.begun.now self.entry.ahead.now (token_of token.now) }
+            ≡ behind self.entry.begun.now (parts_of self.entry.ahead.now)
+            (token_of token.now) }
     {
         if self.begun.is_empty() {
             return enter(self.ahead, token);
@@ -96,7 +102,7 @@ impl<'g> Place<'g> {
 
     /// Whether tokens can end there.
     fn is_end(self) -> bool
-        ensures { result ≡ ends self.entry.begun.now self.entry.ahead.now }
+        ensures { result ≡ ends self.entry.begun.now (parts_of self.entry.ahead.now) }
     {
         if !self.begun.is_empty() {
             return false;
@@ -107,7 +113,7 @@ impl<'g> Place<'g> {
 
 /// Whether tokens can end where the parts begin.
 fn can_end(ahead: &[Part]) -> bool
-    ensures { result ≡ can_end ahead.now }
+    ensures { result ≡ can_end (parts_of ahead.now) }
 {
     match ahead {
         [] => true,
@@ -122,8 +128,8 @@ pub fn read<'l>(
     table: &[Part],
     tokens: &[Placed<'l>],
 ) -> Result<Reached<'l>, AllocError>
-    requires { is_table table.now ≡ true }
-    ensures { IfOk result (λ reached. IsRead table.now (tokens_at tokens.now) reached) }
+    requires { is_table (parts_of table.now) ≡ true }
+    ensures { IfOk result (λ reached. IsRead (parts_of table.now) (tokens_at tokens.now) reached) }
 {
     let mut taken = Vec::new(alloc);
     let mut place = Place {

@@ -2,7 +2,7 @@ ghost use Rattle.std.specs.Prelude.{Some};
 ghost use Rattle.fts_sql.specs.ParseError.{error_text};
 
 use crate::values::Values;
-use fts_types::{Names, Text};
+use fts_types::{Key, Names, RowTexts, Text};
 use std::error::Error;
 use std::fmt;
 
@@ -14,6 +14,18 @@ pub enum Statement {
         table: Text,
         columns: Names,
         values: Values,
+    },
+    /// `UPDATE table SET column = 'text', .. WHERE id = key`
+    Update {
+        table: Text,
+        columns: Names,
+        texts: RowTexts,
+        key: Key,
+    },
+    /// `DELETE FROM table WHERE id = key`
+    Delete {
+        table: Text,
+        key: Key,
     },
     /// `SELECT FTS_DOC_ID FROM table WHERE MATCH (column, ..) AGAINST ('query' IN BOOLEAN MODE)`
     Match {

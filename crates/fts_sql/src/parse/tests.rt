@@ -64,6 +64,44 @@ fn fronts_of_a_match(rt: HostRuntime) {
     }
 }
 
+const UPDATE: &str = "UPDATE t SET a='x',b='' WHERE id=7;";
+
+/// The answer to each front of `UPDATE`, by its length.
+const UPDATE_PLACES: [u64; 36] = [
+    NONE, 1, 1, 1, 1, 1, 7, 8, 9, 10, 10, 10, 13, 14, 15, 16, 16, 16, 19, 20, 21, 22, 22, 24, 25,
+    25, 25, 25, 25, 30, 31, 31, 33, 34, 0, 0,
+];
+
+#[test]
+fn fronts_of_an_update(rt: HostRuntime) {
+    for (length, wanted) in UPDATE_PLACES.iter().enumerate() {
+        assert_eq!(rt;
+            place(rt.alloc(), front(UPDATE, length)),
+            *wanted,
+            "at {length}"
+        );
+    }
+}
+
+const DELETE: &str = "DELETE FROM t WHERE id = 7;";
+
+/// The answer to each front of `DELETE`, by its length.
+const DELETE_PLACES: [u64; 28] = [
+    NONE, 1, 1, 1, 1, 1, 7, 8, 8, 8, 8, 12, 13, 14, 15, 15, 15, 15, 15, 20, 21, 21, 23, 24, 25, 26,
+    0, 0,
+];
+
+#[test]
+fn fronts_of_a_delete(rt: HostRuntime) {
+    for (length, wanted) in DELETE_PLACES.iter().enumerate() {
+        assert_eq!(rt;
+            place(rt.alloc(), front(DELETE, length)),
+            *wanted,
+            "at {length}"
+        );
+    }
+}
+
 const LIST: &str = "SELECT * FROM INFORMATION_SCHEMA.INNODB_FT_CONFIG;";
 
 /// The answer to each front of `LIST`, by its length.
@@ -151,6 +189,47 @@ fn statements_of_the_index_have_faults(rt: HostRuntime) {
     }
 }
 
+/// Statements that change and delete.
+const CHANGES: [&str; 5] = [
+    "update docs SET a = 'x', b = 'y', c = 'it''s' where ID = 1",
+    "UPDATE set SET set = 'x' WHERE id = 18446744073709551615 ; ",
+    "Update d Set where = '' Where id = 007",
+    "delete\tfrom delete where ID=0",
+    "DELETE FROM docs WHERE id = 1;",
+];
+
+#[test]
+fn changes_are_taken(rt: HostRuntime) {
+    for line in CHANGES {
+        assert_eq!(rt; place(rt.alloc(), line.as_bytes()), 0, "in {line}");
+    }
+}
+
+/// Lines that are nearly one, and the place of the fault.
+const NEARLY_CHANGES: [(&str, u64); 14] = [
+    ("UPDATE docs SET a = 'x' WHERE id = 1, 2", 37),
+    ("UPDATE docs SET a = 7 WHERE id = 1", 21),
+    ("UPDATE docs SET a = 'x' b = 'y' WHERE id = 1", 25),
+    ("UPDATE docs SET a = 'x' WHERE key = 1", 31),
+    ("UPDATE docs SET a = 'x' WHERE id = '1'", 36),
+    ("UPDATE docs WHERE id = 1", 13),
+    ("UPDATE docs SET WHERE id = 1", 23),
+    ("UPDATE docs SET a = 'x', b WHERE id = 1", 28),
+    ("DELETE docs WHERE id = 1", 8),
+    ("DELETE FROM docs", 17),
+    ("DELETE FROM docs WHERE id = -1", 29),
+    ("DELETE FROM docs WHERE id = 1 OR id = 2", 31),
+    ("DELETE FROM docs WHERE body = 1", 24),
+    ("DELETE FROM docs WHERE id = 18446744073709551616", 29),
+];
+
+#[test]
+fn changes_have_faults(rt: HostRuntime) {
+    for (line, wanted) in NEARLY_CHANGES {
+        assert_eq!(rt; place(rt.alloc(), line.as_bytes()), wanted, "in {line}");
+    }
+}
+
 const BLANK: [&str; 7] = ["", " ", " \t\r", "-- note", "  --", "\t\r-- INSERT", "---"];
 
 #[test]
@@ -163,7 +242,7 @@ fn blank_lines_say_nothing(rt: HostRuntime) {
 /// Lines with a token that no statement can have at its place, and the place.
 const MISPLACED: [(&str, u64); 16] = [
     ("SELEC", 1),
-    ("DELETE FROM docs WHERE id = 1", 1),
+    ("REPLACE INTO docs (id) VALUES (1)", 1),
     ("BEGIN", 1),
     ("SELECT id FROM docs", 8),
     ("7: INSERT INTO docs (id) VALUES (1)", 1),
@@ -242,6 +321,46 @@ fn an_insert_has_its_parts(rt: HostRuntime) -> Result<(), Fail> {
         ),
         _ => assert!(rt; false),
     }
+    Ok(())
+}
+
+#[test]
+fn an_update_has_its_parts(rt: HostRuntime) -> Result<(), Fail> {
+    let line = b"update Docs set A = 'x', b = 'it''s' where id = 7";
+    let Some(
+        Statement::Update {
+            table,
+            columns,
+            texts,
+            key,
+        },
+    ) = parse_statement(rt.alloc(), line)?
+    else {
+        assert!(rt; false);
+        return Ok(());
+    };
+    assert_eq!(rt; table.as_slice(), b"Docs".as_slice());
+    assert_eq!(rt; key, 7);
+    assert!(rt;
+        columns.len() == 2
+            && columns.text(0) == b"A".as_slice()
+            && columns.text(1) == b"b".as_slice()
+    );
+    assert!(rt;
+        texts.len() == 2 && texts.text(0) == b"x".as_slice() && texts.text(1) == b"it's".as_slice()
+    );
+    Ok(())
+}
+
+#[test]
+fn a_delete_has_its_parts(rt: HostRuntime) -> Result<(), Fail> {
+    let line = b"DELETE FROM Docs WHERE id = 18446744073709551615";
+    let Some(Statement::Delete { table, key }) = parse_statement(rt.alloc(), line)? else {
+        assert!(rt; false);
+        return Ok(());
+    };
+    assert_eq!(rt; table.as_slice(), b"Docs".as_slice());
+    assert_eq!(rt; key, u64::MAX);
     Ok(())
 }
 

@@ -13,7 +13,7 @@ use Rattle.fts_rows.specs.Refusal.{IsNoPlan}
 use Rattle.fts_steps.specs.Crash.{MayHold}
 use Rattle.fts_engine.specs.Stands.{engine_limits}
 use Rattle.fts_engine.specs.Kept.{kept_rows}
-use Rattle.fts_engine.proofs.Accepting.{accepted_fits}
+use Rattle.fts_engine.proofs.Fitting.{accepted_fits}
 use Rattle.fts_engine.proofs.Committing.{is_full, is_committed, same_end, not_past, same_rows, keeps_after, keeps_still, logged_after, holds_either, refusal_adds, refusal_calm, refusal_answers}
 use Rattle.fts_engine.proofs.Steps.{refuses, commits, fails, is_stopped, can_still}
 use Rattle.fts_engine.proofs.engine.Engine.commit.Goals as goal
@@ -36,7 +36,8 @@ pub framed_commit-requires : goal.framed_commit-requires
 framed_commit-requires g c = (
   _,
   c.requires.few,
-  accepted_fits _ (engine_limits c.args.self.now) c.args.changes.now (kept_rows c.args.self.now.kept) c.in-Ok.ensures.planned.0 c.requires c.in-Ok.ensures.planned.1,
+  accepted_fits _ (engine_limits c.args.self.now) c.args.changes.now (kept_rows c.args.self.now.kept) c.in-Ok.ensures.planned.0 c.args.self.now.kept.within c.args.self.now.kept.fit
+  c.requires c.in-Ok.ensures.planned.1,
 )
 
 pub returns-in-Err-framed_commit-clause-steps : goal.returns-in-Err-framed_commit-clause-steps

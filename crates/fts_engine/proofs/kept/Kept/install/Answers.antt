@@ -1,9 +1,12 @@
-use Rattle.std.proofs.Common.{List, [], ◌∷◌, ◌++◌, subst, sym}
+use Rattle.std.proofs.Common.{List, [], ◌∷◌, ◌++◌, subst, sym, length, arith}
 use Rattle.std.proofs.Math.Logic.{∥∥₁_map}
 use Rattle.fts_types.specs.declared.limits.Limits.{Limits}
 use Rattle.fts_types.specs.Limits.{standard_limits}
 use Rattle.fts_commits.specs.Commit.{Rows}
+use Rattle.fts_rows.specs.Rows.{rows_of}
 use Rattle.fts_engine.specs.Bounds.{AreWithin}
+use Rattle.fts_engine.specs.Fitting.{AreTableRows}
+use Rattle.fts_engine.proofs.Fitting.{commit_fits}
 use Rattle.fts_engine.specs.Indexed.{IsIndexOf}
 use Rattle.fts_engine.proofs.kept.Kept.install.Goals as goal
 
@@ -15,6 +18,9 @@ invariant_of-self c =
     record {
       right = kept.right;
       within = subst (λ (limits : Limits). AreWithin standard_limits limits) (sym c.install_next.ensures.limits) kept.within;
+      fit = subst (λ (rows : Rows). AreTableRows kept.settings rows) (sym (c.install_next.ensures.rows kept.settings commit after c.requires.2))
+          (commit_fits (length kept.settings.columns) standard_limits commit (rows_of kept.rows) after (record { rows = omega arith; ids = omega arith; log_bytes = omega arith })
+          c.requires.2.made.fit kept.fit c.requires.2.accepted);
       indexed = ∥∥₁_map kept.indexed (λ has. record {
         commits = has.commits ++ commit ∷ [];
         state = has.state;

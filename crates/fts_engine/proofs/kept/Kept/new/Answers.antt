@@ -1,9 +1,12 @@
-use Rattle.std.proofs.Common.{List, [], subst, sym}
+use Rattle.std.proofs.Common.{List, [], subst, sym, length}
+use Rattle.std.proofs.lemmas.List.Elements.{All-nil}
 use Rattle.fts_types.specs.declared.limits.Limits.{Limits}
 use Rattle.fts_types.specs.Limits.{standard_limits}
 use Rattle.fts_types.specs.Rules.{rules_of}
 use Rattle.fts_entries.specs.Entry.{no_entries}
+use Rattle.fts_commits.specs.Commit.{Rows}
 use Rattle.fts_engine.specs.Bounds.{AreWithin}
+use Rattle.fts_engine.specs.Fitting.{IsTableRow, AreTableRows}
 use Rattle.fts_engine.proofs.Indexing.{none_right}
 use Rattle.fts_engine.proofs.kept.Kept.new.Goals as goal
 
@@ -11,6 +14,7 @@ pub invariant_of-result : goal.invariant_of-result
 invariant_of-result c = record {
   right = c.requires.right;
   within = subst (λ (limits : Limits). AreWithin standard_limits limits) (sym c.new.ensures.limits) c.requires.within;
+  fit = subst (λ (rows : Rows). AreTableRows c.args.settings rows) (sym c.new.ensures.rows) (All-nil (IsTableRow (length c.args.settings.columns)));
   indexed = ∣ record {
     commits = [];
     state = no_entries;

@@ -1,4 +1,4 @@
-use Rattle.std.proofs.Common.{◌≡◌, ℕ, List, map, ap, subst, sym, ◌∙◌, arith}
+use Rattle.std.proofs.Common.{◌≡◌, ℕ, List, map, ap, subst, sym, ◌∙◌, length, arith}
 use Rattle.std.proofs.Math.Logic.{∥∥₁_map, ∥∥₁_elim}
 use Rattle.std.specs.Coded.{le_prop}
 use Rattle.fts_types.specs.declared.limits.Limits.{Limits}
@@ -13,7 +13,9 @@ use Rattle.fts_index.specs.Births.{AreBirths, turn_of}
 use Rattle.fts_index.specs.Index.{WillTurn}
 use Rattle.fts_engine.specs.Bounds.{AreWithin}
 use Rattle.fts_engine.proofs.Accepting.{accepted_more}
-use Rattle.fts_engine.proofs.Births.{births_fit}
+use Rattle.fts_rowcodec.proofs.Bounds.{few_columns, some_columns}
+use Rattle.fts_engine.specs.Fitting.{AreTableRows}
+use Rattle.fts_engine.proofs.Fitting.{births_fit}
 use Rattle.fts_index.proofs.Births.{births_lower}
 use Rattle.fts_engine.proofs.Indexing.{last_used, same_right}
 use Rattle.fts_engine.proofs.kept.Kept.plan.Goals as goal
@@ -24,8 +26,8 @@ plan_commit-requires-clause-births c =
     let held = c.plan.new.self in
     let planned = c.in-Ok.ensures.planned in
     let births : AreBirths (rows_of held).largest c.in-Ok.plan.largest c.in-Ok.plan.births =
-    births_fit c.requires.0 kept.rows.limits c.args.changes.now (rows_of kept.rows) planned.0 held c.in-Ok.plan c.requires.1 c.requires.2 c.requires.3
-    kept.within planned.1 c.in-Ok.ensures.rows planned.2 in
+    births_fit (length kept.settings.columns) kept.rows.limits c.args.changes.now (rows_of kept.rows) planned.0 held c.in-Ok.plan
+    (some_columns kept.settings kept.right) (few_columns kept.settings kept.right) c.requires kept.within kept.fit planned.1 c.in-Ok.ensures.rows planned.2 in
     let last = ∥∥₁_elim kept.indexed le_prop (last_used kept.settings (rows_of kept.rows) kept.index) in
     subst (λ (rows : List Row). AreBirths kept.index.cache.last c.largest.result rows) (sym c.births-births.ensures.births)
     (subst (λ (largest : ℕ). AreBirths kept.index.cache.last largest c.in-Ok.plan.births) (sym c.largest.ensures)
@@ -38,6 +40,7 @@ invariant_of-self-2 c =
     record {
       right = kept.right;
       within = subst (λ (limits : Limits). AreWithin standard_limits limits) (sym c.in-Ok.ensures.limits) kept.within;
+      fit = subst (λ (rows : Rows). AreTableRows kept.settings rows) (sym c.in-Ok.ensures.rows) kept.fit;
       indexed = ∥∥₁_map kept.indexed (λ has. record {
         commits = has.commits;
         state = has.state;
@@ -59,12 +62,13 @@ returns-in-Ok-plan_commit-clause-planned c =
       after,
       planned.1,
       record {
+        made = c.requires;
         accepted = subst (λ (rows : Rows). after_commit standard_limits c.args.changes.now rows ≡ Ok after) (sym c.in-Ok.ensures.rows)
             (accepted_more kept.rows.limits standard_limits c.args.changes.now (rows_of kept.rows) after kept.within planned.1);
         plan = planned.2;
         turn = subst (λ (turn : Turn). WillTurn (rules_of kept.settings) turn c.plan_commit.new.self c.in-Ok-plan_commit.words) turn c.in-Ok-plan_commit.ensures.planned;
-        births = births_fit c.requires.0 kept.rows.limits c.args.changes.now (rows_of kept.rows) after held c.in-Ok.plan c.requires.1 c.requires.2 c.requires.3
-            kept.within planned.1 c.in-Ok.ensures.rows planned.2;
+        births = births_fit (length kept.settings.columns) kept.rows.limits c.args.changes.now (rows_of kept.rows) after held c.in-Ok.plan
+            (some_columns kept.settings kept.right) (few_columns kept.settings kept.right) c.requires kept.within kept.fit planned.1 c.in-Ok.ensures.rows planned.2;
       },
     )
 

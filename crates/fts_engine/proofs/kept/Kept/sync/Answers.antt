@@ -20,6 +20,7 @@ invariant_of-self c =
     record {
       right = kept.right;
       within = kept.within;
+      fit = kept.fit;
       indexed = ∥∥₁_map kept.indexed (still_has kept.settings rows rows kept.index c.plan_sync.new.self refl c.plan_sync.ensures.stays);
     }
 
@@ -30,6 +31,7 @@ invariant_of-self-in-Err c =
     record {
       right = kept.right;
       within = kept.within;
+      fit = kept.fit;
       indexed = ∥∥₁_map kept.indexed (still_has kept.settings rows rows kept.index c.plan_sync.new.self refl c.plan_sync.ensures.stays);
     }
 
@@ -42,6 +44,7 @@ invariant_of-self-2 c =
     record {
       right = kept.right;
       within = kept.within;
+      fit = kept.fit;
       indexed = ∥∥₁_map kept.indexed (next_has kept.settings kept.right rows kept.index middle c.install_sync.new.self c.in-Ok-Some.plan c.plan_sync.ensures.stays planned c.install_sync.ensures);
     }
 
