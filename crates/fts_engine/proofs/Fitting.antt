@@ -75,9 +75,9 @@ module _ (columns : ℕ) where
 
     update_fits : (number key : ℕ) (news : List (Option (List ℕ))) (found : List Row) (rows after : Rows) → length news ≡ columns → All (IsTableRow columns) found → Are rows
         → after_update limit number key news found rows ≡ Ok after → Are after
-    update_fits number key news [] rows after count those are ok = none_found (nat_lt 65535 _) refl
+    update_fits number key news [] rows after count those are ok = none_found (nat_lt 65535 (set_bytes news)) refl
       where
-        none_found : (long : Bool) → nat_lt 65535 _ ≡ long → Are after
+        none_found : (long : Bool) → nat_lt 65535 (set_bytes news) ≡ long → Are after
         none_found true is = absurd (let no = (rw is at ok) in cc)
         none_found false is = (let same : rows ≡ after = (let e = (rw is at ok) in cc) in subst Are same are)
     update_fits number key news (row ∷ others) rows after count those are ok =
@@ -121,7 +121,7 @@ module _ (columns : ℕ) where
 
   next_fits : (rows : Rows) (commit : Commit) (answer : Result Rows Refusal) → after_commit standard_limits commit rows ≡ answer → All (FitsColumns columns) commit → Are rows → IsOk answer
       → Are (rows_after rows commit)
-  next_fits rows commit (Err why) is fit are ok = absurd ok
+  next_fits rows commit (Err why) is fit are ok = absurd (let no = ok in cc)
   next_fits rows commit (Ok after) is fit are ok =
       let within : AreWithin standard_limits standard_limits = record { rows = omega arith; ids = omega arith; log_bytes = omega arith } in
       rw is (commit_fits standard_limits commit rows after within fit are is)
@@ -254,4 +254,4 @@ module _ (columns : ℕ) where
       → IsWritten columns changes → after_commit limits changes rows ≡ answer → IsOk answer → length (commit_payload changes) ≤ 65569003
   accepted_size limits changes rows (Err why) few within are written is ok = absurd (let no = ok in cc)
   accepted_size limits changes rows (Ok after) few within are written is ok =
-      short_commit_size columns changes few written (accepted_short limits changes rows after within written.made.fit are is)
+      let most = short_commit_size columns changes few written (accepted_short limits changes rows after within written.made.fit are is) in omega (arith, most)

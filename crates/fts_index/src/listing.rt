@@ -1,5 +1,5 @@
 //! What views of an index list.
-ghost use Rattle.std.specs.Prelude.{◌≡◌, ◌≢◌, [], ℕ, List, map, IfOk};
+ghost use Rattle.std.specs.Prelude.{◌≡◌, ◌≢◌, ◌||◌, [], ℕ, List, map, IfOk};
 ghost use Rattle.std.specs.List.{AllByRecursion};
 ghost use Rattle.fts_types.specs.Rules.{rules_of};
 ghost use Rattle.fts_commits.specs.Turn.{Turn};
@@ -9,16 +9,21 @@ ghost use Rattle.fts_aux.specs.Table.{IsListing};
 ghost use Rattle.fts_aux.specs.Tables.{nodes};
 ghost use Rattle.fts_entries.specs.Entry.{IndexState};
 ghost use Rattle.fts_listing.specs.Listing.{one_group, IsListed};
+ghost use Rattle.fts_ids.specs.Ids.{has, Ascend};
+ghost use Rattle.fts_lists.specs.State.{ids_of};
+ghost use Rattle.fts_lists.specs.declared.lists.DeleteList.TheVariants.{Deleted, DeletedCache};
 ghost use Rattle.fts_index.specs.Index.{StandsFor};
 
 use crate::index::Index;
+use crate::sync::ascending;
 use crate::walk::all_words;
 use fts_aux::Tables;
 use fts_cache::Cache;
+use fts_ids::union;
 use fts_ilist::{Cursor, Ilist, Node, NodeSlice, Nodes, WordNodes};
 use fts_listing::{Config, ListedWords, Listing, ListingKind};
-use fts_lists::Lists;
-use fts_types::{Settings, Word};
+use fts_lists::{DeleteList, Lists};
+use fts_types::{DocIds, Settings, Word};
 use std::alloc::{AllocError, Global};
 
 /// The list of these documents.
@@ -89,6 +94,16 @@ fn cached_words(alloc: Global, cache: &Cache) -> Result<Nodes, AllocError>
     Ok(words)
 }
 
+/// The ids of DELETED and of DELETED_CACHE together.
+fn deleted_ids(alloc: Global, lists: &Lists) -> Result<DocIds, AllocError>
+    ensures ascend { IfOk result Ascend }
+    ensures each { IfOk result (λ ids. (id : ℕ) → has ids id
+        ≡ (has (ids_of Deleted lists.now) id || has (ids_of DeletedCache lists.now) id)) }
+{
+    let dead = ascending(lists.ids(alloc, DeleteList::DeletedCache)?);
+    Ok(DocIds::new(union(alloc, lists.deleted(), &dead)?))
+}
+
 /// A copy of the word that the open pass worked on last, if there is one.
 fn checkpoint_of(alloc: Global, lists: &Lists) -> Result<Option<Word>, AllocError>
     ensures { IfOk result (λ checkpoint. checkpoint ≡ lists.now.checkpoint) }
@@ -139,6 +154,10 @@ pub(crate) fn listed(
         ListingKind::IndexCache => {
             let words = ListedWords::new(cached_words(alloc, &index.cache)?);
             Ok(Listing::Words { words })
+        }
+        ListingKind::Deleted => {
+            let ids = deleted_ids(alloc, &index.lists)?;
+            Ok(Listing::Ids { ids })
         }
         ListingKind::Config => {
             let config = config_of(alloc, settings, &index.lists)?;

@@ -93,10 +93,18 @@ pub(crate) fn covered_deaths(
     ensures each { IfOk result (λ dead. (id : ℕ)
         → has dead.items id ≡ has (deaths_through count pending.now.items) id) }
 {
-    let mut dead = deaths_of(alloc, pending, count)?;
-    dead.sort_unstable();
-    dead.dedup();
-    Ok(dead)
+    Ok(ascending(deaths_of(alloc, pending, count)?))
+}
+
+/// The same ids, ascending. It costs a sort of them.
+pub(crate) fn ascending(ids: Vec<DocId>) -> Vec<DocId>
+    ensures ascend { Ascend result.items }
+    ensures each { (id : ℕ) → has result.items id ≡ has ids.items id }
+{
+    let mut ids = ids;
+    ids.sort_unstable();
+    ids.dedup();
+    ids
 }
 
 /// Takes the first commits out.

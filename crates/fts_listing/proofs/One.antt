@@ -15,6 +15,7 @@ use Rattle.std.proofs.lemmas.Map.Keys.{sorted_head, sorted_tail}
 use Rattle.std.proofs.lemmas.Map.Lookups.{exact_bytes}
 use Rattle.fts_types.specs.declared.settings.Settings.{Settings}
 use Rattle.fts_words.specs.Order.{byte_order}
+use Rattle.fts_ids.proofs.Ascending.{same_ids}
 use Rattle.fts_commits.specs.Turn.{Turn}
 use Rattle.fts_ilist.specs.Node.{Docs}
 use Rattle.fts_aux.specs.Table.{nodes_at, IsListing}
@@ -22,7 +23,6 @@ use Rattle.fts_entries.specs.Entry.{IndexState}
 use Rattle.fts_listing.specs.Listing.{IsListed}
 use Rattle.fts_listing.specs.declared.kind.ListingKind.{ListingKind}
 use Rattle.fts_listing.specs.declared.kind.ListingKind.TheVariants as kind
-use Rattle.fts_listing.specs.declared.listing.Config.{Config}
 use Rattle.fts_listing.specs.declared.listing.Listing.{Listing}
 use Rattle.fts_listing.specs.declared.listing.Listing.TheVariants as listing
 
@@ -131,23 +131,38 @@ listing_one nodes prefix es fs is is' =
 
 module _ (settings : Settings) (turns : List Turn) (s : IndexState) where
   pub listed_one : (view : ListingKind) (a b : Listing) → IsListed settings turns s view a → IsListed settings turns s view b → a ≡ b
-  listed_one kind.IndexTable (listing.Words ws) (listing.Words vs) h k = ap listing.Words (listing_one _ [] ws vs h k)
-  listed_one kind.IndexTable (listing.Words ws) (listing.Config c) h k = absurd k
-  listed_one kind.IndexTable (listing.Words ws) listing.Stopwords h k = absurd k
-  listed_one kind.IndexTable (listing.Config c) b h k = absurd h
+  listed_one kind.IndexTable (listing.Words a) (listing.Words b) h k = ap listing.Words (listing_one _ [] a b h k)
+  listed_one kind.IndexTable (listing.Words a) (listing.Ids b) h k = absurd k
+  listed_one kind.IndexTable (listing.Words a) (listing.Config b) h k = absurd k
+  listed_one kind.IndexTable (listing.Words a) listing.Stopwords h k = absurd k
+  listed_one kind.IndexTable (listing.Ids a) b h k = absurd h
+  listed_one kind.IndexTable (listing.Config a) b h k = absurd h
   listed_one kind.IndexTable listing.Stopwords b h k = absurd h
-  listed_one kind.IndexCache (listing.Words ws) (listing.Words vs) h k = ap listing.Words (listing_one _ [] ws vs h k)
-  listed_one kind.IndexCache (listing.Words ws) (listing.Config c) h k = absurd k
-  listed_one kind.IndexCache (listing.Words ws) listing.Stopwords h k = absurd k
-  listed_one kind.IndexCache (listing.Config c) b h k = absurd h
+  listed_one kind.IndexCache (listing.Words a) (listing.Words b) h k = ap listing.Words (listing_one _ [] a b h k)
+  listed_one kind.IndexCache (listing.Words a) (listing.Ids b) h k = absurd k
+  listed_one kind.IndexCache (listing.Words a) (listing.Config b) h k = absurd k
+  listed_one kind.IndexCache (listing.Words a) listing.Stopwords h k = absurd k
+  listed_one kind.IndexCache (listing.Ids a) b h k = absurd h
+  listed_one kind.IndexCache (listing.Config a) b h k = absurd h
   listed_one kind.IndexCache listing.Stopwords b h k = absurd h
-  listed_one kind.Config (listing.Config c) (listing.Config d) h k = ap listing.Config (h ∙ sym k)
-  listed_one kind.Config (listing.Config c) (listing.Words vs) h k = absurd k
-  listed_one kind.Config (listing.Config c) listing.Stopwords h k = absurd k
-  listed_one kind.Config (listing.Words ws) b h k = absurd h
+  listed_one kind.Deleted (listing.Ids a) (listing.Ids b) h k = ap listing.Ids (same_ids 0 0 a b h.ascend k.ascend (λ id. h.each id ∙ sym (k.each id)))
+  listed_one kind.Deleted (listing.Ids a) (listing.Words b) h k = absurd k
+  listed_one kind.Deleted (listing.Ids a) (listing.Config b) h k = absurd k
+  listed_one kind.Deleted (listing.Ids a) listing.Stopwords h k = absurd k
+  listed_one kind.Deleted (listing.Words a) b h k = absurd h
+  listed_one kind.Deleted (listing.Config a) b h k = absurd h
+  listed_one kind.Deleted listing.Stopwords b h k = absurd h
+  listed_one kind.Config (listing.Config a) (listing.Config b) h k = ap listing.Config (h ∙ sym k)
+  listed_one kind.Config (listing.Config a) (listing.Words b) h k = absurd k
+  listed_one kind.Config (listing.Config a) (listing.Ids b) h k = absurd k
+  listed_one kind.Config (listing.Config a) listing.Stopwords h k = absurd k
+  listed_one kind.Config (listing.Words a) b h k = absurd h
+  listed_one kind.Config (listing.Ids a) b h k = absurd h
   listed_one kind.Config listing.Stopwords b h k = absurd h
   listed_one kind.DefaultStopword listing.Stopwords listing.Stopwords h k = refl
-  listed_one kind.DefaultStopword listing.Stopwords (listing.Words vs) h k = absurd k
-  listed_one kind.DefaultStopword listing.Stopwords (listing.Config d) h k = absurd k
-  listed_one kind.DefaultStopword (listing.Words ws) b h k = absurd h
-  listed_one kind.DefaultStopword (listing.Config c) b h k = absurd h
+  listed_one kind.DefaultStopword listing.Stopwords (listing.Words b) h k = absurd k
+  listed_one kind.DefaultStopword listing.Stopwords (listing.Ids b) h k = absurd k
+  listed_one kind.DefaultStopword listing.Stopwords (listing.Config b) h k = absurd k
+  listed_one kind.DefaultStopword (listing.Words a) b h k = absurd h
+  listed_one kind.DefaultStopword (listing.Ids a) b h k = absurd h
+  listed_one kind.DefaultStopword (listing.Config a) b h k = absurd h

@@ -1,5 +1,6 @@
 -- What the views of an index list.
 use Rattle.std.specs.Prelude.{◌≡◌, ℕ, List, [], ◌∷◌}
+use Rattle.fts_ids.specs.Ids.{has, Ascend}
 use Rattle.fts_types.specs.declared.settings.Settings.{Settings}
 use Rattle.fts_types.specs.Rules.{rules_of}
 use Rattle.fts_commits.specs.Turn.{Turn, births_of}
@@ -7,6 +8,7 @@ use Rattle.fts_ilist.specs.Spelling.{Posting}
 use Rattle.fts_ilist.specs.Node.{Docs}
 use Rattle.fts_aux.specs.Table.{IsListing}
 use Rattle.fts_entries.specs.Entry.{IndexState, unflushed}
+use Rattle.fts_entries.specs.Exact.{is_deleted}
 use Rattle.fts_entries.specs.Words.{rows_postings}
 use Rattle.fts_listing.specs.declared.kind.ListingKind.{ListingKind}
 use Rattle.fts_listing.specs.declared.kind.ListingKind.TheVariants as kind
@@ -34,11 +36,17 @@ config_of settings s = record {
   checkpoint = s.checkpoint;
 }
 
--- what a view lists: of tables or cache each word once, in byte order, with its documents; the numbers of an index; or
--- the default stopwords
+-- the ids that are in DELETED or died in a commit that is not flushed, ascending
+pub record AreDeleted (turns : List Turn) (s : IndexState) (ids : List ℕ) : Type 0 where
+  pub ascend : Ascend ids
+  pub each : (id : ℕ) → has ids id ≡ is_deleted turns s id
+
+-- what a view lists: of tables or cache each word once, in byte order, with its documents; the dead that the index has
+-- still; the numbers of an index; or the default stopwords
 abbrev pub IsListed : Settings → List Turn → IndexState → ListingKind → Listing → Type 0
 IsListed settings turns s kind.IndexTable (listing.Words words) = IsListing s.nodes [] words
 IsListed settings turns s kind.IndexCache (listing.Words words) = IsListing (cached_group settings turns s) [] words
+IsListed settings turns s kind.Deleted (listing.Ids ids) = AreDeleted turns s ids
 IsListed settings turns s kind.Config (listing.Config config) = config ≡ config_of settings s
 IsListed settings turns s kind.DefaultStopword listing.Stopwords = Unit {0}
 IsListed settings turns s view other = ⊥

@@ -7,6 +7,8 @@ pub enum ListingKind {
     IndexTable,
     /// The words of the cache (`INNODB_FT_INDEX_CACHE`).
     IndexCache,
+    /// The ids of the documents that died and that the index has still (`INNODB_FT_DELETED`).
+    Deleted,
     /// Settings, and how far the index is flushed (`INNODB_FT_CONFIG`).
     Config,
     /// The default stopwords (`INNODB_FT_DEFAULT_STOPWORD`).

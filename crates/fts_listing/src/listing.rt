@@ -1,5 +1,5 @@
 use fts_ilist::{Nodes, WordNodes};
-use fts_types::{DocId, Word};
+use fts_types::{DocId, DocIds, Word};
 use std::marker::Model;
 
 /// Words in byte order, each with its documents, in groups.
@@ -58,6 +58,8 @@ pub enum Listing {
     /// Of tables each word with its nodes; of the cache each word with all its documents as one
     /// group.
     Words { words: ListedWords },
+    /// Document ids, ascending.
+    Ids { ids: DocIds },
     /// Settings and numbers of the index.
     Config { config: Config },
     /// The default stopwords.

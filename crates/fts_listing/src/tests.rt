@@ -1,6 +1,6 @@
 use crate::{Config, ListedWords, Listing, NumberedListing};
 use fts_ilist::{Ilist, Node, Nodes, WordNodes};
-use fts_types::Word;
+use fts_types::{DocIds, Word};
 use std::alloc::{AllocError, Global};
 use std::test::Fail;
 
@@ -19,6 +19,7 @@ fn words(alloc: Global) -> Result<ListedWords, AllocError> {
 fn shown(listing: &Listing) -> (char, usize) {
     match listing {
         Listing::Words { words } => ('w', words.as_slice().len()),
+        Listing::Ids { ids } => ('i', ids.as_slice().len()),
         Listing::Config { config } => ('c', usize::from(config.min)),
         Listing::Stopwords => ('s', 0),
     }
@@ -47,4 +48,11 @@ fn numbers_and_stopwords_are_listed(rt: HostRuntime) {
     };
     assert_eq!(rt; shown(&Listing::Config { config }), ('c', 3));
     assert_eq!(rt; shown(&Listing::Stopwords), ('s', 0));
+}
+
+#[test]
+fn ids_are_listed(rt: HostRuntime) -> Result<(), Fail> {
+    let ids = DocIds::new(vec![in rt.alloc(); 4; 2]?);
+    assert_eq!(rt; shown(&Listing::Ids { ids }), ('i', 2));
+    Ok(())
 }

@@ -62,12 +62,14 @@ config_rows config =
 -- the names of a listing's columns
 abbrev pub header_of : Listing → List ℕ
 header_of (listing.Words words) = codes "WORD|FIRST_DOC_ID|LAST_DOC_ID|DOC_COUNT|DOC_ID|POSITION"
+header_of (listing.Ids ids) = codes "DOC_ID"
 header_of (listing.Config config) = codes "KEY|VALUE"
 header_of listing.Stopwords = codes "value"
 
 -- its rows, each without a line's end
 abbrev pub rows_of : Listing → List (List ℕ)
 rows_of (listing.Words words) = words_rows words
+rows_of (listing.Ids ids) = map decimal ids
 rows_of (listing.Config config) = config_rows config
 rows_of listing.Stopwords = default_stopwords
 

@@ -1,5 +1,5 @@
 //! The text of a listing.
-ghost use Rattle.std.specs.Prelude.{◌≡◌, ◌∷◌, [], map, IfOk, OnOk};
+ghost use Rattle.std.specs.Prelude.{◌≡◌, ◌∷◌, [], decimal, map, IfOk, OnOk};
 ghost use Rattle.fts_schema.specs.Listing.{group_front as the_group_front, document_rows};
 ghost use Rattle.fts_schema.specs.Listing.{group_rows, word_rows, words_rows, config_rows};
 ghost use Rattle.fts_schema.specs.Listing.{header_of as the_header_of, rows_of};
@@ -13,7 +13,7 @@ use crate::rows::{Rows, push_field};
 use fts_ilist::{Document, Node, WordNodes};
 use fts_listing::{Config, Listing};
 use fts_stopwords::default_words;
-use fts_types::Word;
+use fts_types::{DocId, Word};
 use std::alloc::{AllocError, Global};
 
 /// The text of a listing as of commit `number`: a line with the names of its columns, its rows, and
@@ -34,6 +34,7 @@ fn header_of(listing: &Listing) -> &'static str
 {
     match listing {
         Listing::Words { .. } => "WORD|FIRST_DOC_ID|LAST_DOC_ID|DOC_COUNT|DOC_ID|POSITION",
+        Listing::Ids { .. } => "DOC_ID",
         Listing::Config { .. } => "KEY|VALUE",
         Listing::Stopwords => "value",
     }
@@ -44,6 +45,7 @@ fn put_listing(rows: &mut Rows, alloc: Global, listing: &Listing) -> Result<(), 
 {
     match listing {
         Listing::Words { words } => put_words(rows, alloc, words.as_slice()),
+        Listing::Ids { ids } => put_ids(rows, ids.as_slice()),
         Listing::Config { config } => put_config(rows, config),
         Listing::Stopwords => put_stopwords(rows),
     }
@@ -94,6 +96,15 @@ fn put_document(rows: &mut Rows, front: &[u8], document: &Document) -> Result<()
 {
     for position in document.positions() {
         rows.put_position(front, document.id(), u64::from(position))?;
+    }
+    Ok(())
+}
+
+fn put_ids(rows: &mut Rows, ids: &[DocId]) -> Result<(), AllocError>
+    ensures { OnOk result (Puts rows.old rows.new (map decimal ids.now)) }
+{
+    for id in ids {
+        rows.put_id(*id)?;
     }
     Ok(())
 }

@@ -51,6 +51,13 @@ impl Rows {
         self.put_key(key, Buffer::new().format(value).as_bytes())
     }
 
+    /// Writes the row of an id.
+    pub fn put_id(&mut self, id: u64) -> Result<(), AllocError>
+        ensures { OnOk result (Puts self.old self.new (decimal id ∷ [])) }
+    {
+        self.put(Buffer::new().format(id).as_bytes())
+    }
+
     /// Writes the row of a position, behind what the rows of its group begin with.
     pub fn put_position(&mut self, front: &[u8], id: u64, position: u64) -> Result<(), AllocError>
         ensures { OnOk result (Puts self.old self.new (position_row front.now id position ∷ [])) }

@@ -15,10 +15,10 @@ use Rattle.fts_sql.specs.declared.statement.Statement.TheVariants.{Match}
 use Rattle.fts_listing.specs.declared.kind.ListingKind.{ListingKind}
 use Rattle.fts_steps.specs.Step.{Ask, Answer, committed, refused, full, flushed, all_flushed, viewed, found, listed, measured, disk_fault, stopped, no_memory, is_disk_fault, Sight}
 use Rattle.fts_sessions.specs.Query.{Search, looks_for, too_long, syntax_at, too_deep_at}
-use Rattle.fts_sessions.specs.Request.{Request, IsRequest, inserts, searches, syncs, lists, blank, unknown, unread}
-use Rattle.fts_sessions.specs.Table.{are_names, first_unknown, change_of}
+use Rattle.fts_sessions.specs.Request.{Request, IsRequest, changes, searches, syncs, lists, blank, unknown, unread}
+use Rattle.fts_sessions.specs.Table.{are_names, first_unknown, table_named, columns_named, change_of}
 use Rattle.fts_sessions.specs.View.{view_of_schema}
-use Rattle.fts_sessions.specs.Conversation.{Next, asks, ends, search_begins, unknown_column, unknown_name, insert_begins, list_begins, if_all_named, unless_unknown, begins, next, reply_to}
+use Rattle.fts_sessions.specs.Conversation.{Next, asks, ends, search_begins, unknown_column, unknown_name, change_begins, list_begins, if_all_named, unless_unknown, begins, next, reply_to}
 use Rattle.fts_sessions.specs.Execute.{Says, Executes, GoesOn, Makes, Does, Searches}
 
 -- a request that ends without a step tells no fault
@@ -32,9 +32,9 @@ named_all_calm : (named : Bool) (follows : Next) → (follows ≡ ends DiskFault
 named_all_calm false follows more is = cc
 named_all_calm true follows more is = more is
 
-insert_calm : (change : Option Change) → insert_begins change ≡ ends DiskFault → ⊥
-insert_calm None is = cc
-insert_calm (Some change) is = cc
+change_calm : (change : Option Change) → change_begins change ≡ ends DiskFault → ⊥
+change_calm None is = cc
+change_calm (Some change) is = cc
 
 column_calm : (name : Option (List ℕ)) (follows : Next) → (follows ≡ ends DiskFault → ⊥) → unless_unknown (unknown_column name) follows ≡ ends DiskFault → ⊥
 column_calm None follows more is = more is
@@ -50,8 +50,8 @@ list_calm schema view None is = cc
 list_calm schema view (Some which) is = cc
 
 calm : (settings : Settings) (request : Request) → begins settings request ≡ ends DiskFault → ⊥
-calm settings (inserts table names values) is =
-    named_calm _ settings.columns table names (insert_begins (change_of settings.columns names values)) (insert_calm (change_of settings.columns names values)) refl is
+calm settings (changes statement) is =
+    named_calm _ settings.columns (table_named statement) (columns_named statement) (change_begins (change_of settings.columns statement)) (change_calm (change_of settings.columns statement)) refl is
 calm settings (searches table names search) is =
     let named = are_names settings.columns names in
     named_calm _ settings.columns table names (if_all_named named (search_begins search)) (named_all_calm named (search_begins search) (searched_calm search)) refl is

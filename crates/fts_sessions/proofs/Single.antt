@@ -5,9 +5,8 @@ use Rattle.fts_io.specs.Text.{Line, whole, too_long}
 use Rattle.fts_schema.specs.declared.reply.Reply.{Reply}
 use Rattle.fts_schema.specs.declared.reply.Reply.TheVariants.{NoMemory, DiskFault}
 use Rattle.fts_sql.specs.Statement.{IsStatement}
-use Rattle.fts_sql.specs.declared.value.Value.{Value}
 use Rattle.fts_sql.specs.declared.statement.Statement.{Statement}
-use Rattle.fts_sql.specs.declared.statement.Statement.TheVariants.{Insert, Match, Sync, List as ListView}
+use Rattle.fts_sql.specs.declared.statement.Statement.TheVariants.{Match, Sync, List as ListView}
 use Rattle.fts_sql.proofs.Laws.{one_statement}
 use Rattle.fts_sql.proofs.Single.{one_fault, statement_or_fault, blank_or_statement}
 use Rattle.fts_listing.specs.declared.listing.Listing.{Listing}
@@ -16,7 +15,8 @@ use Rattle.fts_steps.specs.Running.{Running, Entry, grown, turns_of}
 use Rattle.fts_steps.specs.Step.{Ask, to_commit, to_sync, to_view, to_find, to_list, to_measure, Answer, Call, MayAnswer, Lists, Follows, AreAlone, plain_answer, after_call}
 use Rattle.fts_steps.specs.Step.{committed, refused, full, flushed, all_flushed, viewed, found, listed, measured, disk_fault, stopped, no_memory}
 use Rattle.fts_sessions.specs.Query.{Search, IsSearch}
-use Rattle.fts_sessions.specs.Request.{Request, IsRequest, inserts, searches, syncs, lists, blank, unknown, unread}
+use Rattle.fts_sessions.specs.Table.{IsChange}
+use Rattle.fts_sessions.specs.Request.{Request, IsRequest, changes, searches, syncs, lists, blank, unknown, unread}
 use Rattle.fts_sessions.specs.Conversation.{Converses, reply_to, asks, ends, next, sync_next}
 use Rattle.fts_sessions.specs.Calm.{IsCalm}
 use Rattle.fts_sessions.proofs.OneSearch.{one_search}
@@ -33,19 +33,13 @@ one_searched bytes table table' query query' names names' search search' h k is 
     let of_one = one_search query' search search' (subst (λ (q : List ℕ). IsSearch q search) queries is) is' in
     ap (λ (t : List ℕ). searches t names search) tables ∙ ap (λ (n : List (List ℕ)). searches table' n search) all ∙ ap (searches table' names') of_one
 
--- an INSERT is one request, and no search
-one_inserted : (bytes table table' : List ℕ) (names names' : List (List ℕ)) (values values' : List Value) → IsStatement bytes (Insert table names values)
-    → IsStatement bytes (Insert table' names' values') → inserts table names values ≡ inserts table' names' values'
-one_inserted bytes table table' names names' values values' h k =
-    let same = one_statement bytes (Insert table names values) (Insert table' names' values') h k in
-    let tables : table ≡ table' = cc in
-    let all : names ≡ names' = cc in
-    let both : values ≡ values' = cc in
-    ap (λ (t : List ℕ). inserts t names values) tables ∙ ap (λ (n : List (List ℕ)). inserts table' n values) all ∙ ap (inserts table' names') both
-
 -- two statements that are not one
 apart : (bytes : List ℕ) (one other : Statement) → IsStatement bytes one → IsStatement bytes other → (one ≡ other → ⊥) → ⊥
 apart bytes one other h k differ = differ (one_statement bytes one other h k)
+
+-- a statement that changes rows is no other one
+apart_change : (bytes : List ℕ) (one other : Statement) → IsStatement bytes one × IsChange one → IsStatement bytes other → (IsChange other → ⊥) → ⊥
+apart_change bytes one other h k no = no (subst IsChange (one_statement bytes one other h.0 k) h.1)
 
 -- a listing is one request
 one_listed : (bytes schema schema' view view' : List ℕ) → IsStatement bytes (ListView schema view) → IsStatement bytes (ListView schema' view') → lists schema view ≡ lists schema' view'
@@ -57,56 +51,56 @@ one_listed bytes schema schema' view view' h k =
 
 -- a line is one request
 pub one_request : (line : Line) (r s : Request) → IsRequest line r → IsRequest line s → r ≡ s
-one_request (whole bytes) (inserts t n v) (inserts t' n' v') h k = one_inserted bytes t t' n n' v v' h k
-one_request (whole bytes) (inserts t n v) (searches t' n' s') h k = absurd (apart bytes (Insert t n v) (Match t' n' k.0) h k.1 (λ same. cc))
-one_request (whole bytes) (inserts t n v) syncs h k = absurd (apart bytes (Insert t n v) Sync h k (λ same. cc))
-one_request (whole bytes) (inserts t n v) (lists a' b') h k = absurd (apart bytes (Insert t n v) (ListView a' b') h k (λ same. cc))
-one_request (whole bytes) (inserts t n v) blank h k = absurd (blank_or_statement bytes (Insert t n v) k h)
-one_request (whole bytes) (inserts t n v) (unknown here) h k = absurd (statement_or_fault bytes (Insert t n v) here h k)
-one_request (whole bytes) (searches t n s) (inserts t' n' v') h k = absurd (apart bytes (Match t n h.0) (Insert t' n' v') h.1 k (λ same. cc))
+one_request (whole bytes) (changes a) (changes b) h k = ap changes (one_statement bytes a b h.0 k.0)
+one_request (whole bytes) (changes a) (searches t' n' s') h k = absurd (apart_change bytes a (Match t' n' k.0) h k.1 (λ no. no))
+one_request (whole bytes) (changes a) syncs h k = absurd (apart_change bytes a Sync h k (λ no. no))
+one_request (whole bytes) (changes a) (lists a' b') h k = absurd (apart_change bytes a (ListView a' b') h k (λ no. no))
+one_request (whole bytes) (changes a) blank h k = absurd (blank_or_statement bytes a k h.0)
+one_request (whole bytes) (changes a) (unknown here) h k = absurd (statement_or_fault bytes a here h.0 k)
+one_request (whole bytes) (searches t n s) (changes b) h k = absurd (apart_change bytes b (Match t n h.0) k h.1 (λ no. no))
 one_request (whole bytes) (searches t n s) (searches t' n' s') h k = one_searched bytes t t' h.0 k.0 n n' s s' h.1 k.1 h.2 k.2
 one_request (whole bytes) (searches t n s) syncs h k = absurd (apart bytes (Match t n h.0) Sync h.1 k (λ same. cc))
 one_request (whole bytes) (searches t n s) (lists a' b') h k = absurd (apart bytes (Match t n h.0) (ListView a' b') h.1 k (λ same. cc))
 one_request (whole bytes) (searches t n s) blank h k = absurd (blank_or_statement bytes (Match t n h.0) k h.1)
 one_request (whole bytes) (searches t n s) (unknown here) h k = absurd (statement_or_fault bytes (Match t n h.0) here h.1 k)
-one_request (whole bytes) syncs (inserts t' n' v') h k = absurd (apart bytes Sync (Insert t' n' v') h k (λ same. cc))
+one_request (whole bytes) syncs (changes b) h k = absurd (apart_change bytes b Sync k h (λ no. no))
 one_request (whole bytes) syncs (searches t' n' s') h k = absurd (apart bytes Sync (Match t' n' k.0) h k.1 (λ same. cc))
 one_request (whole bytes) syncs syncs h k = refl
 one_request (whole bytes) syncs (lists a' b') h k = absurd (apart bytes Sync (ListView a' b') h k (λ same. cc))
 one_request (whole bytes) syncs blank h k = absurd (blank_or_statement bytes Sync k h)
 one_request (whole bytes) syncs (unknown here) h k = absurd (statement_or_fault bytes Sync here h k)
-one_request (whole bytes) (lists a b) (inserts t' n' v') h k = absurd (apart bytes (ListView a b) (Insert t' n' v') h k (λ same. cc))
+one_request (whole bytes) (lists a b) (changes c) h k = absurd (apart_change bytes c (ListView a b) k h (λ no. no))
 one_request (whole bytes) (lists a b) (searches t' n' s') h k = absurd (apart bytes (ListView a b) (Match t' n' k.0) h k.1 (λ same. cc))
 one_request (whole bytes) (lists a b) syncs h k = absurd (apart bytes (ListView a b) Sync h k (λ same. cc))
 one_request (whole bytes) (lists a b) (lists a' b') h k = one_listed bytes a a' b b' h k
 one_request (whole bytes) (lists a b) blank h k = absurd (blank_or_statement bytes (ListView a b) k h)
 one_request (whole bytes) (lists a b) (unknown here) h k = absurd (statement_or_fault bytes (ListView a b) here h k)
-one_request (whole bytes) blank (inserts t' n' v') h k = absurd (blank_or_statement bytes (Insert t' n' v') h k)
+one_request (whole bytes) blank (changes b) h k = absurd (blank_or_statement bytes b h k.0)
 one_request (whole bytes) blank (searches t' n' s') h k = absurd (blank_or_statement bytes (Match t' n' k.0) h k.1)
 one_request (whole bytes) blank syncs h k = absurd (blank_or_statement bytes Sync h k)
 one_request (whole bytes) blank (lists a' b') h k = absurd (blank_or_statement bytes (ListView a' b') h k)
 one_request (whole bytes) blank blank h k = refl
 one_request (whole bytes) blank (unknown here) h k = absurd (k.not_blank h)
-one_request (whole bytes) (unknown place) (inserts t' n' v') h k = absurd (statement_or_fault bytes (Insert t' n' v') place k h)
+one_request (whole bytes) (unknown place) (changes b) h k = absurd (statement_or_fault bytes b place k.0 h)
 one_request (whole bytes) (unknown place) (searches t' n' s') h k = absurd (statement_or_fault bytes (Match t' n' k.0) place k.1 h)
 one_request (whole bytes) (unknown place) syncs h k = absurd (statement_or_fault bytes Sync place k h)
 one_request (whole bytes) (unknown place) (lists a' b') h k = absurd (statement_or_fault bytes (ListView a' b') place k h)
 one_request (whole bytes) (unknown place) blank h k = absurd (h.not_blank k)
 one_request (whole bytes) (unknown place) (unknown here) h k = ap unknown (one_fault bytes place here h k)
-one_request (whole bytes) (inserts t n v) unread h k = absurd k
+one_request (whole bytes) (changes a) unread h k = absurd k
 one_request (whole bytes) (searches t n s) unread h k = absurd k
 one_request (whole bytes) syncs unread h k = absurd k
 one_request (whole bytes) (lists a b) unread h k = absurd k
 one_request (whole bytes) blank unread h k = absurd k
 one_request (whole bytes) (unknown place) unread h k = absurd k
 one_request (whole bytes) unread s h k = absurd h
-one_request too_long (inserts t n v) s h k = absurd h
+one_request too_long (changes a) s h k = absurd h
 one_request too_long (searches t n s) r h k = absurd h
 one_request too_long syncs s h k = absurd h
 one_request too_long (lists a b) s h k = absurd h
 one_request too_long blank s h k = absurd h
 one_request too_long (unknown place) s h k = absurd h
-one_request too_long unread (inserts t n v) h k = absurd k
+one_request too_long unread (changes a) h k = absurd k
 one_request too_long unread (searches t n s) h k = absurd k
 one_request too_long unread syncs h k = absurd k
 one_request too_long unread (lists a b) h k = absurd k
@@ -205,13 +199,13 @@ ends_behind : (settings : Settings) (request : Request) (answers : List Answer) 
     → next settings request (answers ++ answer ∷ []) ≡ ends (reply_to answer)
 ends_behind settings syncs [] ask answer is asked = is _ _
 ends_behind settings syncs (first ∷ answers) ask answer is asked = ap (sync_next _ _) (last_behind first answers answer) ∙ is _ _
-ends_behind settings (inserts t n v) [] ask answer is asked = refl
+ends_behind settings (changes a) [] ask answer is asked = refl
 ends_behind settings (searches t n s) [] ask answer is asked = refl
 ends_behind settings (lists a b) [] ask answer is asked = refl
 ends_behind settings blank [] ask answer is asked = refl
 ends_behind settings (unknown place) [] ask answer is asked = refl
 ends_behind settings unread [] ask answer is asked = refl
-ends_behind settings (inserts t n v) (first ∷ answers) ask answer is asked = absurd cc
+ends_behind settings (changes a) (first ∷ answers) ask answer is asked = absurd cc
 ends_behind settings (searches t n s) (first ∷ answers) ask answer is asked = absurd cc
 ends_behind settings (lists a b) (first ∷ answers) ask answer is asked = absurd cc
 ends_behind settings blank (first ∷ answers) ask answer is asked = absurd cc

@@ -12,9 +12,9 @@ use Rattle.fts_listing.specs.declared.kind.ListingKind.{ListingKind}
 use Rattle.fts_steps.specs.Step.{Ask, to_commit, to_find, to_sync, to_list, Answer, committed, refused, full, flushed}
 use Rattle.fts_steps.specs.Step.{all_flushed, viewed, found, listed, measured, disk_fault, stopped, no_memory, Call}
 use Rattle.fts_sessions.specs.Query.{Search, looks_for, too_long, syntax_at, too_deep_at}
-use Rattle.fts_sessions.specs.Request.{Request, inserts, searches, syncs, lists, blank, unknown, unread}
+use Rattle.fts_sessions.specs.Request.{Request, changes, searches, syncs, lists, blank, unknown, unread}
 use Rattle.fts_sessions.specs.View.{view_of_schema}
-use Rattle.fts_sessions.specs.Table.{first_unknown, are_names, change_of}
+use Rattle.fts_sessions.specs.Table.{first_unknown, are_names, table_named, columns_named, change_of}
 
 -- what comes next in a request: one more step, or its end with a reply
 pub data Next : Type 0 where
@@ -58,10 +58,10 @@ abbrev pub unless_unknown : Option Reply → Next → Next
 unless_unknown None follows = follows
 unless_unknown (Some reply) follows = ends reply
 
--- an INSERT asks for its commit, unless its names or values do not fit
-abbrev pub insert_begins : Option Change → Next
-insert_begins None = ends WrongColumns
-insert_begins (Some change) = asks (to_commit (change ∷ []))
+-- a change of rows asks for its commit, unless its names or values do not fit
+abbrev pub change_begins : Option Change → Next
+change_begins None = ends WrongColumns
+change_begins (Some change) = asks (to_commit (change ∷ []))
 
 -- what follows where a search names all text columns
 abbrev pub if_all_named : Bool → Next → Next
@@ -81,8 +81,9 @@ list_begins schema view (Some kind) = asks (to_list kind)
 
 -- what a request begins with: its first step, or its end
 abbrev pub begins : Settings → Request → Next
-begins settings (inserts table names values) =
-    unless_unknown (unknown_name settings.columns table names) (insert_begins (change_of settings.columns names values))
+begins settings (changes statement) =
+    unless_unknown (unknown_name settings.columns (table_named statement) (columns_named statement))
+    (change_begins (change_of settings.columns statement))
 begins settings (searches table names search) = match_begins settings table names (search_begins search)
 begins settings syncs = asks to_sync
 begins settings (lists schema view) = list_begins schema view (view_of_schema schema view)

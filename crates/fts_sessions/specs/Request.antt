@@ -3,15 +3,16 @@ use Rattle.fts_io.specs.Text.{Line, whole, too_long}
 use Rattle.fts_sql.specs.Line.{IsBlank}
 use Rattle.fts_sql.specs.Statement.{IsStatement}
 use Rattle.fts_sql.specs.Fault.{IsFaultAt}
-use Rattle.fts_sql.specs.declared.value.Value.{Value}
-use Rattle.fts_sql.specs.declared.statement.Statement.TheVariants.{Insert, Match, Sync, List as ListView}
+use Rattle.fts_sql.specs.declared.statement.Statement.{Statement}
+use Rattle.fts_sql.specs.declared.statement.Statement.TheVariants.{Match, Sync, List as ListView}
 use Rattle.fts_sessions.specs.Query.{Search, IsSearch}
+use Rattle.fts_sessions.specs.Table.{IsChange}
 
--- what a line asks for: an INSERT of values into columns of a table; a search of columns of a table, by what the text
+-- what a line asks for: a change of rows, as its statement says; a search of columns of a table, by what the text
 -- of its query asks for; that the index is flushed; a listing of a view of a schema; nothing since it is blank; nothing
 -- that is a statement, which shows at a place; or nothing that is read since the line is too long
 pub data Request : Type 0 where
-  inserts : List ℕ → List (List ℕ) → List Value → Request
+  changes : Statement → Request
   searches : List ℕ → List (List ℕ) → Search → Request
   syncs : Request
   lists : List ℕ → List ℕ → Request
@@ -21,7 +22,7 @@ pub data Request : Type 0 where
 
 -- which request a line is
 abbrev pub IsRequest : Line → Request → Type 0
-IsRequest (whole bytes) (inserts table names values) = IsStatement bytes (Insert table names values)
+IsRequest (whole bytes) (changes statement) = IsStatement bytes statement × IsChange statement
 IsRequest (whole bytes) (searches table names search) =
     (query : List ℕ) × IsStatement bytes (Match table names query) × IsSearch query search
 IsRequest (whole bytes) syncs = IsStatement bytes Sync
@@ -29,7 +30,7 @@ IsRequest (whole bytes) (lists schema view) = IsStatement bytes (ListView schema
 IsRequest (whole bytes) blank = IsBlank bytes
 IsRequest (whole bytes) (unknown at) = IsFaultAt bytes at
 IsRequest (whole bytes) unread = ⊥
-IsRequest too_long (inserts table names values) = ⊥
+IsRequest too_long (changes statement) = ⊥
 IsRequest too_long (searches table names search) = ⊥
 IsRequest too_long syncs = ⊥
 IsRequest too_long (lists schema view) = ⊥

@@ -1,47 +1,60 @@
-ghost use Rattle.std.specs.Prelude.{◌≡◌, None, Some, length, IfOk, MatchOption};
+ghost use Rattle.std.specs.Prelude.{◌≡◌, None, Some, IfOk, IfSome, IfNone};
 ghost use Rattle.std.specs.List.{list_all};
 ghost use Rattle.fts_commits.specs.declared.change.Change.TheVariants.{Insert};
-ghost use Rattle.fts_sessions.specs.Table.{is_text, texts_in, insert_of as the_insert_of};
-ghost use Rattle.fts_sessions.specs.Table.{change_of as the_change_of};
+ghost use Rattle.fts_sessions.specs.Table.{is_text, texts_in};
+ghost use Rattle.fts_sessions.specs.Table.{plain_insert, numbered_insert, named_insert};
 
-use crate::names::are_insert_columns;
+use crate::names::{are_insert_columns, are_numbered_columns};
 use fts_commits::Change;
 use fts_sql::{Value, Values};
-use fts_types::{Key, Names, RowTexts, SharedTexts};
+use fts_types::{DocId, Key, Names, RowTexts, SharedTexts};
 use std::alloc::{AllocError, Global};
+
+/// The key of a row, and its document id where one is given.
+#[derive(Clone, Copy)]
+struct Numbers {
+    key: Key,
+    doc: Option<DocId>,
+}
 
 /// The change that an INSERT of these values into columns of these names asks for, if they fit the
 /// table. It holds the texts of the values, which are moved and not copied.
-pub fn change_of(
+pub fn insert_of(
     alloc: Global,
     columns: &Names,
     names: &Names,
     values: Values,
 ) -> Result<Option<Change>, AllocError>
-    ensures { IfOk result (λ change. change ≡ the_change_of columns.now names.now values) }
+    ensures { IfOk result (λ change. change ≡ named_insert columns.now names.now values) }
 {
-    if !are_insert_columns(columns, names) {
-        return Ok(None);
-    }
-    insert_of(alloc, columns.len(), values)
-}
-
-// The INSERT of a key and a text for each of so many columns, if the values are these.
-fn insert_of(alloc: Global, columns: usize, values: Values) -> Result<Option<Change>, AllocError>
-    ensures { IfOk result (λ change. change ≡ the_insert_of columns values) }
-{
-    let Some(key) = key_of(columns, values.as_slice()) else {
+    let Some(numbers) = numbers_of(columns, names, values.as_slice()) else {
         return Ok(None);
     };
     let texts = SharedTexts::new(alloc, texts_of(alloc, values)?)?;
-    let doc = None;
+    let Numbers { key, doc } = numbers;
     Ok(Some(Change::Insert { key, doc, texts }))
 }
 
+// The numbers of an INSERT of these values into columns of these names, if they fit the table.
+fn numbers_of(columns: &Names, names: &Names, values: &[Value]) -> Option<Numbers>
+    ensures some { IfSome result (λ numbers. named_insert columns.now names.now values.now
+        ≡ Some (Insert numbers.key numbers.doc (texts_in values.now))) }
+    ensures none { IfNone result (named_insert columns.now names.now values.now ≡ None) }
+{
+    if are_insert_columns(columns, names) {
+        return plain_numbers(columns.len(), values);
+    }
+    if are_numbered_columns(columns, names) {
+        return given_numbers(columns.len(), values);
+    }
+    None
+}
+
 // The key of a row of so many columns, if the values are a number and a text for each of them.
-fn key_of(columns: usize, values: &[Value]) -> Option<Key>
-    ensures { MatchOption result (the_insert_of columns values.now ≡ None)
-        (λ key. the_insert_of columns values.now ≡ Some (Insert key None (texts_in values.now))) }
+fn plain_numbers(columns: usize, values: &[Value]) -> Option<Numbers>
+    ensures some { IfSome result (λ numbers. plain_insert columns values.now
+        ≡ Some (Insert numbers.key numbers.doc (texts_in values.now))) }
+    ensures none { IfNone result (plain_insert columns values.now ≡ None) }
 {
     let [Value::Number(key), texts @ ..] = values else {
         return None;
@@ -49,7 +62,24 @@ fn key_of(columns: usize, values: &[Value]) -> Option<Key>
     if texts.len() != columns || !are_texts(texts) {
         return None;
     }
-    Some(*key)
+    let (key, doc) = (*key, None);
+    Some(Numbers { key, doc })
+}
+
+// Its key and its document id, if the values are two numbers and a text for each of the columns.
+fn given_numbers(columns: usize, values: &[Value]) -> Option<Numbers>
+    ensures some { IfSome result (λ numbers. numbered_insert columns values.now
+        ≡ Some (Insert numbers.key numbers.doc (texts_in values.now))) }
+    ensures none { IfNone result (numbered_insert columns values.now ≡ None) }
+{
+    let [Value::Number(key), Value::Number(doc), texts @ ..] = values else {
+        return None;
+    };
+    if texts.len() != columns || !are_texts(texts) {
+        return None;
+    }
+    let (key, doc) = (*key, Some(*doc));
+    Some(Numbers { key, doc })
 }
 
 // Whether each value is a text.

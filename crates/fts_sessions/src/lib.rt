@@ -14,6 +14,7 @@ mod names;
 mod query;
 mod session;
 mod steps;
+mod update;
 mod view;
 
 pub use direct::Direct;

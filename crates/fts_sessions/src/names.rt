@@ -42,7 +42,7 @@ fn is_known(columns: &Names, name: &[u8]) -> bool
 }
 
 /// Whether a text column has this name.
-fn is_listed(columns: &Names, name: &[u8]) -> bool
+pub fn is_listed(columns: &Names, name: &[u8]) -> bool
     ensures { result ≡ list_any (λ column. str_eq_ignore_ascii_case name.now column) columns.now }
 {
     for place in 0..columns.len() {
@@ -92,4 +92,18 @@ pub fn are_insert_columns(columns: &Names, names: &Names) -> bool
         return false;
     }
     are_columns(columns, names, 1)
+}
+
+/// Whether the names are `id`, `FTS_DOC_ID` and those of all text columns, in the order in which
+/// they were created.
+pub fn are_numbered_columns(columns: &Names, names: &Names) -> bool
+    ensures { result ≡ are_names (codes "id" ∷ codes "fts_doc_id" ∷ columns.now) names.now }
+{
+    if names.len() < 2 || names.len() - 2 != columns.len() {
+        return false;
+    }
+    if !is_same(names.text(0), b"id") || !is_same(names.text(1), b"fts_doc_id") {
+        return false;
+    }
+    are_columns(columns, names, 2)
 }

@@ -1,23 +1,26 @@
-ghost use Rattle.std.specs.Prelude.{◌≡◌, ◌∷◌, [], length, IfOk, Err};
+ghost use Rattle.std.specs.Prelude.{◌≡◌, ◌∷◌, [], length, IfOk, Ok, Err, Option, Some};
 ghost use Rattle.fts_io.specs.Text.{whole};
 ghost use Rattle.fts_commits.specs.Fits.{CanCommit};
 ghost use Rattle.fts_steps.specs.Step.{to_commit, to_find};
 ghost use Rattle.fts_steps.specs.Answers.{commit_answer_of};
 ghost use Rattle.fts_query.specs.View.{tree_of};
-ghost use Rattle.fts_sessions.specs.Request.{inserts};
+ghost use Rattle.fts_sql.specs.declared.statement.Statement.TheVariants.{Insert, Update, Delete};
+ghost use Rattle.fts_sessions.specs.Request.{changes};
 ghost use Rattle.fts_query.specs.Seen.{view_seen};
 ghost use Rattle.fts_sessions.specs.Read.{next_of};
 ghost use Rattle.fts_sessions.specs.Found.{TellsFound};
 ghost use Rattle.fts_sessions.specs.Execute.{Executes, Makes, Does, Searches};
-ghost use Rattle.fts_sessions.specs.Texts.{AreFit};
-ghost use Rattle.fts_sessions.specs.Conversation.{asks, begins, match_begins, reply_to};
+ghost use Rattle.fts_sessions.specs.Texts.{IsFitStatement};
+ghost use Rattle.fts_sessions.specs.Conversation.{asks, begins, change_begins, match_begins};
+ghost use Rattle.fts_sessions.specs.Conversation.{reply_to};
 ghost use Rattle.fts_sessions.specs.Conversation.{unknown_name as the_unknown_name};
 
 use crate::EngineSteps;
 use crate::index::{list, sync};
-use crate::insert::change_of;
+use crate::insert::insert_of;
 use crate::names::{are_text_columns, first_unknown, is_same};
 use crate::query::query_of;
+use crate::update::update_of;
 use fts_commits::{Change, ids_ascend};
 use fts_eval::{answer, leaves};
 use fts_io::{Gate, Point};
@@ -25,7 +28,7 @@ use fts_query::{Query, View};
 use fts_schema::Reply;
 use fts_sql::{ParseError, Statement, Values, parse_statement};
 use fts_steps::CommitError;
-use fts_types::{Names, Text};
+use fts_types::{Key, Names, RowTexts, Text};
 use std::alloc::{AllocError, Global};
 
 /// A session: who sends statements one after another.
@@ -73,6 +76,17 @@ impl Session {
             ) => insert(self.alloc, steps, table, &columns, values),
             Ok(
                 Some(
+                    Statement::Update {
+                        table,
+                        columns,
+                        texts,
+                        key,
+                    },
+                ),
+            ) => update(self.alloc, steps, table, &columns, &texts, key),
+            Ok(Some(Statement::Delete { table, key })) => delete(self.alloc, steps, table, key),
+            Ok(
+                Some(
                     Statement::Match {
                         table,
                         columns,
@@ -105,9 +119,9 @@ fn insert<S: EngineSteps>(
     names: &Names,
     values: Values,
 ) -> Reply
-    requires { AreFit values }
+    requires { IsFitStatement (Insert table names.now values) }
     ensures { Does S.sight
-        (begins (S.sight.settings steps.old) (inserts table names.now values))
+        (begins (S.sight.settings steps.old) (changes (Insert table names.now values)))
         steps.old result steps.new }
 {
     let columns = &steps.settings().columns;
@@ -116,7 +130,59 @@ fn insert<S: EngineSteps>(
         Ok(Some(reply)) => return reply,
         Err(AllocError) => return Reply::NoMemory,
     }
-    match change_of(alloc, columns, names, values) {
+    let change = insert_of(alloc, columns, names, values);
+    make(steps, change)
+}
+
+// The step of an UPDATE, and what tells its answer. One that does not fit the table makes no step.
+fn update<S: EngineSteps>(
+    alloc: Global,
+    steps: &mut S,
+    table: Text,
+    names: &Names,
+    texts: &RowTexts,
+    key: Key,
+) -> Reply
+    requires { IsFitStatement (Update table names.now texts.now key) }
+    ensures { Does S.sight
+        (begins (S.sight.settings steps.old) (changes (Update table names.now texts.now key)))
+        steps.old result steps.new }
+{
+    let columns = &steps.settings().columns;
+    match unknown_name(alloc, columns, table, names) {
+        Ok(None) => {}
+        Ok(Some(reply)) => return reply,
+        Err(AllocError) => return Reply::NoMemory,
+    }
+    let change = update_of(alloc, columns, names, texts, key);
+    make(steps, change)
+}
+
+// The step of a DELETE, and what tells its answer.
+fn delete<S: EngineSteps>(alloc: Global, steps: &mut S, table: Text, key: Key) -> Reply
+    requires { IsFitStatement (Delete table key) }
+    ensures { Does S.sight
+        (begins (S.sight.settings steps.old) (changes (Delete table key)))
+        steps.old result steps.new }
+{
+    let columns = &steps.settings().columns;
+    match unknown_name(alloc, columns, table, &Names::new(alloc)) {
+        Ok(None) => {}
+        Ok(Some(reply)) => return reply,
+        Err(AllocError) => return Reply::NoMemory,
+    }
+    make(steps, Ok(Some(Change::Delete { key })))
+}
+
+// The step of a commit of the change that a statement asks for, if it fits the table, and what
+// tells its answer.
+fn make<S: EngineSteps>(steps: &mut S, change: Result<Option<Change>, AllocError>) -> Reply
+    requires { (made : Change) → change ≡ Ok (Some made)
+        → CanCommit (length (S.sight.settings steps.old).columns) (made ∷ []) }
+    ensures { (wanted : Option Change) → IfOk change (λ change. change ≡ wanted)
+        → Does S.sight (change_begins wanted) steps.old result steps.new }
+{
+    match change {
         Ok(Some(change)) => commit(steps, change),
         Ok(None) => Reply::WrongColumns,
         Err(AllocError) => Reply::NoMemory,

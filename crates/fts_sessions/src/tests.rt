@@ -3,9 +3,12 @@ ghost use Rattle.fts_steps.specs.State.{State};
 ghost use Rattle.fts_steps.specs.Running.{opened};
 ghost use Rattle.fts_engine.specs.Stands.{Stands};
 
-use crate::insert::change_of;
-use crate::names::{are_insert_columns, are_text_columns, first_unknown, is_same};
+use crate::insert::insert_of;
+use crate::names::{
+    are_insert_columns, are_numbered_columns, are_text_columns, first_unknown, is_same,
+};
 use crate::query::query_of;
+use crate::update::update_of;
 use crate::view::view_of_schema;
 use crate::{Direct, Session};
 use fts_commits::Change;
@@ -72,32 +75,37 @@ fn the_first_unknown_name_is_found(rt: HostRuntime) -> Result<(), Fail> {
     Ok(())
 }
 
-/// Names, whether an INSERT may name these columns, and whether a search may.
-const NAMED: [(&[&str], bool, bool); 10] = [
-    (&["id", "title", "body"], true, false),
-    (&["ID", "Title", "BODY"], true, false),
-    (&["title", "body"], false, true),
-    (&["TITLE", "body"], false, true),
-    (&["id", "body", "title"], false, false),
-    (&["body", "title"], false, false),
-    (&["title", "body", "id"], false, false),
-    (&["title"], false, false),
-    (&["id", "fts_doc_id", "title", "body"], false, false),
-    (&[], false, false),
+/// Names, and who may name these columns: an INSERT (`i`), one that gives the document id (`d`), or
+/// a search (`s`).
+const NAMED: [(&[&str], &str); 13] = [
+    (&["id", "title", "body"], "i"),
+    (&["ID", "Title", "BODY"], "i"),
+    (&["title", "body"], "s"),
+    (&["TITLE", "body"], "s"),
+    (&["id", "body", "title"], ""),
+    (&["body", "title"], ""),
+    (&["title", "body", "id"], ""),
+    (&["title"], ""),
+    (&["id", "fts_doc_id", "title", "body"], "d"),
+    (&[], ""),
+    (&["Id", "Fts_Doc_ID", "TITLE", "body"], "d"),
+    (&["fts_doc_id", "id", "title", "body"], ""),
+    (&["id", "fts_doc_id", "title"], ""),
 ];
 
 #[test]
 fn statements_name_all_columns_in_their_order(rt: HostRuntime) -> Result<(), Fail> {
     let columns = names_of(rt.alloc(), &COLUMNS)?;
-    for (names, insert, search) in NAMED {
+    for (names, who) in NAMED {
         let names = names_of(rt.alloc(), names)?;
-        assert_eq!(rt; are_insert_columns(&columns, &names), insert);
-        assert_eq!(rt; are_text_columns(&columns, &names), search);
+        assert_eq!(rt; are_insert_columns(&columns, &names), who == "i");
+        assert_eq!(rt; are_numbered_columns(&columns, &names), who == "d");
+        assert_eq!(rt; are_text_columns(&columns, &names), who == "s");
     }
     Ok(())
 }
 
-/// What the line's INSERT asks for, shown as text.
+/// The change that a line asks for, shown as text.
 fn shown(alloc: Global, columns: &Names, line: &str) -> Result<String, AllocError> {
     match parse_statement(alloc, line.as_bytes()) {
         Ok(
@@ -109,34 +117,60 @@ fn shown(alloc: Global, columns: &Names, line: &str) -> Result<String, AllocErro
                 },
             ),
         ) => {
-            let change = change_of(alloc, columns, &names, values)?;
+            let change = insert_of(alloc, columns, &names, values)?;
             told(alloc, &change)
         }
-        _ => String::from_str(alloc, "no insert"),
+        Ok(
+            Some(
+                Statement::Update {
+                    table: _,
+                    columns: names,
+                    texts,
+                    key,
+                },
+            ),
+        ) => {
+            let change = update_of(alloc, columns, &names, &texts, key)?;
+            told(alloc, &change)
+        }
+        _ => String::from_str(alloc, "no change"),
     }
 }
 
-/// The change as text: its key, and its texts with a bar before each.
+/// The change as text: its key, the document id where one is given, and its texts with a bar before
+/// each, or a dash for one that is kept.
 fn told(alloc: Global, change: &Option<Change>) -> Result<String, AllocError> {
-    let Some(
-        Change::Insert {
-            key,
-            doc: None,
-            texts,
-        },
-    ) = change
-    else {
-        return String::from_str(alloc, "none");
-    };
-    let mut all = format!(in alloc; "{key}")?;
-    for text in texts.texts().as_slice() {
-        all.push('|')?;
-        all.push_str(str::from_utf8(text).unwrap_or("?"))?;
+    match change {
+        Some(Change::Insert { key, doc, texts }) => {
+            let mut all = format!(in alloc; "{key}")?;
+            if let Some(doc) = doc {
+                all.push_str(format!(in alloc; "#{doc}")?.as_str())?;
+            }
+            for text in texts.texts().as_slice() {
+                push_text(&mut all, Some(text))?;
+            }
+            Ok(all)
+        }
+        Some(Change::Update { key, texts }) => {
+            let mut all = format!(in alloc; "{key}")?;
+            for place in 0..texts.len() {
+                push_text(&mut all, texts.text(place))?;
+            }
+            Ok(all)
+        }
+        _ => String::from_str(alloc, "none"),
     }
-    Ok(all)
 }
 
-const INSERTS: [(&str, &str); 9] = [
+fn push_text(all: &mut String, text: Option<&[u8]>) -> Result<(), AllocError> {
+    all.push('|')?;
+    match text {
+        Some(text) => all.push_str(str::from_utf8(text).unwrap_or("?")),
+        None => all.push('-'),
+    }
+}
+
+const INSERTS: [(&str, &str); 13] = [
     (
         "INSERT INTO docs (id, title, body) VALUES (7, 'a', 'it''s')",
         "7|a|it's",
@@ -164,12 +198,58 @@ const INSERTS: [(&str, &str); 9] = [
     ),
     ("INSERT INTO docs (id, title) VALUES (7, 'a')", "none"),
     ("INSERT INTO docs (title, body) VALUES ('a', 'b')", "none"),
+    (
+        "INSERT INTO docs (id, fts_doc_id, title, body) VALUES (7, 9, 'a', 'b')",
+        "7#9|a|b",
+    ),
+    (
+        "INSERT INTO docs (id, fts_doc_id, title, body) VALUES (7, 'a', 'b', 'c')",
+        "none",
+    ),
+    (
+        "INSERT INTO docs (id, fts_doc_id, title, body) VALUES (7, 9, 'a')",
+        "none",
+    ),
+    (
+        "INSERT INTO docs (id, title, body) VALUES (7, 9, 'a', 'b')",
+        "none",
+    ),
+];
+
+const UPDATES: [(&str, &str); 8] = [
+    ("UPDATE docs SET body = 'it''s' WHERE id = 7", "7|-|it's"),
+    (
+        "UPDATE docs SET BODY = 'b', Title = 'a' WHERE id = 7",
+        "7|a|b",
+    ),
+    ("UPDATE docs SET title = '' WHERE id = 0", "0||-"),
+    (
+        "UPDATE docs SET title = 'a', TITLE = 'b' WHERE id = 7",
+        "none",
+    ),
+    ("UPDATE docs SET id = 'a' WHERE id = 7", "none"),
+    ("UPDATE docs SET fts_doc_id = '9' WHERE id = 7", "none"),
+    ("UPDATE docs SET title = 'a', id = 'b' WHERE id = 7", "none"),
+    (
+        "UPDATE docs SET title = 'a', body = 'b', title = 'c' WHERE id = 7",
+        "none",
+    ),
 ];
 
 #[test]
 fn an_insert_asks_for_its_change(rt: HostRuntime) -> Result<(), Fail> {
     let columns = names_of(rt.alloc(), &COLUMNS)?;
     for (line, want) in INSERTS {
+        let change = shown(rt.alloc(), &columns, line)?;
+        assert_eq!(rt; change.as_str(), want, "of {line}");
+    }
+    Ok(())
+}
+
+#[test]
+fn an_update_asks_for_its_change(rt: HostRuntime) -> Result<(), Fail> {
+    let columns = names_of(rt.alloc(), &COLUMNS)?;
+    for (line, want) in UPDATES {
         let change = shown(rt.alloc(), &columns, line)?;
         assert_eq!(rt; change.as_str(), want, "of {line}");
     }
@@ -234,7 +314,7 @@ fn reply_of(alloc: Global, line: &str) -> Result<Vec<u8>, Fail> {
     Ok(reply_text(alloc, &reply)?)
 }
 
-const REPLIES: [(&str, &str); 18] = [
+const REPLIES: [(&str, &str); 27] = [
     (
         "INSERT INTO docs (id, title, body) VALUES (7, 'a', 'b')",
         "OK commit 1\n",
@@ -295,6 +375,33 @@ const REPLIES: [(&str, &str); 18] = [
         "SELECT FTS_DOC_ID FROM doc WHERE MATCH (Text) AGAINST ('a +' IN BOOLEAN MODE)",
         "ERROR no such table doc\n",
     ),
+    ("UPDATE docs SET body = 'x' WHERE id = 7", "OK commit 1\n"),
+    (
+        "UPDATE docs SET id = '1' WHERE id = 7",
+        "ERROR columns and values do not fit\n",
+    ),
+    (
+        "UPDATE docs SET text = 'x', id = '1' WHERE id = 7",
+        "ERROR no such column text\n",
+    ),
+    (
+        "UPDATE doc SET text = 'x' WHERE id = 7",
+        "ERROR no such table doc\n",
+    ),
+    ("DELETE FROM docs WHERE id = 7", "OK commit 1\n"),
+    ("DELETE FROM doc WHERE id = 7", "ERROR no such table doc\n"),
+    (
+        "INSERT INTO docs (id, FTS_DOC_ID, title, body) VALUES (7, 9, 'a', 'b')",
+        "OK commit 1\n",
+    ),
+    (
+        "INSERT INTO docs (id, FTS_DOC_ID, title, body) VALUES (7, 70000, 'a', 'b')",
+        "ERROR document id 70000 more than 65535 above 0\n",
+    ),
+    (
+        "INSERT INTO docs (id, FTS_DOC_ID, title, body) VALUES (7, 0, 'a', 'b')",
+        "ERROR document id 0 not above 0\n",
+    ),
     ("SELEC", "ERROR syntax at 1\n"),
     ("  ", ""),
     ("-- a comment", ""),
@@ -310,7 +417,7 @@ fn each_line_has_its_reply(rt: HostRuntime) -> Result<(), Fail> {
 }
 
 /// The names of a schema and of a view, and the view that they mean.
-const VIEWS: [(&str, &str, Option<ListingKind>); 8] = [
+const VIEWS: [(&str, &str, Option<ListingKind>); 9] = [
     (
         "INFORMATION_SCHEMA",
         "INNODB_FT_INDEX_TABLE",
@@ -331,7 +438,12 @@ const VIEWS: [(&str, &str, Option<ListingKind>); 8] = [
         "INNODB_FT_DEFAULT_STOPWORD",
         Some(ListingKind::DefaultStopword),
     ),
-    ("INFORMATION_SCHEMA", "INNODB_FT_DELETED", None),
+    (
+        "INFORMATION_SCHEMA",
+        "INNODB_FT_Deleted",
+        Some(ListingKind::Deleted),
+    ),
+    ("INFORMATION_SCHEMA", "INNODB_FT_BEING_DELETED", None),
     ("INFORMATION_SCHEMA", "", None),
     ("docs", "INNODB_FT_CONFIG", None),
     ("INNODB_FT_CONFIG", "INFORMATION_SCHEMA", None),

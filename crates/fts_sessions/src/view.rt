@@ -27,6 +27,9 @@ fn view_called(name: &[u8]) -> Option<ListingKind>
     if is_same(name, b"innodb_ft_index_cache") {
         return Some(ListingKind::IndexCache);
     }
+    if is_same(name, b"innodb_ft_deleted") {
+        return Some(ListingKind::Deleted);
+    }
     if is_same(name, b"innodb_ft_config") {
         return Some(ListingKind::Config);
     }

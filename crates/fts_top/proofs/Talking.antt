@@ -10,7 +10,7 @@ use Rattle.fts_steps.specs.Running.{Running, Entry, grown}
 use Rattle.fts_steps.specs.Step.{Ask, to_commit, to_sync, to_view, to_find, to_list, to_measure, Answer, committed, refused, full, flushed, all_flushed, viewed, found, listed, measured}
 use Rattle.fts_steps.specs.Step.{disk_fault, stopped, no_memory}
 use Rattle.fts_steps.specs.Step.{Call, after, after_call, after_all, Follows, AreAlone}
-use Rattle.fts_sessions.specs.Request.{Request, inserts, searches, syncs, lists, blank, unknown, unread}
+use Rattle.fts_sessions.specs.Request.{Request, changes, searches, syncs, lists, blank, unknown, unread}
 use Rattle.fts_sessions.specs.Conversation.{Converses, next, sync_next, target_of, asks, ends}
 use Rattle.fts_sessions.proofs.Flushing.{last_behind}
 use Rattle.fts_sessions.specs.Execute.{Says}
@@ -127,8 +127,8 @@ fault_next : (settings : Settings) (request : Request) (answers : List Answer) (
 fault_next settings syncs [] faults ask is = refl
 fault_next settings syncs (answer ∷ answers) faults ask is =
     ap (sync_next (target_of answer) (length (answer ∷ (answers ++ disk_fault faults ∷ [])))) (last_behind answer answers (disk_fault faults))
-fault_next settings (inserts table names values) [] faults ask is = refl
-fault_next settings (inserts table names values) (answer ∷ answers) faults ask is = absurd cc
+fault_next settings (changes statement) [] faults ask is = refl
+fault_next settings (changes statement) (answer ∷ answers) faults ask is = absurd cc
 fault_next settings (searches table names search) [] faults ask is = refl
 fault_next settings (searches table names search) (answer ∷ answers) faults ask is = absurd cc
 fault_next settings (lists schema view) [] faults ask is = refl
