@@ -9,14 +9,14 @@ use Rattle.fts_types.specs.Limits.{standard_limits}
 use Rattle.fts_commits.specs.declared.refusal.Refusal.{Refusal}
 use Rattle.fts_types.specs.Row.{Row}
 use Rattle.fts_commits.specs.Commit.{Commit, Rows, no_rows, has_key, with_key, without_key, doc_within, doc_for, with_row, with_texts, with_document, updated, set_bytes, after_update, after_change, after_changes, within_rows, after_commit, rows_after, replay, AreAccepted}
-use Rattle.fts_commits.specs.Turn.{turn_between, has_doc}
+use Rattle.fts_commits.specs.Turn.{Turn, turn_between, has_doc}
 use Rattle.fts_commits.specs.Fits.{FitsColumns, FitsNumbers, IsCommit, CanCommit}
 use Rattle.fts_commits.specs.declared.change.Change.{Change}
 use Rattle.fts_commits.specs.declared.change.Change.TheVariants.{Insert, Update, Delete}
 use Rattle.fts_rowcodec.specs.Payload.{FitsText, FitsNewText, FitsBytes, IsWritten, commit_payload}
 use Rattle.fts_rowcodec.proofs.Sizes.{IsShort, short_commit_size}
 use Rattle.fts_rows.specs.Rows.{Held}
-use Rattle.fts_rows.specs.Plan.{Planned, PlanFor, turn_of}
+use Rattle.fts_rows.specs.Plan.{PlanFor}
 use Rattle.fts_index.specs.Births.{CanIndex, AreBirths}
 use Rattle.fts_engine.specs.Bounds.{AreWithin}
 use Rattle.fts_engine.specs.Fitting.{IsTableRow}
@@ -145,13 +145,13 @@ module _ (columns : ℕ) where
   })
 
   -- the rows that the plan of an accepted commit bears can be indexed behind the others
-  pub births_fit : (limits : Limits) (changes : List Change) (rows after : Rows) (held : Held) (planned : Planned) → 1 ≤ columns → columns ≤ 8 → IsCommit columns changes
+  pub births_fit : (limits : Limits) (changes : List Change) (rows after : Rows) (held : Held) (planned : Turn) → 1 ≤ columns → columns ≤ 8 → IsCommit columns changes
       → AreWithin standard_limits limits → Are rows → after_commit limits changes rows ≡ Ok after → held.rows ≡ rows → PlanFor held planned after
       → AreBirths held.rows.largest planned.largest planned.births
   births_fit limits changes rows after held planned some few made within are ok same plan =
       let left = commit_fits limits changes rows after within made.fit are ok in
       let born = All-filter (λ (row : Row). not (has_doc row.doc held.rows.list)) (IsTableRow columns) after.list left in
-      let births : (turn_between held.rows after).births ≡ planned.births = ap (λ turn. turn.births) (sym plan.turn) in
+      let births : (turn_between held.rows after).births ≡ planned.births = ap (λ (turn : Turn). turn.births) (sym plan.turn) in
       record {
         ids = plan.fits.ids;
         rows = All-weaker (IsTableRow columns) CanIndex (can_index some few) planned.births (subst (All (IsTableRow columns)) births born);

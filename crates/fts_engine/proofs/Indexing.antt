@@ -15,7 +15,6 @@ use Rattle.fts_words.specs.Indexed.{Rules}
 use Rattle.fts_commits.specs.Commit.{Commit, Rows, no_rows, after_commit, rows_after, replay}
 use Rattle.fts_commits.specs.Turn.{Turn, RowsAscend, AreTurns, rows_but, rows_by, turn_between, turns_from, deaths_of}
 use Rattle.fts_rows.specs.Rows.{Held, rows_of}
-use Rattle.fts_rows.specs.Plan.{rows_with}
 use Rattle.fts_entries.specs.Entry.{Batch, IndexState, no_entries, sealed, after_entry}
 use Rattle.fts_entries.specs.Batch.{IsBatch, largest_after, after_batch, next_through}
 use Rattle.fts_entries.specs.Exact.{FitsTurns, IsExact}
