@@ -19,20 +19,11 @@ FitsColumns columns (Insert key doc texts) = (length texts ≡ columns) × All I
 FitsColumns columns (Update key news) = (length news ≡ columns) × All IsNewText news
 FitsColumns columns (Delete key) = Unit {0}
 
--- an INSERT that gives no document id
-abbrev pub IsPlainInsert : Change → Type 0
-IsPlainInsert (Insert key None texts) = Unit {0}
-IsPlainInsert (Insert key (Some doc) texts) = ⊥
-IsPlainInsert (Update key news) = ⊥
-IsPlainInsert (Delete key) = ⊥
-
--- a commit that can be made of a table of so many columns: 1 to 1,000 changes that fit it. For now each is an INSERT
--- that gives no document id
+-- a commit that can be made of a table of so many columns: 1 to 1,000 changes that fit it
 pub record IsCommit (columns : ℕ) (commit : List Change) : Type 0 where
   pub some : 1 ≤ length commit
   pub few : length commit ≤ 1000
   pub fit : All (FitsColumns columns) commit
-  pub plain : All IsPlainInsert commit
 
 -- a document id that is given has eight bytes
 abbrev pub FitsId : Option ℕ → Type 0

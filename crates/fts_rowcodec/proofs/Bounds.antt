@@ -60,4 +60,4 @@ short_columns settings are =
 
 -- each change of a commit that the log can hold
 pub row_changes : (columns : ℕ) (commit : Commit) → IsWritten columns commit → All (IsRowChange columns) commit
-row_changes columns commit is k d less = (is.made.fit k d less, is.made.plain k d less, is.fits k d less)
+row_changes columns commit is k d less = (is.made.fit k d less, is.fits k d less)

@@ -1,5 +1,5 @@
 -- How long payloads are at most, so that a record's length fits its four bytes.
-use Rattle.std.proofs.Common.{◌≡◌, ℕ, ◌+◌, ◌*◌, ◌<◌, ◌≤◌, ◌^◌, List, [], ◌∷◌, length, Some, None, refl, arith}
+use Rattle.std.proofs.Common.{◌≡◌, ℕ, ◌+◌, ◌*◌, ◌<◌, ◌≤◌, ◌^◌, List, [], ◌∷◌, length, Option, Some, None, refl, arith}
 use Rattle.std.specs.Prelude.{All, sum_by}
 use Rattle.std.specs.Int.{w16, to_be_bytes}
 use Rattle.std.specs.List.{flat_map}
@@ -11,7 +11,7 @@ use Rattle.fts_types.specs.Settings.{AreSettings}
 use Rattle.fts_commits.specs.Commit.{Commit, set_bytes}
 use Rattle.fts_commits.specs.declared.change.Change.{Change}
 use Rattle.fts_commits.specs.declared.change.Change.TheVariants.{Insert, Update, Delete}
-use Rattle.fts_rowcodec.specs.Payload.{IsWritten, FitsText, text_payload, change_payload, commit_payload, column_payload, numbers_payload, settings_payload}
+use Rattle.fts_rowcodec.specs.Payload.{IsWritten, FitsText, FitsNewText, text_payload, doc_payload, new_payload, change_payload, commit_payload, column_payload, numbers_payload, settings_payload}
 use Rattle.fts_rowcodec.specs.Reading.{IsRowChange}
 use Rattle.fts_rowcodec.proofs.Bounds.{few_columns, short_columns, row_changes}
 
@@ -44,38 +44,61 @@ IsShort (Insert key doc texts) = sum_by length texts ≤ 65535
 IsShort (Update key news) = set_bytes news ≤ 65535
 IsShort (Delete key) = Unit {0}
 
--- such a change of a row of at most 8 columns has at most 65,561
-short_change_size : (columns : ℕ) (change : Change) → columns ≤ 8 → IsRowChange columns change → IsShort change → length (change_payload change) ≤ 65561
-short_change_size columns (Insert key None texts) few is short =
-    let counted : length texts ≡ columns = is.0.0 in
-    omega (arith, texts_length texts, counted, few, short)
-short_change_size columns (Insert key (Some doc) texts) few is short = absurd is.1
-short_change_size columns (Update key news) few is short = absurd is.1
-short_change_size columns (Delete key) few is short = absurd is.1
+doc_length : (doc : Option ℕ) → length (doc_payload doc) ≤ 9
+doc_length None = omega arith
+doc_length (Some doc) = omega arith
 
--- so a commit of such changes has at most 65,561,003
-pub short_commit_size : (columns : ℕ) (commit : Commit) → columns ≤ 8 → IsWritten columns commit → All IsShort commit → length (commit_payload commit) ≤ 65561003
+-- the bytes of new texts, of which those that are set stand behind a flag and a length, and the others are a flag
+news_length : (news : List (Option (List ℕ))) → length (flat_map new_payload news) ≤ 3 * length news + set_bytes news
+news_length [] = omega arith
+news_length (None ∷ news) = (let rest = news_length news in omega (arith, rest, length-append (new_payload None) (flat_map new_payload news)))
+news_length (Some text ∷ news) =
+    let rest = news_length news in
+    omega (arith, rest, length-append (new_payload (Some text)) (flat_map new_payload news), length-append (to_be_bytes w16 (length text)) text)
+
+-- such a change of a row of at most 8 columns has at most 65,569
+short_change_size : (columns : ℕ) (change : Change) → columns ≤ 8 → IsRowChange columns change → IsShort change → length (change_payload change) ≤ 65569
+short_change_size columns (Insert key doc texts) few is short =
+    let counted : length texts ≡ columns = is.0.0 in
+    let given = doc_length doc in
+    omega (arith, texts_length texts, counted, few, short, given, length-append (doc_payload doc) (flat_map text_payload texts))
+short_change_size columns (Update key news) few is short =
+    let counted : length news ≡ columns = is.0.0 in
+    let long = news_length news in
+    omega (arith, long, counted, few, short)
+short_change_size columns (Delete key) few is short = omega arith
+
+-- so a commit of such changes has at most 65,569,003
+pub short_commit_size : (columns : ℕ) (commit : Commit) → columns ≤ 8 → IsWritten columns commit → All IsShort commit → length (commit_payload commit) ≤ 65569003
 short_commit_size columns commit few is short =
     let changes = row_changes columns commit is in
     let count : length commit ≤ 1000 = is.made.few in
-    let size = pieces_size change_payload 65561 commit (λ k d less. short_change_size columns _ few (changes k d less) (short k d less)) in
+    let size = pieces_size change_payload 65569 commit (λ k d less. short_change_size columns _ few (changes k d less) (short k d less)) in
     omega arith
 
--- a change of a row of at most 8 columns has at most 524,306
-pub change_size : (columns : ℕ) (change : Change) → columns ≤ 8 → IsRowChange columns change → length (change_payload change) ≤ 524306
-change_size columns (Insert key None texts) few is =
-    let each : All FitsText texts = is.2.1 in
+-- a change of a row of at most 8 columns has at most 524,314
+change_size : (columns : ℕ) (change : Change) → columns ≤ 8 → IsRowChange columns change → length (change_payload change) ≤ 524314
+change_size columns (Insert key doc texts) few is =
+    let each : All FitsText texts = is.1.1 in
     let counted : length texts ≡ columns = is.0.0 in
+    let given = doc_length doc in
     let size = pieces_size text_payload 65537 texts (λ k d less. let text = each k d less in omega arith) in
-    omega arith
-change_size columns (Insert key (Some doc) texts) few is = absurd is.1
-change_size columns (Update key news) few is = absurd is.1
-change_size columns (Delete key) few is = absurd is.1
+    omega (arith, size, counted, few, given, length-append (doc_payload doc) (flat_map text_payload texts))
+change_size columns (Update key news) few is =
+    let each : All FitsNewText news = is.1.1 in
+    let counted : length news ≡ columns = is.0.0 in
+    let size = pieces_size new_payload 65538 news (λ k d less. new_length _ (each k d less)) in
+    omega (arith, size, counted, few)
+  where
+    new_length : (new : Option (List ℕ)) → FitsNewText new → length (new_payload new) ≤ 65538
+    new_length None fits = omega arith
+    new_length (Some text) fits = omega (arith, fits, length-append (to_be_bytes w16 (length text)) text)
+change_size columns (Delete key) few is = omega arith
 
 -- the length of a commit's payload fits four bytes
 pub commit_size : (columns : ℕ) (commit : Commit) → columns ≤ 8 → IsWritten columns commit → length (commit_payload commit) < 2 ^ 32
 commit_size columns commit few is =
     let changes = row_changes columns commit is in
     let count : length commit ≤ 1000 = is.made.few in
-    let size = pieces_size change_payload 524306 commit (λ k d less. change_size columns _ few (changes k d less)) in
+    let size = pieces_size change_payload 524314 commit (λ k d less. change_size columns _ few (changes k d less)) in
     omega arith

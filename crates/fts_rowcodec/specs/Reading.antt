@@ -7,10 +7,10 @@ use Rattle.fts_codec.specs.Reading.{◌>>=◌, behind_at, number_at, piece_at, m
 use Rattle.fts_types.specs.declared.settings.Settings.{Settings}
 use Rattle.fts_commits.specs.Commit.{Commit}
 use Rattle.fts_commits.specs.Text.{is_text_byte}
-use Rattle.fts_commits.specs.Fits.{IsText, FitsColumns, IsPlainInsert}
+use Rattle.fts_commits.specs.Fits.{IsText, IsNewText, FitsColumns}
 use Rattle.fts_commits.specs.declared.change.Change.{Change}
-use Rattle.fts_commits.specs.declared.change.Change.TheVariants.{Insert}
-use Rattle.fts_rowcodec.specs.Payload.{FitsText, FitsBytes}
+use Rattle.fts_commits.specs.declared.change.Change.TheVariants.{Insert, Update, Delete}
+use Rattle.fts_rowcodec.specs.Payload.{FitsText, FitsNewText, FitsBytes}
 use Rattle.fts_rowcodec.specs.declared.error.DecodeError.{DecodeError}
 use Rattle.fts_rowcodec.specs.declared.error.DecodeError.TheVariants.{NoMemory, Bad}
 
@@ -30,20 +30,56 @@ text_at bytes = do
   text ← piece_at size.0 size.1
   if list_all is_text_byte text.0 then Some text else None
 
--- the key of an INSERT that gives no document id
-unfoldable pub key_at : List ℕ → Option (ℕ × List ℕ)
-key_at bytes = do
-  rest ← behind_at 1 bytes
-  key ← number_at w64 rest
-  more ← behind_at 0 key.1
-  Some (key.0, more)
+-- a document id, if one is given, by what stands behind either flag
+abbrev pub doc_of : Option (List ℕ) → Option (List ℕ) → Option (Option ℕ × List ℕ)
+doc_of (Some rest) given = Some (None, rest)
+doc_of None (Some rest) = do
+  doc ← number_at w64 rest
+  Some (Some doc.0, doc.1)
+doc_of None None = None
 
--- a change of a row of so many columns: an INSERT that gives no document id
+unfoldable pub doc_at : List ℕ → Option (Option ℕ × List ℕ)
+doc_at bytes = doc_of (behind_at 0 bytes) (behind_at 1 bytes)
+
+-- the text that an UPDATE sets, or that the old one is kept, in the same way
+abbrev pub new_of : Option (List ℕ) → Option (List ℕ) → Option (Option (List ℕ) × List ℕ)
+new_of (Some rest) set = Some (None, rest)
+new_of None (Some rest) = do
+  text ← text_at rest
+  Some (Some text.0, text.1)
+new_of None None = None
+
+unfoldable pub new_at : List ℕ → Option (Option (List ℕ) × List ℕ)
+new_at bytes = new_of (behind_at 0 bytes) (behind_at 1 bytes)
+
+-- an INSERT, an UPDATE and a DELETE of a row of so many columns, behind the change's kind
+unfoldable pub insert_at : ℕ → List ℕ → Option (Change × List ℕ)
+insert_at columns bytes = do
+  key ← number_at w64 bytes
+  doc ← doc_at key.1
+  texts ← many_at text_at columns doc.1
+  Some (Insert key.0 doc.0 texts.0, texts.1)
+
+unfoldable pub update_at : ℕ → List ℕ → Option (Change × List ℕ)
+update_at columns bytes = do
+  key ← number_at w64 bytes
+  news ← many_at new_at columns key.1
+  Some (Update key.0 news.0, news.1)
+
+unfoldable pub delete_at : List ℕ → Option (Change × List ℕ)
+delete_at bytes = do
+  key ← number_at w64 bytes
+  Some (Delete key.0, key.1)
+
+-- a change of a row of so many columns, by what stands behind each kind
+abbrev pub kind_of : ℕ → Option (List ℕ) → Option (List ℕ) → Option (List ℕ) → Option (Change × List ℕ)
+kind_of columns (Some rest) update delete = insert_at columns rest
+kind_of columns None (Some rest) delete = update_at columns rest
+kind_of columns None None (Some rest) = delete_at rest
+kind_of columns None None None = None
+
 unfoldable pub change_at : ℕ → List ℕ → Option (Change × List ℕ)
-change_at columns bytes = do
-  key ← key_at bytes
-  texts ← many_at text_at columns key.1
-  Some (Insert key.0 None texts.0, texts.1)
+change_at columns bytes = kind_of columns (behind_at 1 bytes) (behind_at 2 bytes) (behind_at 3 bytes)
 
 -- the count of a commit's changes
 unfoldable pub count_at : List ℕ → Option (ℕ × List ℕ)
@@ -63,9 +99,13 @@ commit_of columns bytes = do
 abbrev pub IsRowText : List ℕ → Type 0
 IsRowText text = IsText text × FitsText text
 
--- a change of a table of so many columns that the log can hold: an INSERT that gives no document id
+-- a text that an UPDATE sets or keeps, that the log can hold
+abbrev pub IsNewRowText : Option (List ℕ) → Type 0
+IsNewRowText new = IsNewText new × FitsNewText new
+
+-- a change of a table of so many columns that the log can hold
 abbrev pub IsRowChange : ℕ → Change → Type 0
-IsRowChange columns change = FitsColumns columns change × IsPlainInsert change × FitsBytes change
+IsRowChange columns change = FitsColumns columns change × FitsBytes change
 
 -- the name of a column
 unfoldable pub name_at : List ℕ → Option (List ℕ × List ℕ)

@@ -6,14 +6,16 @@ ghost use Rattle.fts_commits.specs.Commit.{Commit};
 ghost use Rattle.fts_commits.specs.Text.{is_text_byte};
 ghost use Rattle.fts_rowcodec.specs.Payload.{IsWritten, commit_payload};
 ghost use Rattle.fts_codec.specs.Reading.{Finds, many_at};
-ghost use Rattle.fts_rowcodec.specs.Reading.{Gives, text_at, key_at, change_at};
-ghost use Rattle.fts_rowcodec.specs.Reading.{count_at, commit_of};
+ghost use Rattle.std.specs.Option.{option_map};
+ghost use Rattle.fts_commits.specs.NewText.{new_text};
+ghost use Rattle.fts_rowcodec.specs.Reading.{Gives, text_at, doc_at, new_at, insert_at, update_at};
+ghost use Rattle.fts_rowcodec.specs.Reading.{delete_at, change_at, count_at, commit_of};
 
 use crate::error::DecodeError;
 use fts_codec::{behind, bytes_at, u16_at, u64_at};
-use fts_commits::{Change, Changes, is_text_byte};
-use fts_types::{RowTexts, SharedTexts};
-use std::alloc::Global;
+use fts_commits::{Change, Changes, NewTexts, is_text_byte};
+use fts_types::{DocId, RowTexts, SharedTexts};
+use std::alloc::{AllocError, Global};
 
 /// Whether texts may hold each of the bytes.
 fn has_text_bytes(text: &[u8]) -> bool
@@ -51,13 +53,93 @@ fn texts_at(alloc: Global, count: usize, bytes: &[u8]) -> Result<(RowTexts, &[u8
     Ok((texts, rest))
 }
 
-/// The key of an INSERT that gives no document id.
-#[tactic(auto, unfolding(crate::specs::Reading::key_at))]
-fn key_at(bytes: &[u8]) -> Option<(u64, &[u8])>
-    ensures { Finds (λ x. (x.0, x.1.now)) result (key_at bytes.now) }
+/// A document id, if one is given.
+#[tactic(auto, unfolding(crate::specs::Reading::doc_at))]
+fn doc_at(bytes: &[u8]) -> Option<(Option<DocId>, &[u8])>
+    ensures { Finds (λ x. (x.0, x.1.now)) result (doc_at bytes.now) }
 {
-    let (key, rest) = u64_at(behind(bytes, 1)?)?;
-    Some((key, behind(rest, 0)?))
+    if let Some(rest) = behind(bytes, 0) {
+        return Some((None, rest));
+    }
+    let (doc, rest) = u64_at(behind(bytes, 1)?)?;
+    Some((Some(doc), rest))
+}
+
+/// The text that an UPDATE sets, or that the old one is kept.
+#[tactic(auto, unfolding(crate::specs::Reading::new_at))]
+fn new_at(bytes: &[u8]) -> Option<(Option<&[u8]>, &[u8])>
+    ensures { Finds (λ x. (option_map (λ text. text.now) x.0, x.1.now)) result
+        (new_at bytes.now) }
+{
+    if let Some(rest) = behind(bytes, 0) {
+        return Some((None, rest));
+    }
+    let (text, rest) = text_at(behind(bytes, 1)?)?;
+    Some((Some(text), rest))
+}
+
+/// So many texts that an UPDATE sets or keeps.
+fn news_at(alloc: Global, count: usize, bytes: &[u8]) -> Result<(NewTexts, &[u8]), DecodeError>
+    ensures { Gives (λ x. (x.0, x.1.now)) result (many_at new_at count bytes.now) }
+{
+    let mut news = Vec::new(alloc);
+    let mut rest = bytes;
+    for _ in 0..count {
+        let Some((text, after)) = new_at(rest) else {
+            return Err(DecodeError::Bad);
+        };
+        news.push(copied(alloc, text)?)?;
+        rest = after;
+    }
+    Ok((NewTexts::from_vec(news), rest))
+}
+
+/// A copy of a text, if there is one.
+fn copied(alloc: Global, text: Option<&[u8]>) -> Result<Option<Vec<u8>>, AllocError>
+    ensures { IfOk result (λ copy. new_text copy
+        ≡ option_map (λ text. text.now) text.entry) }
+{
+    match text {
+        Some(text) => Ok(Some(Vec::from_slice(alloc, text)?)),
+        None => Ok(None),
+    }
+}
+
+/// An INSERT into a row of so many columns.
+#[tactic(auto, unfolding(crate::specs::Reading::insert_at))]
+fn insert_at(alloc: Global, columns: usize, bytes: &[u8]) -> Result<(Change, &[u8]), DecodeError>
+    ensures { Gives (λ x. (x.0, x.1.now)) result (insert_at columns bytes.now) }
+{
+    let Some((key, rest)) = u64_at(bytes) else {
+        return Err(DecodeError::Bad);
+    };
+    let Some((doc, rest)) = doc_at(rest) else {
+        return Err(DecodeError::Bad);
+    };
+    let (texts, rest) = texts_at(alloc, columns, rest)?;
+    let texts = SharedTexts::new(alloc, texts)?;
+    Ok((Change::Insert { key, doc, texts }, rest))
+}
+
+/// An UPDATE of a row of so many columns.
+#[tactic(auto, unfolding(crate::specs::Reading::update_at))]
+fn update_at(alloc: Global, columns: usize, bytes: &[u8]) -> Result<(Change, &[u8]), DecodeError>
+    ensures { Gives (λ x. (x.0, x.1.now)) result (update_at columns bytes.now) }
+{
+    let Some((key, rest)) = u64_at(bytes) else {
+        return Err(DecodeError::Bad);
+    };
+    let (texts, rest) = news_at(alloc, columns, rest)?;
+    Ok((Change::Update { key, texts }, rest))
+}
+
+/// A DELETE.
+#[tactic(auto, unfolding(crate::specs::Reading::delete_at))]
+fn delete_at(bytes: &[u8]) -> Option<(Change, &[u8])>
+    ensures { Finds (λ x. (x.0, x.1.now)) result (delete_at bytes.now) }
+{
+    let (key, rest) = u64_at(bytes)?;
+    Some((Change::Delete { key }, rest))
 }
 
 /// A change of a row of so many columns.
@@ -65,13 +147,19 @@ fn key_at(bytes: &[u8]) -> Option<(u64, &[u8])>
 fn change_at(alloc: Global, columns: usize, bytes: &[u8]) -> Result<(Change, &[u8]), DecodeError>
     ensures { Gives (λ x. (x.0, x.1.now)) result (change_at columns bytes.now) }
 {
-    let Some((key, rest)) = key_at(bytes) else {
+    if let Some(rest) = behind(bytes, 1) {
+        return insert_at(alloc, columns, rest);
+    }
+    if let Some(rest) = behind(bytes, 2) {
+        return update_at(alloc, columns, rest);
+    }
+    let Some(rest) = behind(bytes, 3) else {
         return Err(DecodeError::Bad);
     };
-    let (texts, rest) = texts_at(alloc, columns, rest)?;
-    let texts = SharedTexts::new(alloc, texts)?;
-    let doc = None;
-    Ok((Change::Insert { key, doc, texts }, rest))
+    match delete_at(rest) {
+        Some(both) => Ok(both),
+        None => Err(DecodeError::Bad),
+    }
 }
 
 /// So many changes.
@@ -129,8 +217,8 @@ fn commit_in(alloc: Global, columns: usize, bytes: &[u8]) -> Result<Changes, Dec
 }
 
 /// The changes in the payload of a commit of rows of so many columns. `Bad` where the bytes are no
-/// such payload: where there are no changes or more than 1,000, a change is no INSERT, a document's
-/// id is given, a text holds a byte that no text holds, or a byte is missing or too many.
+/// such payload: where there are no changes or more than 1,000, a kind or a flag is none, a text
+/// holds a byte that no text holds, or a byte is missing or too many.
 pub fn decode_commit(alloc: Global, columns: usize, bytes: &[u8]) -> Result<Changes, DecodeError>
     ensures commit { IfOk result (λ changes. IsWritten columns changes
         × (bytes.now ≡ commit_payload changes)) }
