@@ -37,6 +37,14 @@ const TWO_INSERTS: [u8; 37] = [
     255, 255, 255, 255, 0, 0, 2, 0x61, 9, 0, 1, 0x7e,
 ];
 
+// Of two columns: a row 2 with the id 9 and the texts `a` and nothing; new text `ab` for its second
+// column; an UPDATE that keeps both texts of the row with the largest key; and the row 258 goes.
+const ALL_KINDS: [u8; 61] = [
+    1, 0, 4, 1, 0, 0, 0, 0, 0, 0, 0, 2, 1, 0, 0, 0, 0, 0, 0, 0, 9, 0, 1, 97, 0, 0, 2, 0, 0, 0, 0,
+    0, 0, 0, 2, 0, 1, 0, 2, 97, 98, 2, 255, 255, 255, 255, 255, 255, 255, 255, 0, 0, 3, 0, 0, 0, 0,
+    0, 0, 1, 2,
+];
+
 fn settings_of(
     alloc: Global,
     columns: &[&str],
@@ -225,6 +233,71 @@ fn decodes_two_inserts(rt: HostRuntime) -> Result<(), Fail> {
             is_insert(&rt, second, u64::MAX, &["a\t", "~"]);
         }
         _ => assert!(rt; false, "two changes"),
+    }
+    Ok(())
+}
+
+fn is_update(rt: &impl Abort, change: &Change, want: u64, texts_want: [Option<&[u8]>; 2]) {
+    match change {
+        Change::Update { key, texts } => {
+            assert_eq!(rt; *key, want);
+            if texts.len() == 2 {
+                assert!(rt; texts.text(0) == texts_want[0]);
+                assert!(rt; texts.text(1) == texts_want[1]);
+            }
+            assert_eq!(rt; texts.len(), 2);
+        }
+        _ => assert!(rt; false, "an UPDATE"),
+    }
+}
+
+#[test]
+fn decodes_all_kinds(rt: HostRuntime) -> Result<(), Fail> {
+    let commit = commit_in(&rt, rt.alloc(), 2, &ALL_KINDS)?;
+    match commit.as_slice() {
+        [
+            Change::Insert {
+                key: 2,
+                doc: Some(9),
+                texts,
+            },
+            second,
+            third,
+            Change::Delete { key: 258 },
+        ] => {
+            has_columns(&rt, texts.texts(), &["a", ""]);
+            is_update(&rt, second, 2, [None, Some(b"ab".as_slice())]);
+            is_update(&rt, third, u64::MAX, [None, None]);
+        }
+        _ => assert!(rt; false, "four changes"),
+    }
+    Ok(())
+}
+
+// Its kinds, flags and lengths.
+#[test]
+fn refuses_a_wrong_byte_of_all_kinds(rt: HostRuntime) -> Result<(), Fail> {
+    for (place, byte) in [
+        (3, 2),
+        (3, 4),
+        (12, 0),
+        (12, 2),
+        (26, 1),
+        (35, 2),
+        (36, 0),
+        (41, 3),
+        (50, 1),
+        (51, 2),
+        (52, 2),
+    ] {
+        let bytes = with_byte(rt.alloc(), &ALL_KINDS, place, byte)?;
+        assert!(rt; is_no_commit(rt.alloc(), 2, &bytes), "at {place}");
+    }
+    for cut in 0..61 {
+        assert!(rt;
+            is_no_commit(rt.alloc(), 2, &ALL_KINDS[..cut]),
+            "cut at {cut}"
+        );
     }
     Ok(())
 }
