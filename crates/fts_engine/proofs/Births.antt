@@ -1,18 +1,20 @@
 -- The rows that an accepted commit of plain INSERTs adds can be indexed.
 use Rattle.std.proofs.Common.{◌≡◌, ℕ, ◌+◌, ◌<◌, ◌≤◌, ◌^◌, List, [], ◌∷◌, ◌++◌, refl, ap, subst, sym, ◌∙◌, length, arith, append_assoc, Some, None}
-use Rattle.std.proofs.lemmas.List.{append-nil, append_cancel_left}
-use Rattle.std.proofs.lemmas.List.Elements.{All-nil, All-cons, All-append, All-head, All-tail}
-use Rattle.std.specs.Prelude.{Bool, true, false, nat_lt, Result, Ok, Err, sum_by, All}
+use Rattle.std.proofs.lemmas.List.{append-nil}
+use Rattle.std.proofs.lemmas.List.Elements.{All-nil, All-cons, All-append, All-filter, All-head, All-tail, filter-append}
+use Rattle.std.specs.Prelude.{Bool, true, false, not, nat_lt, Result, Ok, Err, sum_by, All}
 use Rattle.fts_types.specs.declared.limits.Limits.{Limits}
 use Rattle.fts_types.specs.Limits.{standard_limits}
 use Rattle.fts_commits.specs.declared.refusal.Refusal.{Refusal}
 use Rattle.fts_types.specs.Row.{Row}
 use Rattle.fts_commits.specs.Commit.{Rows, has_key, doc_within, doc_for, with_row, with_texts, with_document, after_change, after_changes, within_rows, after_commit}
+use Rattle.fts_commits.specs.Turn.{Turn, has_doc, rows_not_in}
 use Rattle.fts_commits.specs.Fits.{FitsColumns, IsPlainInsert, IsCommit}
 use Rattle.fts_commits.specs.declared.change.Change.{Change}
 use Rattle.fts_commits.specs.declared.change.Change.TheVariants.{Insert, Update, Delete}
 use Rattle.fts_rows.specs.Rows.{Held}
-use Rattle.fts_rows.specs.Plan.{Planned, PlanFor}
+use Rattle.fts_rows.specs.Plan.{PlanFor}
+use Rattle.fts_rows.proofs.Turning.{none_own}
 use Rattle.fts_index.specs.Births.{CanIndex, AreBirths}
 use Rattle.fts_engine.specs.Bounds.{AreWithin}
 use Rattle.fts_engine.proofs.Accepting.{went}
@@ -97,12 +99,12 @@ module _ (columns : ℕ) (some : 1 ≤ columns) (few : columns ≤ 8) (limit : �
       rows_added most rows next after (nat_lt most (length next.list)) refl (changes_added 1 changes rows next made.fit made.plain is) ok
 
 -- the rows that the plan of an accepted commit adds can be indexed behind the others
-pub births_fit : (columns : ℕ) (limits : Limits) (changes : List Change) (rows after : Rows) (held : Held) (planned : Planned) → 1 ≤ columns → columns ≤ 8 → IsCommit columns changes
+pub births_fit : (columns : ℕ) (limits : Limits) (changes : List Change) (rows after : Rows) (held : Held) (planned : Turn) → 1 ≤ columns → columns ≤ 8 → IsCommit columns changes
     → AreWithin standard_limits limits → after_commit limits changes rows ≡ Ok after → held.rows ≡ rows → PlanFor held planned after → AreBirths held.rows.largest planned.largest planned.births
 births_fit columns limits changes rows after held planned some few made within ok same plan =
     let limited : limits.ids < 2 ^ 63 = (let ids = within.ids in omega arith) in
     let added = all_added columns some few limits.ids limited limits.rows changes rows after (after_changes limits.ids 1 changes rows) refl made ok in
-    let both : rows.list ++ planned.births ≡ rows.list ++ added.births =
-    ap (λ (r : Rows). r.list ++ planned.births) (sym same) ∙ ap (λ (r : Rows). r.list) plan.leads ∙ added.is in
-    let births : added.births ≡ planned.births = sym (append_cancel_left rows.list planned.births added.births both) in
-    record { ids = plan.fits.ids; rows = subst (All CanIndex) births added.can }
+    let births : planned.births ≡ rows_not_in rows.list added.births =
+    ap (λ (turn : Turn). turn.births) plan.turn ∙ ap (λ (r : Rows). rows_not_in r.list after.list) same ∙ ap (rows_not_in rows.list) added.is
+    ∙ filter-append (λ row. not (has_doc row.doc rows.list)) rows.list added.births ∙ ap (λ (l : List Row). l ++ rows_not_in rows.list added.births) (none_own rows.list) in
+    record { ids = plan.fits.ids; rows = subst (All CanIndex) (sym births) (All-filter (λ row. not (has_doc row.doc rows.list)) CanIndex added.births added.can) }

@@ -2,7 +2,7 @@
 use Rattle.std.proofs.Common.{◌≡◌, ℕ, ◌+◌, ◌<◌, ◌≤◌, List, [], ◌∷◌, ◌++◌, refl, ap, subst, sym, ◌∙◌, length, arith}
 use Rattle.std.proofs.lemmas.List.Sums.{fold-append}
 use Rattle.std.proofs.lemmas.Bool.{and_parts, leb-true}
-use Rattle.std.specs.Prelude.{Ok, fold, nat_eq, Bool, true, false, nat_le, if◌then◌else◌, Option, Some, None}
+use Rattle.std.specs.Prelude.{Ok, not, fold, nat_eq, Bool, true, false, nat_le, if◌then◌else◌, Option, Some, None}
 use Rattle.std.specs.List.{IsDistinct}
 use Rattle.fts_types.specs.declared.settings.Settings.{Settings}
 use Rattle.fts_types.specs.declared.check.Field.{Field}
@@ -13,9 +13,10 @@ use Rattle.fts_types.specs.Row.{Row}
 use Rattle.fts_types.specs.Rules.{rules_of}
 use Rattle.fts_words.specs.Indexed.{Rules}
 use Rattle.fts_commits.specs.Commit.{Commit, Rows, no_rows, after_commit, rows_after, replay}
-use Rattle.fts_commits.specs.Turn.{Turn, RowsAscend, AreTurns, rows_by, turn_between, turns_from, deaths_of}
+use Rattle.fts_commits.specs.Turn.{Turn, RowsAscend, AreTurns, rows_but, rows_by, turn_between, turns_from, deaths_of}
 use Rattle.fts_rows.specs.Rows.{Held, rows_of}
-use Rattle.fts_rows.specs.Plan.{rows_with}
+use Rattle.fts_rows.specs.Plan.{is_among}
+use Rattle.fts_rows.proofs.Ids.{ids-filter}
 use Rattle.fts_entries.specs.Entry.{Batch, IndexState, no_entries, sealed, after_entry}
 use Rattle.fts_entries.specs.Batch.{IsBatch, largest_after, after_batch, next_through}
 use Rattle.fts_entries.specs.Exact.{FitsTurns, IsExact}
@@ -117,8 +118,9 @@ module _ (settings : Settings) (held : Held) (old new : Index) (next : NextKept)
 
   rows_ascend : RowsAscend 0 after.largest after.list
   rows_ascend = subst (λ (rows : Rows). RowsAscend 0 rows.largest rows.list) will.plan.leads
-      (rows_join 0 (rows_of held).largest next.plan.largest (rows_of held).list next.plan.births
-      (subst (λ (rows : Rows). RowsAscend 0 rows.largest rows.list) (sym is.same) is.right.ascend) will.births.ids)
+      (rows_join 0 (rows_of held).largest next.plan.largest (rows_but next.plan.deaths (rows_of held).list) next.plan.births
+      (ids-filter (λ row. not (is_among row.doc next.plan.deaths)) 0 (rows_of held).largest (rows_of held).list
+      (subst (λ (rows : Rows). RowsAscend 0 rows.largest rows.list) (sym is.same) is.right.ascend)) will.births.ids)
 
   -- an index that got the turn of one commit more is right for it
   pub one_right : IsIndexOf settings after new (commits ++ commit ∷ []) s

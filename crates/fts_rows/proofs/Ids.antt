@@ -1,5 +1,5 @@
 -- Rows by ascending ids.
-use Rattle.std.proofs.Common.{◌≡◌, ℕ, ◌<◌, ◌≤◌, Bool, Option, cond, List, [], ◌∷◌, ◌++◌, ap, ◌∙◌, arith, not, true, false, nat_eq, Some, None, refl}
+use Rattle.std.proofs.Common.{◌≡◌, ℕ, ◌<◌, ◌≤◌, Bool, Option, cond, filter, List, [], ◌∷◌, ◌++◌, ap, ◌∙◌, arith, not, true, false, nat_eq, Some, None, refl}
 use Rattle.std.proofs.lemmas.Bool.{ne_eqb}
 use Rattle.fts_types.specs.Row.{Row}
 use Rattle.fts_commits.specs.Turn.{RowsAscend}
@@ -35,3 +35,12 @@ not_out false row rows found left rest e = ap (λ (l : List Row). row ∷ l) (re
 pub none_out : (doc : ℕ) (rows : List Row) → row_with_id doc rows ≡ None → without_id doc rows ≡ rows
 none_out doc [] none = refl
 none_out doc (row ∷ rows) none = not_out (nat_eq row.doc doc) row rows (row_with_id doc rows) (without_id doc rows) (none_out doc rows) none
+
+-- some of the rows
+pub ids-filter : (p : Row → Bool) (low high : ℕ) (rows : List Row) → RowsAscend low high rows → RowsAscend low high (filter p rows)
+ids-filter p low high [] ids = ids
+ids-filter p low high (row ∷ rows) ids = by (p row) (ids-filter p row.doc high rows ids.1)
+  where
+    by : (b : Bool) → RowsAscend row.doc high (filter p rows) → RowsAscend low high (cond b (row ∷ filter p rows) (filter p rows))
+    by true rest = (ids.0, rest)
+    by false rest = ids-lower low row.doc high (filter p rows) rest (omega (arith, ids.0))

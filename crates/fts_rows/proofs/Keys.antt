@@ -1,17 +1,21 @@
 -- The rows that keys lead to.
-use Rattle.std.proofs.Common.{◌≡◌, ℕ, ◌+◌, ◌<◌, Bool, true, false, cond, ◌||◌, not, map, length, List, [], ◌∷◌, ◌++◌, Option, Some, None, is_some, nat_eq, true≢false, get_or, drop, refl, sym, ap, subst, ◌∙◌, arith, inl, inr, append-nil, length-append}
+use Rattle.std.proofs.Common.{◌≡◌, ℕ, ◌+◌, ◌<◌, Bool, true, false, cond, ◌||◌, not, map, length, List, [], ◌∷◌, ◌++◌, Option, Some, None, is_some, option_map, nat_eq, true≢false, get_or, drop, refl, sym, ap, subst, ◌∙◌, arith, inl, inr, append-nil, length-append}
 use Rattle.std.proofs.lemmas.Bool.{cases_Bool, eqb-true, ne_eqb, eq-eqb}
 use Rattle.std.proofs.lemmas.List.{length-map}
 use Rattle.std.proofs.lemmas.List.Filters.{length-filter_both}
 use Rattle.std.proofs.lemmas.List.Elements.{filter-append}
-use Rattle.fts_types.specs.Row.{Row}
+use Rattle.std.specs.Prelude.{MatchOption}
+use Rattle.std.specs.Borrow.{Bor}
+use Rattle.std.specs.Option.{option_copied}
+use Rattle.fts_types.specs.Row.{Row, row_of}
+use Rattle.fts_types.specs.declared.row.Row.{Row as Kept}
 use Rattle.fts_commits.specs.Commit.{has_key, with_key, without_key}
 use Rattle.fts_commits.specs.Turn.{RowsAscend}
 use Rattle.fts_rows.specs.Rows.{row_with_key, row_with_id, without_id}
 use Rattle.fts_rows.specs.Slots.{id_list, LeadToRows}
 use Rattle.fts_rows.proofs.Ids.{none_below, none_out}
 
-abbrev docs : List Row → List ℕ
+abbrev pub docs : List Row → List ℕ
 docs rows = map (λ (row : Row). row.doc) rows
 
 -- a key leads to an id exactly where some row has it
@@ -25,7 +29,8 @@ has_led key (row ∷ rows) doc e = by (nat_eq row.key key) doc (has_led key rows
     by true (Some doc) rest e = refl
     by false doc rest e = rest e
 
-none_with : (key : ℕ) (rows : List Row) → has_key key rows ≡ false → with_key key rows ≡ []
+-- no row has the key
+pub none_with : (key : ℕ) (rows : List Row) → has_key key rows ≡ false → with_key key rows ≡ []
 none_with key [] none = refl
 none_with key (row ∷ rows) none = by (nat_eq row.key key) (none_with key rows) none
   where
@@ -61,7 +66,8 @@ others_stay key q (row ∷ rows) other = by (nat_eq row.key key) refl (others_st
         (sym (subst (λ k. nat_eq k q ≡ false) (sym (eqb-true row.key key same)) other))
     by false e rest = ap (λ (l : List Row). cond (nat_eq row.key q) (row ∷ l) l) rest
 
-own_go : (key : ℕ) (rows : List Row) → with_key key (without_key key rows) ≡ []
+-- no row of a key is left where they went
+pub own_go : (key : ℕ) (rows : List Row) → with_key key (without_key key rows) ≡ []
 own_go key [] = refl
 own_go key (row ∷ rows) = by (nat_eq row.key key) refl (own_go key rows)
   where
@@ -146,3 +152,38 @@ count-out count less key doc rows e fewer counted =
     let one : length (with_key key rows) ≡ 1 = sym (length-map (with_key key rows) (λ (row : Row). row.doc)) ∙ ap length e in
     let both = length-filter_both (λ (row : Row). nat_eq row.key key) (λ (row : Row). not (nat_eq row.key key)) (λ row. refl) rows in
     omega (arith, one, both, fewer, counted)
+
+-- where a key leads nowhere, no row has it
+pub none_led : (rows : List Row) → docs rows ≡ [] → rows ≡ []
+none_led [] e = refl
+none_led (row ∷ rows) e = absurd (omega (arith, ap length e))
+
+first_of : List Row → Option Row
+first_of [] = None
+first_of (row ∷ rows) = Some row
+
+found_first : (key : ℕ) (rows : List Row) → row_with_key key rows ≡ first_of (with_key key rows)
+unfolding first_of
+found_first key [] = refl
+found_first key (row ∷ rows) = by (nat_eq row.key key) (found_first key rows)
+  where
+    by : (b : Bool) → row_with_key key rows ≡ first_of (with_key key rows) → cond b (Some row) (row_with_key key rows) ≡ first_of (cond b (row ∷ with_key key rows) (with_key key rows))
+    by true rest = refl
+    by false rest = rest
+
+-- a row that is found is the only one of its list
+only_one : (rows : List Row) (doc : ℕ) (found : Option Row) → docs rows ≡ doc ∷ [] → found ≡ first_of rows → MatchOption found (rows ≡ []) (λ row. rows ≡ row ∷ [])
+unfolding first_of
+only_one [] doc found e is = absurd (omega (arith, ap length e))
+only_one (row ∷ []) doc found e is = subst (λ (f : Option Row). MatchOption f (row ∷ [] ≡ []) (λ r. row ∷ [] ≡ r ∷ [])) (sym is) refl
+only_one (row ∷ other ∷ rows) doc found e is = absurd (omega (arith, ap length e))
+
+copied : (rows : List Row) (found : Option (Bor Kept)) → MatchOption (option_map row_of (option_copied found)) (rows ≡ []) (λ row. rows ≡ row ∷ []) → MatchOption found (rows ≡ []) (λ row. rows ≡ row_of row.now ∷ [])
+copied rows None only = only
+copied rows (Some row) only = only
+
+-- the row that an id leads to, to which a key led, is the only one of the key
+pub led_only : (key doc high : ℕ) (rows : List Row) (found : Option (Bor Kept)) → RowsAscend 0 high rows → docs (with_key key rows) ≡ doc ∷ [] → option_map row_of (option_copied found) ≡ row_with_id doc rows
+    → MatchOption found (with_key key rows ≡ []) (λ row. with_key key rows ≡ row_of row.now ∷ [])
+led_only key doc high rows found ids one is =
+    copied (with_key key rows) found (only_one (with_key key rows) doc (option_map row_of (option_copied found)) one (is ∙ led_found key doc 0 high rows ids one ∙ found_first key rows))

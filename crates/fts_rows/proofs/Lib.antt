@@ -1,6 +1,9 @@
 pub mod Ids
 pub mod Slotted
 pub mod Keys
+pub mod Deaths
+pub mod Once
 pub mod Adding
 pub mod Drafting
 pub mod Turning
+pub mod Setting

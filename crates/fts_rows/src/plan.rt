@@ -1,71 +1,76 @@
-ghost use Rattle.std.specs.Prelude.{◌≡◌, [], ◌∷◌, ◌++◌, map, OnOk};
-ghost use Rattle.fts_commits.specs.Commit.{Rows as RowList, has_key};
-ghost use Rattle.fts_commits.specs.Turn.{turn_between};
+ghost use Rattle.std.specs.Prelude.{◌≡◌, ◌++◌, map};
+ghost use Rattle.fts_commits.specs.Commit.{Rows as RowList};
+ghost use Rattle.fts_commits.specs.Turn.{Turn, rows_but, turn_between};
+ghost use Rattle.fts_ids.specs.Ids.{Ascend};
 ghost use Rattle.fts_types.specs.Row.{row_of};
 ghost use Rattle.fts_rows.specs.Rows.{Held, rows_of};
 ghost use Rattle.fts_rows.specs.Plan.{PlanFor};
 
-use fts_types::{DocId, Key, Row};
-use std::alloc::{AllocError, Global};
-use std::collections::HashSet;
+use fts_types::{DocId, Row};
 use std::marker::Model;
 
-/// What a commit does to the rows: the rows that it adds, and the largest document id that is used
-/// after it.
+/// What a commit does to the rows: the rows that are born, the document ids that die, and the
+/// largest id that is used after it.
 #[derive(Drop)]
 pub struct Plan {
-    // By ascending ids.
+    // By ascending ids, as the next.
     births: Vec<Row>,
-    // The keys of these.
-    keys: HashSet<Key>,
+    deaths: Vec<DocId>,
     largest: DocId,
 }
 
 impl Model for Plan {
-    ghost use Rattle.std.specs.Prelude.{◌≡◌, ℕ, map, nat_eq};
-    ghost use Rattle.std.specs.HashSet.{contains};
-    ghost use Rattle.fts_commits.specs.Commit.{has_key};
+    ghost use Rattle.std.specs.Prelude.{map};
+    ghost use Rattle.fts_commits.specs.Turn.{Turn};
     ghost use Rattle.fts_types.specs.Row.{row_of};
-    ghost use Rattle.fts_rows.specs.Plan.{Planned};
 
-    ghost Value = { Planned };
+    ghost Value = { Turn };
 
-    ghost view = { λ p. record { births = map row_of p.births.items; largest = p.largest } };
-
-    ghost invariant = { λ p. (key : ℕ)
-        → contains nat_eq p.keys key ≡ has_key key (map row_of p.births.items) };
+    ghost view = { λ p. record {
+      births = map row_of p.births.items;
+      deaths = p.deaths.items;
+      largest = p.largest;
+    } };
 }
 
 impl Plan {
-    /// A plan that adds nothing to rows whose largest id is this.
-    pub(crate) fn new(alloc: Global, largest: DocId) -> Self
-        ensures { result ≡ record { births = []; largest = largest } }
+    /// The plan of a turn, by its parts.
+    pub(crate) fn new(births: Vec<Row>, deaths: Vec<DocId>, largest: DocId) -> Self
+        ensures { result ≡ record {
+          births = map row_of births.items;
+          deaths = deaths.items;
+          largest = largest;
+        } }
     {
         Plan {
-            births: Vec::new(alloc),
-            keys: HashSet::new(alloc),
+            births,
+            deaths,
             largest,
         }
     }
 
-    /// The rows that the commit adds behind all others, by ascending ids.
+    /// The rows that the commit adds behind all others, by ascending ids. One that a later change
+    /// of it takes out again is not among them.
     pub fn births(&self) -> &[Row]
         ensures births { map row_of result.now ≡ self.now.births }
         ensures added { (held : Held) (after : RowList) → PlanFor held self.now after
-            → after.list ≡ (rows_of held).list ++ map row_of result.now }
+            → after.list
+            ≡ rows_but self.now.deaths (rows_of held).list ++ map row_of result.now }
         ensures born { (held : Held) (after : RowList) → PlanFor held self.now after
             → map row_of result.now ≡ (turn_between (rows_of held) after).births }
     {
         &self.births
     }
 
-    /// The document ids that die in the commit, ascending: none, since each of its changes adds a
-    /// row.
+    /// The document ids of the rows that stood before the commit and go in it, ascending.
     pub fn deaths(&self) -> &[DocId]
+        ensures deaths { result.now ≡ self.now.deaths }
         ensures died { (held : Held) (after : RowList) → PlanFor held self.now after
             → result.now ≡ (turn_between (rows_of held) after).deaths }
+        ensures ascend { (held : Held) (after : RowList) → PlanFor held self.now after
+            → Ascend result.now }
     {
-        &[]
+        &self.deaths
     }
 
     /// The largest id that is used after the commit.
@@ -75,36 +80,17 @@ impl Plan {
         self.largest
     }
 
-    /// Whether a row that is added has the key.
-    pub(crate) fn has(&self, key: Key) -> bool
-        ensures { result ≡ has_key key self.now.births }
-    {
-        self.keys.contains(&key)
-    }
-
-    /// Adds a row.
-    pub(crate) fn add(&mut self, row: Row) -> Result<(), AllocError>
-        ensures { OnOk result (self.new
-            ≡ record { births = self.old.births ++ row_of row ∷ []; largest = row.doc }) }
-    {
-        self.keys.reserve(1)?;
-        self.births.reserve(1)?;
-        self.largest = row.doc;
-        self.keys.insert(row.key).unwrap();
-        self.births.push_reserved(row);
-        Ok(())
-    }
-
-    /// The rows that the commit adds, and the largest id that is used after it.
-    pub(crate) fn into_parts(self) -> (Vec<Row>, DocId)
+    /// The rows that are born, the ids that die, and the largest id that is used after the commit.
+    pub(crate) fn into_parts(self) -> (Vec<Row>, Vec<DocId>, DocId)
         ensures births { map row_of result.0.items ≡ self.births }
-        ensures largest { result.1 ≡ self.largest }
+        ensures deaths { result.1.items ≡ self.deaths }
+        ensures largest { result.2 ≡ self.largest }
     {
         let Plan {
             births,
+            deaths,
             largest,
-            ..
         } = self;
-        (births, largest)
+        (births, deaths, largest)
     }
 }

@@ -1,15 +1,17 @@
 ghost use Rattle.std.specs.Prelude.{◌≡◌, ◌+◌, ◌<◌, ◌≤◌, ◌↔◌, [], ◌∷◌, ◌++◌, false, length, IsTrue};
-ghost use Rattle.std.specs.Prelude.{OnOk};
+ghost use Rattle.std.specs.Prelude.{IfOk, MatchOption, OnOk, map};
 ghost use Rattle.std.specs.Arc.{arc_value};
 ghost use Rattle.std.specs.Option.{option_copied, option_map};
-ghost use Rattle.fts_commits.specs.Commit.{Rows as RowList, no_rows, has_key, without_key};
-ghost use Rattle.fts_commits.specs.Turn.{RowsAscend};
+ghost use Rattle.fts_commits.specs.Commit.{Rows as RowList, no_rows, has_key, with_key};
+ghost use Rattle.fts_commits.specs.Commit.{without_key};
+ghost use Rattle.fts_commits.specs.Turn.{RowsAscend, rows_but};
 ghost use Rattle.fts_types.specs.Row.{row_of};
 ghost use Rattle.fts_rows.specs.Rows.{rows_of, limits_of, row_with_key, texts_with_id};
-ghost use Rattle.fts_rows.specs.Plan.{PlanFor};
+ghost use Rattle.fts_rows.specs.Rows.{without_id};
+ghost use Rattle.fts_rows.specs.Plan.{HaveKeysOnce, PlanFor};
 
 use crate::plan::Plan;
-use crate::slots::{Slots, compact, push_row, row_at, take_row};
+use crate::slots::{Slots, compact, push_row, row_at, rows_of_slots, take_row};
 use fts_types::{DocId, Key, Limits, Row, RowTexts};
 use indexmap::IndexMap;
 use std::alloc::{AllocError, Global};
@@ -105,11 +107,33 @@ impl Rows {
         self.docs.is_empty()
     }
 
-    /// Whether a row has the key.
-    pub(crate) fn has(&self, key: Key) -> bool
-        ensures { result ≡ has_key key (rows_of self.now).list }
+    /// An empty table, for rows with ids above all that were used here. Its rows will lie in the
+    /// same memory.
+    pub(crate) fn behind(&self) -> Self
+        ensures rows { rows_of result
+            ≡ record { list = []; largest = (rows_of self.now).largest } }
+        ensures keys { HaveKeysOnce (rows_of self.now).list }
+        ensures ascend { RowsAscend 0 (rows_of self.now).largest (rows_of self.now).list }
     {
-        self.docs.contains_key(&key)
+        Rows {
+            alloc: self.alloc,
+            slots: IndexMap::new(self.alloc),
+            docs: HashMap::new(self.alloc),
+            largest: self.largest,
+            limits: self.limits,
+        }
+    }
+
+    /// The only row with this key, in constant time.
+    pub(crate) fn find(&self, key: Key) -> Option<&Row>
+        ensures row { MatchOption result (with_key key (rows_of self.now).list ≡ [])
+            (λ row. with_key key (rows_of self.now).list ≡ row_of row.now ∷ []) }
+        ensures ascend { RowsAscend 0 (rows_of self.now).largest (rows_of self.now).list }
+    {
+        match self.docs.get(&key) {
+            Some(doc) => row_at(&self.slots, *doc),
+            None => None,
+        }
     }
 
     /// The row with this key, in constant time.
@@ -150,7 +174,7 @@ impl Rows {
     }
 
     /// Puts a row behind the others.
-    fn push(&mut self, row: Row)
+    pub(crate) fn push(&mut self, row: Row)
         requires room { 0 < self.old.room }
         requires key { has_key row.key (rows_of self.old).list ≡ false }
         requires id { (rows_of self.old).largest < row.doc }
@@ -184,17 +208,70 @@ impl Rows {
         }
     }
 
+    /// Takes the row with this document id out, if there is one.
+    fn remove_id(&mut self, doc: DocId)
+        ensures rows { rows_of self.new ≡ record {
+          list = without_id doc (rows_of self.old).list;
+          largest = (rows_of self.old).largest;
+        } }
+        ensures limits { limits_of self.new ≡ limits_of self.old }
+        ensures room { self.old.room ≤ self.new.room }
+    {
+        let key = match row_at(&self.slots, doc) {
+            Some(row) => row.key,
+            None => return,
+        };
+        self.remove(key);
+    }
+
+    /// Takes the rows with these document ids out.
+    fn remove_all(&mut self, docs: &[DocId])
+        ensures rows { rows_of self.new ≡ record {
+          list = rows_but docs.now (rows_of self.old).list;
+          largest = (rows_of self.old).largest;
+        } }
+        ensures limits { limits_of self.new ≡ limits_of self.old }
+        ensures room { self.old.room ≤ self.new.room }
+    {
+        for doc in docs {
+            self.remove_id(*doc);
+        }
+    }
+
+    /// Puts rows behind the others, and notes the largest id that is used then.
+    fn push_all(&mut self, births: Vec<Row>, largest: DocId)
+        requires room { length births.items ≤ self.old.room }
+        requires keys { HaveKeysOnce ((rows_of self.old).list ++ map row_of births.items) }
+        requires ids { RowsAscend (rows_of self.old).largest largest (map row_of births.items) }
+        ensures rows { rows_of self.new ≡ record {
+          list = (rows_of self.old).list ++ map row_of births.items;
+          largest = largest;
+        } }
+        ensures limits { limits_of self.new ≡ limits_of self.old }
+    {
+        for row in births {
+            self.push(row);
+        }
+        self.largest = largest;
+    }
+
     /// Does to the rows what was planned for them. It takes no memory, and constant time for each
-    /// row.
+    /// row that is born or dies.
     pub fn install(&mut self, plan: Plan)
         requires { (after : RowList) × PlanFor self.old plan after }
         ensures rows { (after : RowList) → PlanFor self.old plan after → rows_of self.new ≡ after }
         ensures limits { limits_of self.new ≡ limits_of self.old }
     {
-        let (births, largest) = plan.into_parts();
-        for row in births {
-            self.push(row);
-        }
-        self.largest = largest;
+        let (births, deaths, largest) = plan.into_parts();
+        self.remove_all(&deaths);
+        self.push_all(births, largest);
+    }
+
+    /// The rows, by ascending ids.
+    pub(crate) fn into_rows(self) -> Result<Vec<Row>, AllocError>
+        ensures { IfOk result (λ rows. map row_of rows.items ≡ (rows_of self).list) }
+    {
+        let Rows { alloc, slots, .. } = self;
+        rows_of_slots(alloc, slots)
     }
 }

@@ -1,5 +1,5 @@
 //! Where the rows stand, by ascending document ids.
-ghost use Rattle.std.specs.Prelude.{◌≡◌, ◌+◌, ◌<◌, ◌≤◌, ℕ, [], ◌∷◌, ◌++◌, is_some};
+ghost use Rattle.std.specs.Prelude.{◌≡◌, ◌+◌, ◌<◌, ◌≤◌, ℕ, [], ◌∷◌, ◌++◌, IfOk, is_some, map};
 ghost use Rattle.std.specs.Option.{option_copied, option_map};
 ghost use Rattle.std.specs.HashMap.{spare};
 ghost use Rattle.fts_types.specs.Row.{row_of};
@@ -8,6 +8,7 @@ ghost use Rattle.fts_rows.specs.Slots.{AreSlots, rows_in};
 
 use fts_types::{DocId, Row};
 use indexmap::IndexMap;
+use std::alloc::{AllocError, Global};
 
 /// For each document id that was given its row, or none where it was taken out, by ascending ids.
 pub(crate) type Slots = IndexMap<DocId, Option<Row>>;
@@ -68,4 +69,17 @@ pub(crate) fn compact(slots: &mut Slots)
             ensures full { result ≡ is_some slot.old }
         { slot.is_some() },
     );
+}
+
+/// The rows in the slots, by ascending ids.
+pub(crate) fn rows_of_slots(alloc: Global, slots: Slots) -> Result<Vec<Row>, AllocError>
+    ensures { IfOk result (λ rows. map row_of rows.items ≡ rows_in slots.entries) }
+{
+    let mut rows = Vec::new(alloc);
+    for (_doc, slot) in slots {
+        if let Some(row) = slot {
+            rows.push(row)?;
+        }
+    }
+    Ok(rows)
 }

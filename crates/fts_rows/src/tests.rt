@@ -1,6 +1,3 @@
-ghost use Rattle.std.specs.Prelude.{All, IfOk};
-ghost use Rattle.fts_commits.specs.Fits.{IsPlainInsert};
-
 use super::*;
 use fts_commits::{Change, Refusal};
 use fts_types::{DocId, Key, Limits, RowTexts, SharedTexts};
@@ -18,17 +15,13 @@ fn texts_of(alloc: Global, lengths: &[usize]) -> Result<SharedTexts, AllocError>
 }
 
 /// The INSERT of a row.
-fn insert(key: Key, texts: SharedTexts) -> Change
-    ensures { IsPlainInsert result }
-{
+fn insert(key: Key, texts: SharedTexts) -> Change {
     let doc = None;
     Change::Insert { key, doc, texts }
 }
 
 /// INSERTs of these keys, each with a text as long as the key's last two digits say.
-fn inserts(alloc: Global, keys: &[Key]) -> Result<Vec<Change>, AllocError>
-    ensures { IfOk result (λ changes. All IsPlainInsert changes.items) }
-{
+fn inserts(alloc: Global, keys: &[Key]) -> Result<Vec<Change>, AllocError> {
     let mut changes = Vec::new(alloc);
     for key in keys {
         let texts = texts_of(alloc, &[(*key % 100) as usize])?;
@@ -43,9 +36,7 @@ fn refused(refusal: Refusal) -> PlanError {
 }
 
 /// Plans and installs.
-fn commit(rows: &mut Rows, changes: &[Change]) -> Result<(), PlanError>
-    requires inserts { All IsPlainInsert changes.now }
-{
+fn commit(rows: &mut Rows, changes: &[Change]) -> Result<(), PlanError> {
     let plan = rows.plan(changes)?;
     rows.install(plan);
     Ok(())

@@ -32,6 +32,9 @@ plan_commit-requires-clause-births c =
     (births_lower kept.index.cache.last (rows_of held).largest c.in-Ok.plan.largest c.in-Ok.plan.births
     (omega (arith, last, ap (λ (rows : Rows). rows.largest) c.in-Ok.ensures.rows)) births))
 
+pub plan_commit-requires-clause-ascending : goal.plan_commit-requires-clause-ascending
+plan_commit-requires-clause-ascending c = c.deaths.ensures.ascend c.plan.new.self c.in-Ok.ensures.planned.0 c.in-Ok.ensures.planned.2
+
 pub invariant_of-self-2 : goal.invariant_of-self-2
 invariant_of-self-2 c =
     let kept = c.args.self.now in
