@@ -3,7 +3,7 @@ use Rattle.std.proofs.Common.{◌≡◌, ℕ, ◌+◌, ◌-◌, ◌<◌, List, [
 use Rattle.std.proofs.lemmas.List.{take_at, drop_at, drop_all, length-take, length-take-le}
 use borrow.Rule.Slice.PartMut.{put_mid}
 use Rattle.fts_log.specs.Framing.{inner}
-use Rattle.fts_rowcodec.specs.Writing.{Puts}
+use Rattle.fts_codec.specs.Writing.{Puts}
 
 module _ (payload old sub new : List ℕ) (n : ℕ) (room : length old ≡ length payload + 5)
     (put : Puts payload (take (length old - 4) (drop 4 old)) sub n) (is : new ≡ put_mid 4 (length old - 4) old sub) where

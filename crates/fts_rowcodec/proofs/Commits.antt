@@ -1,5 +1,5 @@
 -- What is read is spelled so, and what is spelled so is read: commits.
-use Rattle.std.proofs.Common.{◌≡◌, ℕ, suc, ◌≤◌, ◌<◌, ◌^◌, true, cond, eqb, List, [], ◌∷◌, ◌++◌, length, Some, None, Result, Ok, Err, ◌⊎◌, inl, inr, refl, sym, ap, subst, ◌∙◌, arith}
+use Rattle.std.proofs.Common.{◌≡◌, ℕ, ◌≤◌, ◌<◌, ◌^◌, true, cond, eqb, List, [], ◌∷◌, ◌++◌, length, Some, None, Result, Ok, Err, ◌⊎◌, inl, inr, refl, sym, ap, subst, ◌∙◌, arith}
 use Rattle.std.specs.Prelude.{IfOk}
 use Rattle.std.specs.List.{flat_map, list_all}
 use Rattle.std.specs.Int.{w16, w64, to_be_bytes, is_in_range}
@@ -12,16 +12,10 @@ use Rattle.fts_commits.specs.declared.change.Change.TheVariants.{Insert, Update,
 use Rattle.fts_rowcodec.specs.Payload.{IsWritten, text_payload, change_payload, commit_payload}
 use Rattle.fts_rowcodec.specs.declared.error.DecodeError.{DecodeError}
 use Rattle.fts_rowcodec.specs.declared.error.DecodeError.TheVariants.{NoMemory, Bad}
-use Rattle.fts_rowcodec.specs.Reading.{Gives, ◌>>=◌, behind_at, number_at, piece_at, many_at, text_at, key_at, change_at, count_at, commit_of, IsRowText, IsRowChange}
-use Rattle.fts_rowcodec.proofs.Spelled.{IsBytes, bind_some, passed, some_is, Takes, takes_both, Spells, number16, number64, piece_takes, piece_again, many_take, many_again}
+use Rattle.fts_codec.specs.Reading.{◌>>=◌, behind_at, number_at, piece_at, many_at}
+use Rattle.fts_rowcodec.specs.Reading.{Gives, text_at, key_at, change_at, count_at, commit_of, IsRowText, IsRowChange}
+use Rattle.fts_codec.proofs.Spelled.{IsBytes, byte_takes, bind_some, passed, some_is, Takes, takes_both, Spells, number16, number64, piece_takes, piece_again, many_take, many_again}
 use Rattle.fts_rowcodec.proofs.Bounds.{row_changes}
-
--- a byte that is given
-pub byte_takes : (byte : ℕ) (bytes rest : List ℕ) → IsBytes bytes → behind_at byte bytes ≡ Some rest → Takes bytes (byte ∷ []) rest
-byte_takes byte [] rest fits e = absurd cc
-byte_takes byte (first ∷ bytes) rest fits e =
-    let g = passed (eqb first byte) bytes rest e in
-    (ap (λ (b : ℕ). b ∷ bytes) (eqb-true first byte g.0) ∙ ap (λ (r : List ℕ). byte ∷ r) g.1, λ i. rw (← g.1) (fits (suc i)))
 
 text_takes : (bytes text rest : List ℕ) → IsBytes bytes → text_at bytes ≡ Some (text, rest) → IsRowText text × Takes bytes (text_payload text) rest
 unfolding text_at

@@ -8,9 +8,9 @@ use Rattle.fts_types.specs.declared.settings.Settings.{Settings}
 use Rattle.fts_rowcodec.specs.Payload.{column_payload, flag_payload, numbers_payload, settings_payload}
 use Rattle.fts_rowcodec.specs.declared.error.DecodeError.{DecodeError}
 use Rattle.fts_rowcodec.specs.declared.error.DecodeError.TheVariants.{NoMemory, Bad}
-use Rattle.fts_rowcodec.specs.Reading.{Gives, ◌>>=◌, number_at, name_at, flag_of, sizes_at, with_numbers, settings_of, names_at, FitNumbers, behind_at}
-use Rattle.fts_rowcodec.proofs.Spelled.{IsBytes, bind_some, bind_again, passed, some_is, Takes, takes_both, Spells, number16, number32, piece_takes, piece_again, many_take, many_again}
-use Rattle.fts_rowcodec.proofs.Commits.{byte_takes}
+use Rattle.fts_codec.specs.Reading.{◌>>=◌, number_at, behind_at}
+use Rattle.fts_rowcodec.specs.Reading.{Gives, name_at, flag_of, sizes_at, with_numbers, settings_of, names_at, FitNumbers}
+use Rattle.fts_codec.proofs.Spelled.{IsBytes, byte_takes, bind_some, bind_again, passed, some_is, Takes, takes_both, Spells, number16, number32, piece_takes, piece_again, many_take, many_again}
 
 abbrev AnyName : List ℕ → Type 0
 AnyName name = Unit {0}

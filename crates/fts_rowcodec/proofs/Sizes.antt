@@ -5,7 +5,7 @@ use Rattle.std.specs.Int.{w16, to_be_bytes}
 use Rattle.std.specs.List.{flat_map}
 use Rattle.std.proofs.lemmas.List.{length-append}
 use Rattle.std.proofs.lemmas.List.Sums.{sum_by-cons}
-use Rattle.std.proofs.lemmas.List.Elements.{All-head, All-tail}
+use Rattle.fts_codec.proofs.Puts.{pieces_size}
 use Rattle.fts_types.specs.declared.settings.Settings.{Settings}
 use Rattle.fts_types.specs.Settings.{AreSettings}
 use Rattle.fts_commits.specs.Commit.{Commit}
@@ -28,14 +28,6 @@ pub settings_length : (settings : Settings) → length (settings_payload setting
 settings_length settings =
     let numbers : length (numbers_payload settings) ≡ 13 = refl in
     omega (arith, names_length settings.columns, length-append (flat_map column_payload settings.columns) (numbers_payload settings))
-
--- pieces of at most so many bytes each
-pieces_size : {X : Type 0} (f : X → List ℕ) (most : ℕ) (xs : List X) → All (λ x. length (f x) ≤ most) xs → length (flat_map f xs) ≤ length xs * most
-pieces_size f most [] each = omega arith
-pieces_size {X = X} f most (x ∷ xs) each =
-    let first : length (f x) ≤ most = All-head (λ (y : X). length (f y) ≤ most) x xs each in
-    let later : length (flat_map f xs) ≤ length xs * most = pieces_size f most xs (All-tail (λ (y : X). length (f y) ≤ most) x xs each) in
-    omega (arith, length-append (f x) (flat_map f xs))
 
 -- the payload of settings has at most 279 bytes
 pub settings_size : (settings : Settings) → AreSettings settings → length (settings_payload settings) ≤ 279

@@ -6,7 +6,7 @@ use Rattle.fts_commits.specs.Commit.{Commit}
 use Rattle.fts_rowcodec.specs.Payload.{IsWritten, commit_payload, settings_payload}
 use Rattle.fts_rowcodec.specs.Reading.{commit_of, settings_of}
 use Rattle.fts_rowcodec.proofs.Bounds.{numbers_fit}
-use Rattle.fts_rowcodec.proofs.Spelled.{some_is}
+use Rattle.fts_codec.proofs.Spelled.{some_is}
 use Rattle.fts_rowcodec.proofs.Commits.{commit_again}
 use Rattle.fts_rowcodec.proofs.SettingsRead.{settings_again}
 

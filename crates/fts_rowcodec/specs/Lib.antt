@@ -1,4 +1,3 @@
 pub mod Payload
 pub mod DecodeError
 pub mod Reading
-pub mod Writing

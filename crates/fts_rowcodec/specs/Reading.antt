@@ -1,8 +1,9 @@
--- Reading from left to right: a value and the bytes behind it, or nothing where none is spelled there.
-use Rattle.std.specs.Prelude.{◌≡◌, ℕ, zero, suc, ◌<◌, ◌^◌, Bool, true, false, if◌then◌else◌, ◌==◌, nat_lt, List, []}
-use Rattle.std.specs.Prelude.{◌∷◌, length, take, drop, Option, Some, None, Result, Ok, Err}
+-- Reading commits and settings from left to right.
+use Rattle.std.specs.Prelude.{◌≡◌, ℕ, zero, suc, ◌<◌, ◌^◌, Bool, true, false, if◌then◌else◌, ◌==◌, List, [], ◌∷◌, length}
+use Rattle.std.specs.Prelude.{Option, Some, None, Result, Ok, Err}
 use Rattle.std.specs.List.{list_all}
-use Rattle.std.specs.Int.{Width, w16, w32, w64, byte_len, from_be_bytes, is_in_range}
+use Rattle.std.specs.Int.{w16, w32, w64, is_in_range}
+use Rattle.fts_codec.specs.Reading.{◌>>=◌, behind_at, number_at, piece_at, many_at}
 use Rattle.fts_types.specs.declared.settings.Settings.{Settings}
 use Rattle.fts_commits.specs.Commit.{Commit}
 use Rattle.fts_commits.specs.Text.{is_text_byte}
@@ -13,17 +14,7 @@ use Rattle.fts_rowcodec.specs.Payload.{FitsText, FitsBytes}
 use Rattle.fts_rowcodec.specs.declared.error.DecodeError.{DecodeError}
 use Rattle.fts_rowcodec.specs.declared.error.DecodeError.TheVariants.{NoMemory, Bad}
 
-infixl 10 ◌>>=◌
-abbrev pub ◌>>=◌ : {A B : Type 0} → Option A → (A → Option B) → Option B
-(Some x) >>= f = f x
-None >>= f = None
-
--- what a reader returned, seen by view, is what reading gives
-abbrev pub Finds : {X Y : Type 0} → (X → Y) → Option X → Option Y → Type 0
-Finds view (Some x) read = read ≡ Some (view x)
-Finds view None read = read ≡ None
-
--- the same of a reader that takes memory, unless it ran out
+-- what a reader that takes memory returned, seen by view, is what reading gives, unless it ran out
 abbrev pub Lacks : {Y : Type 0} → DecodeError → Option Y → Type 0
 Lacks NoMemory read = Unit {0}
 Lacks Bad read = read ≡ None
@@ -31,29 +22,6 @@ Lacks Bad read = read ≡ None
 abbrev pub Gives : {X Y : Type 0} → (X → Y) → Result X DecodeError → Option Y → Type 0
 Gives view (Ok x) read = read ≡ Some (view x)
 Gives view (Err e) read = Lacks e read
-
--- what stands behind this byte
-abbrev pub behind_at : ℕ → List ℕ → Option (List ℕ)
-behind_at byte [] = None
-behind_at byte (first ∷ rest) = if first == byte then Some rest else None
-
--- a number of this width
-abbrev pub number_at : Width → List ℕ → Option (ℕ × List ℕ)
-number_at w bytes =
-    if nat_lt (length bytes) (byte_len w) then None
-    else Some (from_be_bytes w (take (byte_len w) bytes), drop (byte_len w) bytes)
-
--- so many bytes
-abbrev pub piece_at : ℕ → List ℕ → Option (List ℕ × List ℕ)
-piece_at count bytes = if nat_lt (length bytes) count then None else Some (take count bytes, drop count bytes)
-
--- so many values, one behind another
-unfoldable pub many_at : {X : Type 0} → (List ℕ → Option (X × List ℕ)) → ℕ → List ℕ → Option (List X × List ℕ)
-many_at one zero bytes = Some ([], bytes)
-many_at one (suc count) bytes = do
-  first ← one bytes
-  others ← many_at one count first.1
-  Some (first.0 ∷ others.0, others.1)
 
 -- a text
 unfoldable pub text_at : List ℕ → Option (List ℕ × List ℕ)

@@ -5,11 +5,12 @@ ghost use Rattle.std.specs.Int.{is_in_range};
 ghost use Rattle.fts_commits.specs.Commit.{Commit};
 ghost use Rattle.fts_commits.specs.Text.{is_text_byte};
 ghost use Rattle.fts_rowcodec.specs.Payload.{IsWritten, commit_payload};
-ghost use Rattle.fts_rowcodec.specs.Reading.{Finds, Gives, many_at, text_at, key_at, change_at};
+ghost use Rattle.fts_codec.specs.Reading.{Finds, many_at};
+ghost use Rattle.fts_rowcodec.specs.Reading.{Gives, text_at, key_at, change_at};
 ghost use Rattle.fts_rowcodec.specs.Reading.{count_at, commit_of};
 
 use crate::error::DecodeError;
-use crate::front::{behind, bytes_at, u16_at, u64_at};
+use fts_codec::{behind, bytes_at, u16_at, u64_at};
 use fts_commits::{Change, Changes, is_text_byte};
 use fts_types::{RowTexts, SharedTexts};
 use std::alloc::Global;

@@ -2,10 +2,11 @@ ghost use Rattle.std.specs.Prelude.{◌≡◌, ◌<◌, ◌≤◌, ◌^◌, ◌�
 ghost use Rattle.std.specs.Int.{w16, to_be_bytes};
 ghost use Rattle.fts_types.specs.Settings.{AreSettings};
 ghost use Rattle.fts_rowcodec.specs.Payload.{FitsBytes, commit_payload, settings_payload};
-ghost use Rattle.fts_rowcodec.specs.Writing.{Puts};
+ghost use Rattle.fts_codec.specs.Writing.{Puts};
 
 use crate::measure::{commit_size, settings_size};
-use crate::writing::{put_bytes, put_change, put_columns, put_numbers, put_u8, put_u16};
+use crate::writing::{put_change, put_columns, put_numbers};
+use fts_codec::{put_bytes, put_u8, put_u16};
 use fts_commits::Change;
 use fts_types::Settings;
 use std::alloc::{AllocError, Global};

@@ -11,7 +11,6 @@
 mod commit;
 mod encode;
 mod error;
-mod front;
 mod measure;
 mod settings;
 mod writing;

@@ -3,11 +3,12 @@ ghost use Rattle.std.specs.Prelude.{◌≡◌, ◌⊎◌, IfOk, Ok, Err};
 ghost use Rattle.fts_types.specs.Settings.{AreSettings};
 ghost use Rattle.fts_types.specs.declared.settings.Settings.{Settings};
 ghost use Rattle.fts_rowcodec.specs.Payload.{settings_payload};
-ghost use Rattle.fts_rowcodec.specs.Reading.{Finds, Gives, many_at, name_at, names_at, flag_of};
+ghost use Rattle.fts_codec.specs.Reading.{Finds, many_at};
+ghost use Rattle.fts_rowcodec.specs.Reading.{Gives, name_at, names_at, flag_of};
 ghost use Rattle.fts_rowcodec.specs.Reading.{sizes_at, with_numbers, settings_of};
 
 use crate::error::DecodeError;
-use crate::front::{behind, bytes_at, u16_at, u32_at};
+use fts_codec::{behind, bytes_at, u16_at, u32_at};
 use fts_types::{Names, Settings};
 use std::alloc::Global;
 

@@ -1,6 +1,8 @@
 use Rattle.std.proofs.lemmas.Result.{err_from_is_err_and}
-use Rattle.fts_rowcodec.specs.Reading.{many_at, change_at}
-use Rattle.fts_rowcodec.proofs.Loop.{begins, goes_on, ends, is_done}
+use Rattle.fts_codec.specs.Reading.{many_at}
+use Rattle.fts_rowcodec.specs.Reading.{change_at}
+use Rattle.fts_codec.proofs.Loop.{begins, goes_on, is_done}
+use Rattle.fts_rowcodec.proofs.Loop.{ends}
 use Rattle.fts_rowcodec.proofs.commit.changes_at.Goals as goal
 
 pub loop-init : goal.loop-init

@@ -1,6 +1,7 @@
 use Rattle.std.proofs.Common.{◌≡◌, ◌-◌}
-use Rattle.fts_rowcodec.specs.Reading.{many_at, change_at}
-use Rattle.fts_rowcodec.proofs.Loop.{with_front}
+use Rattle.fts_codec.specs.Reading.{many_at}
+use Rattle.fts_rowcodec.specs.Reading.{change_at}
+use Rattle.fts_codec.proofs.Loop.{with_front}
 use Rattle.fts_rowcodec.proofs.commit.changes_at.Given as goal
 
 abbrev pub invariant-loop : goal.invariant-loop

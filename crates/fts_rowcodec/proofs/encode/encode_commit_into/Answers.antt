@@ -2,8 +2,8 @@ use Rattle.std.proofs.Common.{◌∷◌, length, refl, subst}
 use Rattle.std.specs.Int.{w16, to_be_bytes}
 use Rattle.fts_commits.specs.declared.change.Change.{Change}
 use Rattle.fts_rowcodec.specs.Payload.{change_payload}
-use Rattle.fts_rowcodec.specs.Writing.{Puts}
-use Rattle.fts_rowcodec.proofs.Puts.{left_of, next_room, next_put}
+use Rattle.fts_codec.specs.Writing.{Puts}
+use Rattle.fts_codec.proofs.Puts.{left_of, next_room, next_put}
 use Rattle.fts_rowcodec.proofs.encode.encode_commit_into.Goals as goal
 
 pub put_change-at-requires-clause-room : goal.put_change-at-requires-clause-room

@@ -2,7 +2,7 @@ use Rattle.std.proofs.Common.{◌∷◌, ◌++◌, length, take}
 use Rattle.std.specs.List.{flat_map}
 use Rattle.std.specs.Int.{w16, to_be_bytes}
 use Rattle.fts_rowcodec.specs.Payload.{change_payload}
-use Rattle.fts_rowcodec.specs.Writing.{Puts}
+use Rattle.fts_codec.specs.Writing.{Puts}
 use Rattle.fts_rowcodec.proofs.encode.encode_commit_into.Given as goal
 
 abbrev pub invariant-loop-change : goal.invariant-loop-change

@@ -1,7 +1,7 @@
 use Rattle.std.proofs.Common.{[], ◌∷◌, ◌++◌, ◌+◌, refl, length-append, arith}
 use Rattle.std.specs.List.{flat_map}
 use Rattle.fts_rowcodec.specs.Payload.{column_payload, numbers_payload}
-use Rattle.fts_rowcodec.proofs.Puts.{puts_both}
+use Rattle.fts_codec.proofs.Puts.{puts_both}
 use Rattle.fts_rowcodec.proofs.encode.encode_settings_into.Goals as goal
 
 pub returns : goal.returns

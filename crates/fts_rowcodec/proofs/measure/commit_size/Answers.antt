@@ -1,6 +1,6 @@
 use Rattle.std.proofs.Common.{◌<◌, ◌^◌, length, arith}
 use Rattle.fts_rowcodec.specs.Payload.{change_payload}
-use Rattle.fts_rowcodec.proofs.Puts.{piece_short, front_within}
+use Rattle.fts_codec.proofs.Puts.{piece_short, front_within}
 use Rattle.fts_rowcodec.proofs.measure.commit_size.Goals as goal
 
 pub change_size-size-requires : goal.change_size-size-requires

@@ -1,6 +1,6 @@
 use Rattle.std.proofs.Common.{None, arith}
 use Rattle.fts_rowcodec.specs.Payload.{new_payload}
-use Rattle.fts_rowcodec.proofs.Puts.{pieces_within}
+use Rattle.fts_codec.proofs.Puts.{pieces_within}
 use Rattle.fts_rowcodec.proofs.measure.new_texts_size.Goals as goal
 
 pub overflow_add-size : goal.overflow_add-size

@@ -1,5 +1,6 @@
-use Rattle.fts_rowcodec.specs.Reading.{many_at, name_at}
-use Rattle.fts_rowcodec.proofs.Loop.{begins, goes_on, no_more, is_done}
+use Rattle.fts_codec.specs.Reading.{many_at}
+use Rattle.fts_rowcodec.specs.Reading.{name_at}
+use Rattle.fts_codec.proofs.Loop.{begins, goes_on, no_more, is_done}
 use Rattle.fts_rowcodec.proofs.settings.many_names.Goals as goal
 
 pub loop-init : goal.loop-init

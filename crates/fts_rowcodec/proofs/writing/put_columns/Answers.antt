@@ -1,6 +1,6 @@
 use Rattle.std.proofs.Common.{[], refl, arith}
 use Rattle.fts_rowcodec.specs.Payload.{column_payload}
-use Rattle.fts_rowcodec.proofs.Puts.{next_room, next_put}
+use Rattle.fts_codec.proofs.Puts.{next_room, next_put}
 use Rattle.fts_rowcodec.proofs.writing.put_columns.Goals as goal
 
 pub put_column-at-requires-clause-room : goal.put_column-at-requires-clause-room

@@ -1,7 +1,7 @@
 use Rattle.std.proofs.Common.{take}
 use Rattle.std.specs.List.{flat_map}
 use Rattle.fts_rowcodec.specs.Payload.{new_payload}
-use Rattle.fts_rowcodec.specs.Writing.{Puts}
+use Rattle.fts_codec.specs.Writing.{Puts}
 use Rattle.fts_rowcodec.proofs.writing.put_new_texts.Given as goal
 
 abbrev pub invariant-loop-place : goal.invariant-loop-place

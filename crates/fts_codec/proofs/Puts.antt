@@ -1,10 +1,12 @@
 -- What is put into a buffer, one behind another.
 use Rattle.std.proofs.Common.{◌≡◌, ℕ, ◌+◌, ◌-◌, ◌<◌, ◌≤◌, List, [], ◌∷◌, ◌++◌, length, get_or, take, drop, sym, ap, ◌∙◌, append_assoc, append-nil, length-append, length-drop, arith}
+use Rattle.std.specs.Prelude.{◌*◌, All}
+use Rattle.std.proofs.lemmas.List.Elements.{All-head, All-tail}
 use Rattle.std.specs.List.{flat_map}
 use Rattle.std.proofs.lemmas.List.{take_more, take_all, drop_all, take_at, drop_at, drop-drop, take-append-drop}
 use Rattle.std.proofs.lemmas.List.Concat.{flat_map-append}
 use borrow.Rule.Slice.PartMut.{put_mid}
-use Rattle.fts_rowcodec.specs.Writing.{Puts}
+use Rattle.fts_codec.specs.Writing.{Puts}
 
 -- what stands behind a piece that was put
 abbrev pub left_of : List ℕ → ℕ → List ℕ
@@ -75,3 +77,11 @@ module _ {X : Type 0} (f : X → List ℕ) (xs : List X) (start old now : List �
       let same : (start ++ flat_map f (take i xs)) ++ f (get_or xs i d) ≡ start ++ flat_map f (take (i + 1) xs) =
       append_assoc start (flat_map f (take i xs)) (f (get_or xs i d)) ∙ ap (λ (ys : List ℕ). start ++ ys) (sym (more f xs i d less)) in
       rw (← same) both
+
+-- pieces of at most so many bytes each
+pub pieces_size : {X : Type 0} (f : X → List ℕ) (most : ℕ) (xs : List X) → All (λ x. length (f x) ≤ most) xs → length (flat_map f xs) ≤ length xs * most
+pieces_size f most [] each = omega arith
+pieces_size {X = X} f most (x ∷ xs) each =
+    let first : length (f x) ≤ most = All-head (λ (y : X). length (f y) ≤ most) x xs each in
+    let later : length (flat_map f xs) ≤ length xs * most = pieces_size f most xs (All-tail (λ (y : X). length (f y) ≤ most) x xs each) in
+    omega (arith, length-append (f x) (flat_map f xs))

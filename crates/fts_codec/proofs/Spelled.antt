@@ -1,14 +1,14 @@
 -- What is read is spelled so, and what is spelled so is read: numbers, texts and lists of them.
-use Rattle.std.proofs.Common.{◌≡◌, ℕ, zero, suc, ◌+◌, ◌^◌, ◌<◌, ◌≤◌, Bool, true, false, cond, ltb, List, [], ◌∷◌, ◌++◌, length, get_or, take, drop, Option, Some, None, refl, sym, ap, subst, ◌∙◌, append_assoc, arith, inl, inr}
+use Rattle.std.proofs.Common.{◌≡◌, ℕ, zero, suc, ◌+◌, ◌^◌, ◌<◌, ◌≤◌, Bool, true, false, cond, eqb, ltb, List, [], ◌∷◌, ◌++◌, length, get_or, take, drop, Option, Some, None, refl, sym, ap, subst, ◌∙◌, append_assoc, arith, inl, inr}
 use Rattle.std.specs.Prelude.{All}
 use Rattle.std.specs.List.{flat_map}
 use Rattle.std.specs.Int.{Width, w16, w32, w64, byte_len, from_be_bytes, to_be_bytes}
-use Rattle.std.proofs.lemmas.Bool.{cases_lt, ltb-false, le-ltb}
+use Rattle.std.proofs.lemmas.Bool.{cases_lt, eqb-true, ltb-false, le-ltb}
 use Rattle.std.proofs.lemmas.List.{take_at, drop_at, take-append-drop, length-append, length-take, get_or-drop, get_or-take, get_or_past}
 use Rattle.std.proofs.lemmas.List.Concat.{flat_map-cons}
 use Rattle.std.proofs.lemmas.List.Elements.{All-nil, All-cons, All-head, All-tail}
 use Rattle.std.proofs.lemmas.Nat.{be_bytes_2, be_bytes_4, be_bytes_8, from_be_bytes-to_be_bytes_2, from_be_bytes-to_be_bytes_4, from_be_bytes-to_be_bytes_8}
-use Rattle.fts_rowcodec.specs.Reading.{◌>>=◌, number_at, piece_at, many_at}
+use Rattle.fts_codec.specs.Reading.{◌>>=◌, behind_at, number_at, piece_at, many_at}
 
 abbrev pub IsBytes : List ℕ → Type 0
 IsBytes bytes = (i : ℕ) → get_or bytes i 0 < 256
@@ -53,6 +53,13 @@ Takes bytes text rest = (bytes ≡ text ++ rest) × IsBytes rest
 
 pub takes_both : (a x b y c : List ℕ) → Takes a x b → Takes b y c → Takes a (x ++ y) c
 takes_both a x b y c p q = (p.0 ∙ ap (λ (t : List ℕ). x ++ t) q.0 ∙ sym (append_assoc x y c), q.1)
+
+-- a byte that is given
+pub byte_takes : (byte : ℕ) (bytes rest : List ℕ) → IsBytes bytes → behind_at byte bytes ≡ Some rest → Takes bytes (byte ∷ []) rest
+byte_takes byte [] rest fits e = absurd cc
+byte_takes byte (first ∷ bytes) rest fits e =
+    let g = passed (eqb first byte) bytes rest e in
+    (ap (λ (b : ℕ). b ∷ bytes) (eqb-true first byte g.0) ∙ ap (λ (r : List ℕ). byte ∷ r) g.1, λ i. rw (← g.1) (fits (suc i)))
 
 -- a reader gives the values that are spelled so, and all of these
 pub record Spells {X : Type 0} (f : X → List ℕ) (Is : X → Type 0) (one : List ℕ → Option (X × List ℕ)) : Type 0 where
