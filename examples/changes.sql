@@ -12,7 +12,7 @@ SELECT FTS_DOC_ID FROM docs WHERE MATCH (title, body) AGAINST ('apples' IN BOOLE
 -- The old document is still in the cache, and in the view of the deleted ones.
 SELECT * FROM INFORMATION_SCHEMA.INNODB_FT_DELETED
 
--- A batch leaves out who is dead at its step.
+-- A batch leaves out who is dead at its step. The id is in DELETED, since its own commit was flushed before the UPDATE.
 SYNC
 SELECT * FROM INFORMATION_SCHEMA.INNODB_FT_DELETED
 SELECT * FROM INFORMATION_SCHEMA.INNODB_FT_INDEX_TABLE

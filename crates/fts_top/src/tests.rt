@@ -1,5 +1,6 @@
 mod bytes;
 mod calling;
+mod changes;
 mod columns;
 mod commands;
 mod damage;

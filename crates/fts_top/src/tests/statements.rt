@@ -33,7 +33,7 @@ fn statements_are_executed(rt: HostRuntime) -> Result<(), Fail> {
 /// Lines that are no statement, and their replies.
 const FAULTS: [(&str, &str); 6] = [
     ("SELEC", "ERROR syntax at 1\n"),
-    ("DELETE FROM docs WHERE id =", "ERROR syntax at 1\n"),
+    ("DELETE FROM docs WHERE id =", "ERROR syntax at 28\n"),
     (
         "INSERT INTO docs (id, body) VALUES (1, 'x",
         "ERROR syntax at 40\n",
@@ -89,7 +89,7 @@ const MISFITS: [(&str, &str); 12] = [
         "ERROR columns and values do not fit\n",
     ),
     (
-        "INSERT INTO docs (id, FTS_DOC_ID, body) VALUES (1, 5, 'x')",
+        "INSERT INTO docs (FTS_DOC_ID, id, body) VALUES (1, 5, 'x')",
         "ERROR columns and values do not fit\n",
     ),
     (

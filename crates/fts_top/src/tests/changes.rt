@@ -1,0 +1,215 @@
+use super::calling::{FIND_APPLE, answers, call, created, empty_disk};
+use std::alloc::AllocError;
+use std::test::Fail;
+
+/// A row that gets another text and another id; its first document is in the tables.
+const REPLACED: &str = "INSERT INTO docs (id, body) VALUES (1, 'apple')
+SYNC
+UPDATE docs SET body = 'apple pear' WHERE id = 1
+SELECT FTS_DOC_ID FROM docs WHERE MATCH (body) AGAINST ('apple' IN BOOLEAN MODE)
+SELECT * FROM INFORMATION_SCHEMA.INNODB_FT_DELETED
+SYNC
+SELECT * FROM INFORMATION_SCHEMA.INNODB_FT_INDEX_TABLE
+SELECT * FROM information_schema.innodb_ft_deleted
+SELECT FTS_DOC_ID FROM docs WHERE MATCH (body) AGAINST ('p* apple' IN BOOLEAN MODE)
+";
+
+const OF_REPLACED: &str = "OK commit 1
+OK sync as of 1
+OK commit 2
+OK as of 2: 2
+DOC_ID
+1
+OK 1 rows as of 2
+OK sync as of 2
+WORD|FIRST_DOC_ID|LAST_DOC_ID|DOC_COUNT|DOC_ID|POSITION
+apple|1|1|1|1|0
+apple|2|2|1|2|0
+pear|2|2|1|2|6
+OK 3 rows as of 2
+DOC_ID
+1
+OK 1 rows as of 2
+OK as of 2: 2
+";
+
+/// A document that dies before it is flushed: the cache lists it until a batch leaves it out.
+const NEVER_FLUSHED: &str = "INSERT INTO docs (id, body) VALUES (1, 'kiwi')
+DELETE FROM docs WHERE id = 1
+SELECT * FROM INFORMATION_SCHEMA.INNODB_FT_INDEX_CACHE
+SELECT * FROM INFORMATION_SCHEMA.INNODB_FT_DELETED
+SELECT FTS_DOC_ID FROM docs WHERE MATCH (body) AGAINST ('kiwi' IN BOOLEAN MODE)
+SYNC
+SELECT * FROM INFORMATION_SCHEMA.INNODB_FT_INDEX_TABLE
+SELECT * FROM INFORMATION_SCHEMA.INNODB_FT_DELETED
+";
+
+const OF_NEVER_FLUSHED: &str = "OK commit 1
+OK commit 2
+WORD|FIRST_DOC_ID|LAST_DOC_ID|DOC_COUNT|DOC_ID|POSITION
+kiwi|1|1|1|1|0
+OK 1 rows as of 2
+DOC_ID
+1
+OK 1 rows as of 2
+OK as of 2: none
+OK sync as of 2
+WORD|FIRST_DOC_ID|LAST_DOC_ID|DOC_COUNT|DOC_ID|POSITION
+OK 0 rows as of 2
+DOC_ID
+OK 0 rows as of 2
+";
+
+/// Ids that are given, and the next one behind them.
+const GIVEN: &str = "INSERT INTO docs (id, FTS_DOC_ID, body) VALUES (1, 65535, 'apple')
+INSERT INTO docs (id, FTS_DOC_ID, body) VALUES (2, 131071, 'apple')
+INSERT INTO docs (id, FTS_DOC_ID, body) VALUES (2, 65535, 'apple')
+INSERT INTO docs (id, body) VALUES (2, 'apple')
+SELECT FTS_DOC_ID FROM docs WHERE MATCH (body) AGAINST ('apple' IN BOOLEAN MODE)
+";
+
+const OF_GIVEN: &str = "OK commit 1
+ERROR document id 131071 more than 65535 above 65535
+ERROR document id 65535 not above 65535
+OK commit 2
+OK as of 2: 65535 65536
+";
+
+/// Keys that no row has: the commits count, and no id is used.
+const ABSENT: &str = "DELETE FROM docs WHERE id = 9
+UPDATE docs SET body = 'apple' WHERE id = 9
+INSERT INTO docs (id, body) VALUES (9, 'apple')
+DELETE FROM docs WHERE id = 9;
+INSERT INTO docs (id, body) VALUES (9, 'apple')
+SELECT FTS_DOC_ID FROM docs WHERE MATCH (body) AGAINST ('apple' IN BOOLEAN MODE)
+";
+
+const OF_ABSENT: &str = "OK commit 1
+OK commit 2
+OK commit 3
+OK commit 4
+OK commit 5
+OK as of 5: 2
+";
+
+/// What does not fit the table.
+const REFUSED: &str = "DELETE FROM docs WHERE id =
+DELETE FROM books WHERE id = 1
+UPDATE books SET nope = 'x' WHERE id = 1
+UPDATE docs SET nope = 'x', id = 'y' WHERE id = 1
+UPDATE docs SET id = '2' WHERE id = 1
+UPDATE docs SET FTS_DOC_ID = '2' WHERE id = 1
+UPDATE docs SET body = 'x', BODY = 'y' WHERE id = 1
+INSERT INTO docs (FTS_DOC_ID, id, body) VALUES (1, 2, 'x')
+INSERT INTO docs (id, FTS_DOC_ID, body) VALUES (1, 'x', 'y')
+SELECT FTS_DOC_ID FROM docs WHERE MATCH (body) AGAINST ('x*' IN BOOLEAN MODE)
+";
+
+const OF_REFUSED: &str = "ERROR syntax at 28
+ERROR no such table books
+ERROR no such table books
+ERROR no such column nope
+ERROR columns and values do not fit
+ERROR columns and values do not fit
+ERROR columns and values do not fit
+ERROR columns and values do not fit
+ERROR columns and values do not fit
+OK as of 0: none
+";
+
+const SCRIPTS: [(&str, &str); 5] = [
+    (REPLACED, OF_REPLACED),
+    (NEVER_FLUSHED, OF_NEVER_FLUSHED),
+    (GIVEN, OF_GIVEN),
+    (ABSENT, OF_ABSENT),
+    (REFUSED, OF_REFUSED),
+];
+
+#[test]
+fn rows_are_changed(rt: HostRuntime) -> Result<(), Fail> {
+    for (script, text) in SCRIPTS {
+        let rows = created(rt.alloc())?;
+        let _ = answers(&rt, rt.alloc(), rows, script.as_bytes(), text)?;
+    }
+    Ok(())
+}
+
+/// What a search finds when the database is opened again.
+#[test]
+fn changes_outlive_the_run(rt: HostRuntime) -> Result<(), Fail> {
+    for (script, text, found) in [
+        (REPLACED, OF_REPLACED, "OK as of 2: 2\n"),
+        (GIVEN, OF_GIVEN, "OK as of 2: 65535 65536\n"),
+        (ABSENT, OF_ABSENT, "OK as of 5: 2\n"),
+    ] {
+        let rows = created(rt.alloc())?;
+        let rows = answers(&rt, rt.alloc(), rows, script.as_bytes(), text)?;
+        let _ = answers(&rt, rt.alloc(), rows, FIND_APPLE.as_bytes(), found)?;
+    }
+    Ok(())
+}
+
+/// With a document a batch: one dies behind its own batch, and enters DELETED with the next.
+const ONE_A_BATCH: &str = "shop create --columns body --batch-docs 1";
+
+const LATER: &str = "INSERT INTO docs (id, body) VALUES (1, 'apple')
+INSERT INTO docs (id, body) VALUES (2, 'pear')
+DELETE FROM docs WHERE id = 1
+SYNC
+SELECT * FROM INFORMATION_SCHEMA.INNODB_FT_INDEX_TABLE
+SELECT * FROM INFORMATION_SCHEMA.INNODB_FT_DELETED
+";
+
+const OF_LATER: &str = "OK commit 1
+OK commit 2
+OK commit 3
+OK sync as of 3
+WORD|FIRST_DOC_ID|LAST_DOC_ID|DOC_COUNT|DOC_ID|POSITION
+pear|2|2|1|2|0
+OK 1 rows as of 3
+DOC_ID
+1
+OK 1 rows as of 3
+";
+
+#[test]
+fn a_death_enters_deleted_with_its_batch(rt: HostRuntime) -> Result<(), Fail> {
+    let alloc = rt.alloc();
+    let rows = call(alloc, ONE_A_BATCH, b"", empty_disk(alloc)?)?.rows;
+    let _ = answers(&rt, alloc, rows, LATER.as_bytes(), OF_LATER)?;
+    Ok(())
+}
+
+/// A statement that ends with a text of so many bytes and what follows it.
+fn push_long(
+    script: &mut Vec<u8>,
+    front: &[u8],
+    count: usize,
+    end: &[u8],
+) -> Result<(), AllocError> {
+    script.extend_from_slice(front)?;
+    for _ in 0..count {
+        script.push(b'x')?;
+    }
+    script.extend_from_slice(end)
+}
+
+/// The texts that a row would have count together, kept and set; without a row, those that are set.
+#[test]
+fn texts_count_together(rt: HostRuntime) -> Result<(), Fail> {
+    let alloc = rt.alloc();
+    let line = "shop create --columns title,body";
+    let rows = call(alloc, line, b"", empty_disk(alloc)?)?.rows;
+    let mut script = Vec::new(alloc);
+    let insert = b"INSERT INTO docs (id, title, body) VALUES (1, 'a', '";
+    push_long(&mut script, insert, 40_000, b"')\n")?;
+    let update = b"UPDATE docs SET title = '";
+    push_long(&mut script, update, 25_536, b"' WHERE id = 1\n")?;
+    push_long(&mut script, update, 25_535, b"' WHERE id = 1\n")?;
+    push_long(&mut script, update, 65_536, b"' WHERE id = 2\n")?;
+    push_long(&mut script, update, 65_535, b"' WHERE id = 2\n")?;
+    let text = "OK commit 1\nERROR text too long 65536 in change 1\nOK commit 2\n\
+        ERROR text too long 65536 in change 1\nOK commit 3\n";
+    let _ = answers(&rt, alloc, rows, &script, text)?;
+    Ok(())
+}
