@@ -155,6 +155,11 @@ pub record IsDropped (number doc : ℕ) (old new : Entries) (w : List ℕ) : Typ
   pub others : number_in old w ≢ Some number → (queue_in new w).postings ≡ (queue_in old w).postings
   pub last : (queue_in new w).last ≤ (queue_in old w).last
 
+-- what is left of a word's documents, where those up to doc were taken out of the queues with these numbers
+abbrev pub left_of : ℕ → List ℕ → Option ℕ → List Posting → List Posting
+left_of doc numbers None ps = ps
+left_of doc numbers (Some n) ps = if has_number n numbers then postings_behind doc ps else ps
+
 -- the queue of w, where a document was put into the queues of its words
 pub record IsAdded (d : Document) (old new : Entries) (w : List ℕ) : Type 0 where
   pub postings : (queue_in new w).postings ≡ (queue_in old w).postings ++ document_postings w d

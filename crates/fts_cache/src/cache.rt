@@ -92,6 +92,9 @@ fn pop_until(documents: &mut VecDeque<Cached>, doc: u64) -> Option<Cached>
 
 /// Takes the documents up to `doc` out, and out of the queues of their words. Returns the sum of
 /// their sizes.
+///
+/// The first of them that has a word takes all of them out of its queue, so that this queue is
+/// moved once.
 fn drop_documents(words: &mut Words, documents: &mut VecDeque<Cached>, doc: u64) -> u64
     requires ascend { IdsAscend (kept documents.old.items) }
     requires fits { sum_by (λ d. d.size) (kept documents.old.items) < 2 ^ 64 }
@@ -107,7 +110,7 @@ fn drop_documents(words: &mut Words, documents: &mut VecDeque<Cached>, doc: u64)
     let mut size = 0;
     while let Some(first) = pop_until(documents, doc) {
         size += u64::from(first.size);
-        drop_words(words, &first.numbers, first.id);
+        drop_words(words, &first.numbers, doc);
     }
     size
 }
