@@ -1,5 +1,5 @@
 -- Words with their nodes, those that have some.
-use Rattle.std.proofs.Common.{◌≡◌, ◌≢◌, ℕ, ⊎_elim, Bool, true, false, cond, List, [], ◌∷◌, ◌++◌, append-nil, bytes_eq, is_eq, Less, refl, sym, ap, ap₂, subst, ◌∙◌, arith, length, ◌||◌, ◌≤◌, ◌↔◌, not, filter, map, take, if◌then◌else◌}
+use Rattle.std.proofs.Common.{◌≡◌, ◌≢◌, ℕ, ⊎_elim, Bool, true, false, cond, List, [], ◌∷◌, ◌++◌, append-nil, bytes_eq, is_eq, Less, refl, sym, ap, ap₂, subst, ◌∙◌, arith, length, ◌||◌, ◌≤◌, ◌↔◌, not, filter, map, take}
 use Rattle.std.specs.List.{AllByRecursion, list_any}
 use Rattle.std.specs.List.Sorted.{IsStrictlySortedBy}
 use Rattle.std.specs.Map.{keys_of}
@@ -19,7 +19,7 @@ use Rattle.fts_lists.specs.State.{State, ids_of}
 use Rattle.fts_lists.specs.declared.lists.DeleteList.TheVariants.{DeletedCache}
 use Rattle.fts_ilist.specs.Spelling.{Posting}
 use Rattle.fts_ilist.specs.Node.{Docs, nodes_for}
-use Rattle.fts_ilist.specs.Packing.{has_place, packed_from, packed}
+use Rattle.fts_ilist.specs.Packing.{packed}
 use Rattle.fts_sync.specs.Leaving.{filled_word, filled_words, leaving_nodes}
 
 apart : (v w : List ℕ) → byte_order v w ≡ Less → bytes_eq v w ≡ false
@@ -115,26 +115,6 @@ module _ (nodes : List ℕ → List Docs) where
           right : (a b : Bool) → (a || b) ≡ false → b ≡ false
           right true b e = absurd (true≢false e)
           right false b e = e
-
--- ---- packed documents are no empty nodes
-
-push_filled : (docs : List Posting) (p : Posting) → docs ++ p ∷ [] ≢ []
-push_filled [] p e = absurd (omega (arith, ap length e))
-push_filled (d ∷ docs) p e = absurd (omega (arith, ap length e))
-
-filled_from : (limit : ℕ) (node ps : List Posting) → node ≢ [] → AllByRecursion (λ docs. docs ≢ []) (packed_from limit node ps)
-filled_from limit node [] some = (some, tt)
-filled_from limit node (p ∷ ps) some =
-    by (has_place limit node p) (filled_from limit (node ++ p ∷ []) ps (push_filled node p)) (filled_from limit (p ∷ []) ps (λ e. push_filled [] p e))
-  where
-    by : (b : Bool) → AllByRecursion (λ docs. docs ≢ []) (packed_from limit (node ++ p ∷ []) ps) → AllByRecursion (λ docs. docs ≢ []) (packed_from limit (p ∷ []) ps)
-        → AllByRecursion (λ docs. docs ≢ []) (if b then packed_from limit (node ++ p ∷ []) ps else node ∷ packed_from limit (p ∷ []) ps)
-    by true more next = more
-    by false more next = (some, next)
-
-pub packed_filled : (ps : List Posting) → AllByRecursion (λ docs. docs ≢ []) (packed ps)
-packed_filled [] = tt
-packed_filled (p ∷ ps) = filled_from 8192 (p ∷ []) ps (λ e. push_filled [] p e)
 
 -- ---- the words that leave a cache
 

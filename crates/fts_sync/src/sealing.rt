@@ -14,7 +14,7 @@ ghost use Rattle.fts_cache.specs.Cache.{postings_of};
 ghost use Rattle.fts_sync.specs.Leaving.{leaving, leaving_nodes, filled_word};
 
 use fts_cache::Cache;
-use fts_ilist::{Cursor, Document, Ilist, Node, Nodes, Packing, WordNodes};
+use fts_ilist::{Cursor, Document, Node, Nodes, Packing, WordNodes};
 use fts_lists::{DeleteList, Lists};
 use fts_types::{DocId, Word};
 use std::alloc::{AllocError, Global};
@@ -30,43 +30,35 @@ fn put_alive(
         ≡ packing.old ++ filter (λ p. not (has (ids_of DeletedCache lists.now) p.id))
         (document.now ∷ [])) }
 {
+    // Mostly nobody died, and the list is not looked into.
+    if lists.is_empty(DeleteList::DeletedCache) {
+        return packing.push(document);
+    }
     if lists.contains(DeleteList::DeletedCache, document.id()) {
         return Ok(());
     }
     packing.push(document)
 }
 
-/// The lists of the documents up to an id that are not dead, packed.
+/// The nodes of the documents up to an id that are not dead.
 fn packed_until(
     alloc: Global,
     documents: Cursor<'_>,
     doc: DocId,
     lists: &Lists,
-) -> Result<Vec<Ilist>, AllocError>
+) -> Result<Vec<Node>, AllocError>
     requires { ArePostings documents }
     ensures { IfOk result (λ nodes. nodes.items
         ≡ packed (leaving doc (ids_of DeletedCache lists.now) documents.entry)) }
 {
-    let mut packing = Packing::new(alloc);
+    let mut packing = Packing::with_room(alloc, documents.bytes_left())?;
     for document in documents {
         if document.id() > doc {
-            return packing.finish();
+            return packing.nodes();
         }
         put_alive(&mut packing, &document, lists)?;
     }
-    packing.finish()
-}
-
-/// The nodes of lists.
-fn nodes_of(alloc: Global, lists: Vec<Ilist>) -> Result<Vec<Node>, AllocError>
-    requires { All (λ docs. docs ≢ []) lists.items }
-    ensures { IfOk result (λ nodes. nodes.items ≡ lists.items) }
-{
-    let mut nodes = Vec::with_capacity(alloc, lists.len())?;
-    for list in lists {
-        nodes.push(Node::new(list))?;
-    }
-    Ok(nodes)
+    packing.nodes()
 }
 
 /// Puts a word behind the others, with the nodes of its documents up to an id that are not dead,
@@ -86,8 +78,7 @@ fn put_word(
     if packed.is_empty() {
         return Ok(());
     }
-    let word_nodes = WordNodes::new(Word::copied(alloc, word)?, nodes_of(alloc, packed)?);
-    nodes.push(word_nodes)?;
+    nodes.push(WordNodes::new(Word::copied(alloc, word)?, packed))?;
     Ok(())
 }
 
