@@ -8,7 +8,7 @@ use Rattle.std.specs.BTreeSet.{BTreeSet, contains}
 use Rattle.std.specs.Map.{lookup}
 use Rattle.std.specs.Option.{unwrap_or, option_map, option_map_or}
 use Rattle.std.specs.Str.{bytes_eq}
-use Rattle.fts_ilist.specs.Spelling.{Posting, ArePositions}
+use Rattle.fts_ilist.specs.Spelling.{Posting, ArePositions, ArePostings}
 use Rattle.fts_words.specs.Order.{byte_order}
 use Rattle.fts_ilist.specs.Queue.{Queue, bytes_for, postings_behind}
 use Rattle.fts_cache.specs.Document.{WordPositions, Document, postings_from, document_postings, bytes_in}
@@ -211,3 +211,12 @@ has_documents entries w = nat_lt 0 (length (queue_in entries w).postings)
 -- those of these words that a document has
 abbrev pub with_documents : Entries → List (List ℕ) → List (List ℕ)
 with_documents entries words = filter (λ w. has_documents entries w) words
+
+-- what was lent is a word with a number, with its documents
+pub record IsLent (slots : Slots) (word : List ℕ) (postings : List Posting) : Type 0 where
+  pub number : ℕ
+  pub slot : CachedWord
+  pub at : slot_in slots number ≡ Some slot
+  pub word_is : slot.word ≡ word
+  pub postings_are : postings ≡ slot.queue.postings
+  pub are : ArePostings postings

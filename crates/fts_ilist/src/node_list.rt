@@ -241,8 +241,8 @@ fn more_room(room: u32, more: usize) -> Option<u32>
     }
 }
 
-/// Makes room for so many more items. Where there is too little, there is half as much again then, so
-/// that little is held beside the items.
+/// Makes room for so many more items. Where there is too little, the list gets half as much again,
+/// so that little is held beside the items.
 fn grow<T>(items: &mut Vec<T>, room: usize) -> Result<(), AllocError>
     ensures items { items.new.items ≡ items.old.items }
     ensures room { OnOk result (room ≤ vec_capacity items.new - vec_len items.new) }
