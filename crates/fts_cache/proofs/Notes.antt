@@ -7,11 +7,11 @@ use Rattle.fts_ilist.specs.Queue.{Queue, postings_behind}
 use Rattle.fts_cache.specs.declared.cache.Cached.{Cached}
 use Rattle.fts_cache.specs.Document.{WordPositions, Document, document_postings, found_words}
 use Rattle.fts_cache.specs.Cache.{Ids, IdsAscend, BeginsAbove}
-use Rattle.fts_cache.specs.Words.{Entries, number_in, queue_in, has_number, AreNumbersOf, KeepsNumbers, postings_until}
+use Rattle.fts_cache.specs.Words.{Entries, number_in, queue_in, has_number, left_of, AreNumbersOf, KeepsNumbers, postings_until}
 use Rattle.fts_cache.specs.Kept.{kept, notes, AreNoted, NoteWords, NotesUntil}
 use Rattle.fts_cache.proofs.Queues.{which_word}
 use Rattle.fts_cache.proofs.Table.{which_number, some_is, queue_of_none}
-use Rattle.fts_cache.proofs.Documents.{found_later}
+use Rattle.fts_cache.proofs.Documents.{found_later, behind_again}
 
 or_left : (a b : Bool) → a ≡ true → (a || b) ≡ true
 or_left true b e = refl
@@ -125,27 +125,38 @@ not_noted n [] d ds e h = tt
 not_noted n (p ∷ ps) d ds e h =
     (or_rest (nat_eq p.id d.id && has_number n d.numbers.items) (notes n p.id ds) h.0 (and_right (nat_eq p.id d.id) (has_number n d.numbers.items) e), not_noted n ps d ds e h.1)
 
-first_left : (n : ℕ) (ps : List Posting) (d : Cached) (ds : List Cached) → AreNoted n ps (d ∷ ds) → AreNoted n (postings_behind d.id ps) ds
-first_left n [] d ds h = tt
-first_left n (p ∷ ps) d ds h =
-    elim (cases_lt d.id p.id) [
-      | inl lt ↦ subst (λ (b : Bool). AreNoted n (cond b (p ∷ postings_behind d.id ps) (postings_behind d.id ps)) ds) (sym (lt-ltb d.id p.id lt))
-          (or_rest (nat_eq p.id d.id && has_number n d.numbers.items) (notes n p.id ds) h.0 (and_left (nat_eq p.id d.id) (has_number n d.numbers.items) (other p.id d.id lt)), first_left n ps d ds h.1)
-      | inr le ↦ subst (λ (b : Bool). AreNoted n (cond b (p ∷ postings_behind d.id ps) (postings_behind d.id ps)) ds) (sym (le-ltb d.id p.id le)) (first_left n ps d ds h.1)
+first_left : (n doc : ℕ) (ps : List Posting) (d : Cached) (ds : List Cached) → d.id ≤ doc → AreNoted n ps (d ∷ ds) → AreNoted n (postings_behind doc ps) ds
+first_left n doc [] d ds up h = tt
+first_left n doc (p ∷ ps) d ds up h =
+    elim (cases_lt doc p.id) [
+      | inl lt ↦ subst (λ (b : Bool). AreNoted n (cond b (p ∷ postings_behind doc ps) (postings_behind doc ps)) ds) (sym (lt-ltb doc p.id lt))
+          (or_rest (nat_eq p.id d.id && has_number n d.numbers.items) (notes n p.id ds) h.0 (and_left (nat_eq p.id d.id) (has_number n d.numbers.items) (other p.id d.id (omega (arith, lt, up)))), first_left n doc ps d ds up h.1)
+      | inr le ↦ subst (λ (b : Bool). AreNoted n (cond b (p ∷ postings_behind doc ps) (postings_behind doc ps)) ds) (sym (le-ltb doc p.id le)) (first_left n doc ps d ds up h.1)
     ]
   where
     other : (a b : ℕ) → b < a → nat_eq a b ≡ false
     other a b lt = grind arith
 
--- a word that the first document doesn't note loses nothing
-pub unnoted_stays : (words : Entries) (d : Cached) (ds : List Cached) → IdsAscend (kept (d ∷ ds)) → NoteWords words (d ∷ ds) → (w : List ℕ) (n : ℕ) → number_in words w ≡ Some n → has_number n d.numbers.items ≡ false
-    → postings_behind d.id (queue_in words w).postings ≡ (queue_in words w).postings
-unnoted_stays words d ds ids h w n e f =
-    all_above n d.id ids.0 (queue_in words w).postings ds ids.1.1 (not_noted n (queue_in words w).postings d ds f (h w n e))
+-- what the first document's words have left is noted by the others
+pub note_rest : (old new : Entries) (doc : ℕ) (d : Cached) (ds : List Cached) → d.id ≤ doc → NoteWords old (d ∷ ds) → KeepsNumbers new old
+    → ((w : List ℕ) → (queue_in new w).postings ≡ left_of doc d.numbers.items (number_in old w) (queue_in old w).postings) → NoteWords new ds
+note_rest old new doc d ds up h keeps less w n e =
+    let before : number_in old w ≡ Some n = keeps w n e in
+    let left : (queue_in new w).postings ≡ left_of doc d.numbers.items (Some n) (queue_in old w).postings = less w ∙ ap (λ o. left_of doc d.numbers.items o (queue_in old w).postings) before in
+    subst (λ (ps : List Posting). AreNoted n ps ds) (sym left) (by (has_number n d.numbers.items) refl (h w n before))
+  where
+    by : (b : Bool) → has_number n d.numbers.items ≡ b → AreNoted n (queue_in old w).postings (d ∷ ds) → AreNoted n (cond b (postings_behind doc (queue_in old w).postings) (queue_in old w).postings) ds
+    by true f noted = first_left n doc (queue_in old w).postings d ds up noted
+    by false f noted = not_noted n (queue_in old w).postings d ds f noted
 
-pub note_rest : (old new : Entries) (d : Cached) (ds : List Cached) → NoteWords old (d ∷ ds) → KeepsNumbers new old → ((w : List ℕ) → (queue_in new w).postings ≡ postings_behind d.id (queue_in old w).postings) → NoteWords new ds
-note_rest old new d ds h keeps less w n e =
-    subst (λ (ps : List Posting). AreNoted n ps ds) (sym (less w)) (first_left n (queue_in old w).postings d ds (h w n (keeps w n e)))
+-- what is behind doc in the end is behind it already
+pub behind_left : (doc : ℕ) (numbers : List ℕ) (o : Option ℕ) (ps : List Posting) → postings_behind doc (left_of doc numbers o ps) ≡ postings_behind doc ps
+behind_left doc numbers None ps = refl
+behind_left doc numbers (Some n) ps = by (has_number n numbers)
+  where
+    by : (b : Bool) → postings_behind doc (cond b (postings_behind doc ps) ps) ≡ postings_behind doc ps
+    by true = behind_again doc doc ps (omega arith)
+    by false = refl
 
 none_in : (words : Entries) (w : List ℕ) → number_in words w ≡ None → (queue_in words w).postings ≡ []
 none_in words w e = ap (λ (q : Queue). q.postings) (queue_of_none words w e)

@@ -8,7 +8,7 @@ use Rattle.std.specs.BTreeSet.{BTreeSet, contains}
 use Rattle.std.specs.Map.{lookup}
 use Rattle.std.specs.Option.{unwrap_or, option_map, option_map_or}
 use Rattle.std.specs.Str.{bytes_eq}
-use Rattle.fts_ilist.specs.Spelling.{Posting, ArePositions}
+use Rattle.fts_ilist.specs.Spelling.{Posting, ArePositions, ArePostings}
 use Rattle.fts_words.specs.Order.{byte_order}
 use Rattle.fts_ilist.specs.Queue.{Queue, bytes_for, postings_behind}
 use Rattle.fts_cache.specs.Document.{WordPositions, Document, postings_from, document_postings, bytes_in}
@@ -155,6 +155,11 @@ pub record IsDropped (number doc : ℕ) (old new : Entries) (w : List ℕ) : Typ
   pub others : number_in old w ≢ Some number → (queue_in new w).postings ≡ (queue_in old w).postings
   pub last : (queue_in new w).last ≤ (queue_in old w).last
 
+-- what is left of a word's documents, where those up to doc were taken out of the queues with these numbers
+abbrev pub left_of : ℕ → List ℕ → Option ℕ → List Posting → List Posting
+left_of doc numbers None ps = ps
+left_of doc numbers (Some n) ps = if has_number n numbers then postings_behind doc ps else ps
+
 -- the queue of w, where a document was put into the queues of its words
 pub record IsAdded (d : Document) (old new : Entries) (w : List ℕ) : Type 0 where
   pub postings : (queue_in new w).postings ≡ (queue_in old w).postings ++ document_postings w d
@@ -206,3 +211,12 @@ has_documents entries w = nat_lt 0 (length (queue_in entries w).postings)
 -- those of these words that a document has
 abbrev pub with_documents : Entries → List (List ℕ) → List (List ℕ)
 with_documents entries words = filter (λ w. has_documents entries w) words
+
+-- what was lent is a word with a number, with its documents
+pub record IsLent (slots : Slots) (word : List ℕ) (postings : List Posting) : Type 0 where
+  pub number : ℕ
+  pub slot : CachedWord
+  pub at : slot_in slots number ≡ Some slot
+  pub word_is : slot.word ≡ word
+  pub postings_are : postings ≡ slot.queue.postings
+  pub are : ArePostings postings

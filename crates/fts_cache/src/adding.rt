@@ -1,9 +1,8 @@
 //! Documents that are put into the queues of their words, and taken out of them.
 ghost use Rattle.std.specs.Prelude.{◌≡◌, ◌≢◌, ◌+◌, ◌<◌, ◌≤◌, ◌++◌, List, ℕ, [], ◌∷◌, length, map};
-ghost use Rattle.std.specs.Prelude.{OnOk, Some, false};
-ghost use Rattle.fts_ilist.specs.Queue.{postings_behind};
+ghost use Rattle.std.specs.Prelude.{OnOk};
 ghost use Rattle.fts_cache.specs.Document.{bytes_in, bytes_of};
-ghost use Rattle.fts_cache.specs.Words.{number_in, queue_in, has_number, AreNumbersOf, Grows};
+ghost use Rattle.fts_cache.specs.Words.{number_in, queue_in, left_of, AreNumbersOf, Grows};
 ghost use Rattle.fts_cache.specs.Words.{IsLess, IsAdded, KeepsNumbers, GivesUp, IsUsedBut};
 ghost use Rattle.std.specs.List.{concat};
 ghost use Rattle.fts_cache.specs.Cache.{AreNumbers};
@@ -135,11 +134,8 @@ pub(crate) fn add_document(words: &mut Words, document: &DocWords, numbers: &[u3
 
 /// Takes the documents up to `doc` out of the queues of the words with these numbers.
 pub(crate) fn drop_words(words: &mut Words, numbers: &[u32], doc: u64)
-    requires { (w : List ℕ) (n : ℕ) → number_in words.old w ≡ Some n
-        → has_number n numbers.now ≡ false
-        → postings_behind doc (queue_in words.old w).postings ≡ (queue_in words.old w).postings }
     ensures postings { (w : List ℕ) → (queue_in words.new w).postings
-        ≡ postings_behind doc (queue_in words.old w).postings }
+        ≡ left_of doc numbers.now (number_in words.old w) (queue_in words.old w).postings }
     ensures numbers { KeepsNumbers words.new words.old }
     ensures last { (w : List ℕ) → (queue_in words.new w).last ≤ (queue_in words.old w).last }
 {

@@ -11,9 +11,11 @@ ghost use Rattle.fts_cache.specs.Cache.{cached, cached_behind, SameContents, Has
 ghost use Rattle.fts_cache.specs.Cache.{IdsAscend, room_of, room_left, HoldsNoOther};
 ghost use Rattle.fts_cache.specs.Words.{queue_in, postings_until};
 ghost use Rattle.fts_cache.specs.Kept.{kept, NoteWords, NotesUntil};
-ghost use Rattle.fts_cache.specs.Sorted.{IsAmong, AscendByBytes};
-ghost use Rattle.std.specs.List.{IsDistinct};
-ghost use Rattle.fts_words.specs.Order.{begins_with};
+ghost use Rattle.fts_cache.specs.Sorted.{IsAmong, AscendByBytes, lent_words};
+ghost use Rattle.std.specs.List.{IsDistinct, All, list_any};
+ghost use Rattle.std.specs.List.Sorted.{IsStrictlySortedBy};
+ghost use Rattle.std.specs.Str.{bytes_eq};
+ghost use Rattle.fts_words.specs.Order.{begins_with, byte_order};
 
 use crate::adding::{add_document, drop_words, release_promised, reserve_documents};
 use crate::document::DocWords;
@@ -92,6 +94,9 @@ fn pop_until(documents: &mut VecDeque<Cached>, doc: u64) -> Option<Cached>
 
 /// Takes the documents up to `doc` out, and out of the queues of their words. Returns the sum of
 /// their sizes.
+///
+/// The first of them that has a word takes all of them out of its queue, so that this queue is
+/// moved once.
 fn drop_documents(words: &mut Words, documents: &mut VecDeque<Cached>, doc: u64) -> u64
     requires ascend { IdsAscend (kept documents.old.items) }
     requires fits { sum_by (λ d. d.size) (kept documents.old.items) < 2 ^ 64 }
@@ -107,7 +112,7 @@ fn drop_documents(words: &mut Words, documents: &mut VecDeque<Cached>, doc: u64)
     let mut size = 0;
     while let Some(first) = pop_until(documents, doc) {
         size += u64::from(first.size);
-        drop_words(words, &first.numbers, first.id);
+        drop_words(words, &first.numbers, doc);
     }
     size
 }
@@ -249,15 +254,18 @@ impl Cache {
         self.words.prefix(prefix)
     }
 
-    /// The words of the documents up to `doc`, in the order of their bytes, each once. They lie in
-    /// the cache's allocator. Of such a word the first of its `postings` are those up to `doc`.
+    /// The words of the documents up to `doc`, in the order of their bytes, each once, with its
+    /// `postings`, of which the first are those up to `doc`. They lie in the cache's allocator.
     ///
-    /// It costs those documents' words, and a sort of them.
-    pub fn words_until(&self, doc: u64) -> Result<Vec<&[u8]>, AllocError>
-        ensures words { IfOk result
-            (λ words. (w : List ℕ) → IsAmong w words.items
+    /// It costs those documents' words, and a sort of them; no word is looked up.
+    pub fn words_until(&self, doc: u64) -> Result<Vec<(&[u8], Cursor<'_>)>, AllocError>
+        ensures words { IfOk result (λ words. (w : List ℕ)
+            → IsTrue (list_any (bytes_eq w) (lent_words words.items))
             ↔ (postings_until doc (postings_of self.now w) ≢ [])) }
-        ensures ascending { IfOk result (λ words. AscendByBytes words.items) }
+        ensures ascending { IfOk result
+            (λ words. IsStrictlySortedBy byte_order (lent_words words.items)) }
+        ensures documents { IfOk result (λ words. All (λ e.
+            (e.1 ≡ postings_of self.now e.0.now) × ArePostings e.1) words.items) }
     {
         let numbers = leaving_numbers(self.words.allocator(), &self.documents, doc)?;
         self.words.leaving(&numbers, doc)

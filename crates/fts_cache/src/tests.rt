@@ -150,7 +150,12 @@ fn a_prefix_finds_the_words_that_are_held(rt: HostRuntime) -> Result<(), Fail> {
 
 // The words of the documents up to this one are these.
 fn leave(rt: &impl Abort, cache: &Cache, doc: u64, expected: &[&[u8]]) -> Result<(), Fail> {
-    assert_eq!(rt; cache.words_until(doc)?.as_slice(), expected);
+    let found = cache.words_until(doc)?;
+    assert_eq!(rt; found.len(), expected.len());
+    for ((word, documents), other) in found.iter().zip(expected.iter()) {
+        assert_eq!(rt; word, other);
+        assert_eq!(rt; documents.doc(), cache.postings(word).doc());
+    }
     Ok(())
 }
 

@@ -6,7 +6,11 @@ ghost use Rattle.std.specs.Option.{option_map, option_to_list};
 ghost use Rattle.std.specs.List.{IsDistinct};
 ghost use Rattle.std.specs.Str.{bytes_eq};
 ghost use Rattle.indexmap.specs.IndexMap.{IsUnique};
-ghost use Rattle.fts_cache.specs.Sorted.{IsAmong, AscendByBytes};
+ghost use Rattle.fts_cache.specs.Sorted.{IsAmong, AscendByBytes, lent_words};
+ghost use Rattle.std.specs.List.{All, list_any};
+ghost use Rattle.std.specs.List.Sorted.{IsPermutation, IsSortedBy, IsStrictlySortedBy};
+ghost use Rattle.std.specs.Ordering.{is_lt};
+ghost use Rattle.fts_words.specs.Order.{byte_order};
 ghost use Rattle.fts_ilist.specs.Spelling.{ArePositions, ArePostings};
 ghost use Rattle.fts_ilist.specs.Queue.{Queue, bytes_for, postings_behind};
 ghost use Rattle.fts_cache.specs.Words.{Entries, slot_in, number_in, queue_at, queue_in, IsTable};
@@ -18,13 +22,14 @@ ghost use Rattle.fts_cache.specs.Words.{leaving_word, leaving_words, has_documen
 ghost use Rattle.fts_ilist.specs.Front.{front};
 ghost use Rattle.fts_words.specs.Order.{begins_with};
 ghost use Rattle.fts_cache.specs.Words.{with_documents, is_spent, is_spent_at, IsUsedBut, IsListed};
-ghost use Rattle.fts_cache.specs.Words.{IsLess, AreKept};
+ghost use Rattle.fts_cache.specs.Words.{IsLess, AreKept, IsLent};
 
 use fts_ilist::{Cursor, PostingQueue};
 use fts_types::Word;
 use indexmap::IndexMap;
 use slab::Slab;
 use std::alloc::{AllocError, Global};
+use std::cmp::Ordering;
 use std::collections::BTreeSet;
 use std::collections::btree_set::Range;
 use std::marker::Model;
@@ -184,25 +189,41 @@ fn is_leaving(queue: &PostingQueue, doc: u64) -> bool
     }
 }
 
-/// The word with this number, where it has a document up to `doc`.
-fn leaving(slots: &Slab<CachedWord>, number: u32, doc: u64) -> Option<&[u8]>
-    ensures { option_map (λ w. w.now) result ≡ leaving_word doc (slot_in slots.now.slots number) }
+/// A word with its documents, where it has one up to `doc`.
+fn lent(cached: &CachedWord, doc: u64) -> Option<(&[u8], Cursor<'_>)>
+    ensures word { option_map (λ e. e.0.now) result ≡ leaving_word doc (Some cached.now) }
+    ensures documents { IfSome result (λ e. (cached.now.word ≡ e.0.now)
+        × (e.1 ≡ cached.now.queue.postings) × ArePostings e.1) }
+{
+    if !is_leaving(&cached.queue, doc) {
+        return None;
+    }
+    Some((cached.word.as_bytes(), cached.queue.docs()))
+}
+
+/// The word with this number and its documents, where it has one up to `doc`.
+fn leaving(slots: &Slab<CachedWord>, number: u32, doc: u64) -> Option<(&[u8], Cursor<'_>)>
+    ensures word { option_map (λ e. e.0.now) result
+        ≡ leaving_word doc (slot_in slots.now.slots number) }
+    ensures lent { IfSome result (λ e. IsLent slots.now.slots e.0.now e.1) }
 {
     match slots.get(number as usize) {
-        Some(cached) if is_leaving(&cached.queue, doc) => Some(cached.word.as_bytes()),
-        _ => None,
+        Some(cached) => lent(cached, doc),
+        None => None,
     }
 }
 
-/// Those of the words with these numbers that have a document up to `doc`.
+/// Those of the words with these numbers that have a document up to `doc`, with their documents.
 fn all_leaving<'a>(
     alloc: Global,
     slots: &'a Slab<CachedWord>,
     numbers: &[u32],
     doc: u64,
-) -> Result<Vec<&'a [u8]>, AllocError>
-    ensures { IfOk result (λ words. map (λ w. w.now) words.items
+) -> Result<Vec<(&'a [u8], Cursor<'a>)>, AllocError>
+    ensures words { IfOk result (λ words. lent_words words.items
         ≡ leaving_words slots.now.slots doc numbers.now) }
+    ensures lent { IfOk result (λ words. All (λ e. IsLent slots.now.slots e.0.now e.1)
+        words.items) }
 {
     let mut words = Vec::new(alloc);
     for number in numbers {
@@ -211,16 +232,32 @@ fn all_leaving<'a>(
     Ok(words)
 }
 
-/// Puts a word behind the others, where there is one.
-fn push_some<'a>(words: &mut Vec<&'a [u8]>, word: Option<&'a [u8]>) -> Result<(), AllocError>
-    ensures { OnOk result (map (λ w. w.now) words.new.items
-        ≡ map (λ w. w.now) words.old.items
-        ++ option_to_list (option_map (λ w. w.now) word.entry)) }
+/// Puts a word with its documents behind the others, where there is one.
+fn push_some<'a>(
+    words: &mut Vec<(&'a [u8], Cursor<'a>)>,
+    word: Option<(&'a [u8], Cursor<'a>)>,
+) -> Result<(), AllocError>
+    ensures { OnOk result (words.new.items ≡ words.old.items ++ option_to_list word.entry) }
 {
     if let Some(word) = word {
         words.push(word)?;
     }
     Ok(())
+}
+
+/// How two words are ordered: as their bytes are.
+fn by_bytes(word: &(&[u8], Cursor<'_>), other: &(&[u8], Cursor<'_>)) -> Ordering
+    ensures { result ≡ byte_order word.now.0.now other.now.0.now }
+{
+    word.0.cmp(&other.0)
+}
+
+/// Sorts words by their bytes. It takes no memory.
+fn sort_words(words: &mut Vec<(&[u8], Cursor<'_>)>)
+    ensures same { IsPermutation words.old.items words.new.items }
+    ensures sorted { IsSortedBy (λ v w. is_lt (byte_order v.0.now w.0.now)) words.new.items }
+{
+    words.sort_unstable_by(|a, b| by_bytes(a, b));
 }
 
 /// The words at the front of the rest that begin so, and that a document has.
@@ -396,16 +433,20 @@ impl Words {
     }
 
     /// Those of the words with these numbers that have a document up to `doc`, in the order of
-    /// their bytes.
-    pub fn leaving(&self, numbers: &[u32], doc: u64) -> Result<Vec<&[u8]>, AllocError>
+    /// their bytes, each with its documents.
+    pub fn leaving(&self, numbers: &[u32], doc: u64) -> Result<Vec<(&[u8], Cursor<'_>)>, AllocError>
         requires { IsDistinct nat_eq numbers.now }
-        ensures words { IfOk result (λ words. (w : List ℕ) → IsAmong w words.items
+        ensures words { IfOk result (λ words. (w : List ℕ)
+            → IsTrue (list_any (bytes_eq w) (lent_words words.items))
             ↔ ((n : ℕ) × (number_in self.now w ≡ Some n) × (has_number n numbers.now ≡ true)
             × (postings_until doc (queue_in self.now w).postings ≢ []))) }
-        ensures ascending { IfOk result (λ words. AscendByBytes words.items) }
+        ensures ascending { IfOk result
+            (λ words. IsStrictlySortedBy byte_order (lent_words words.items)) }
+        ensures documents { IfOk result (λ words. All (λ e.
+            (e.1 ≡ (queue_in self.now e.0.now).postings) × ArePostings e.1) words.items) }
     {
         let mut words = all_leaving(self.allocator(), &self.slots, numbers, doc)?;
-        words.sort_unstable();
+        sort_words(&mut words);
         Ok(words)
     }
 

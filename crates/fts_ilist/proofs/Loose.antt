@@ -4,7 +4,7 @@ use Rattle.std.proofs.lemmas.Bool.{cases_Bool, le-leb, lt-leb, leb-true}
 use Rattle.std.proofs.lemmas.List.{append-nil, length-append}
 use Rattle.fts_ilist.specs.Number.{number_bytes}
 use Rattle.fts_ilist.specs.Spelling.{Posting, items_bytes, position_items, posting_items, postings_items, list_bytes, id_at_end, first_id, last_id}
-use Rattle.fts_ilist.specs.Spelling.Item.{document_end}
+use Rattle.fts_ilist.specs.Spelling.Item.{increase, document_end}
 use Rattle.fts_ilist.specs.Node.{body_size, head_size}
 use Rattle.fts_ilist.specs.Packing.{node_size, has_place, packed_from, packed, joined, AreLoose, is_sound, takes_first, loose_behind, are_loose}
 use Rattle.fts_ilist.proofs.Items.{bytes_append}
@@ -61,6 +61,33 @@ one_more ps p =
       ap length items,
       length-append body (0 ∷ []),
     )
+
+-- ---- a node has no more documents than bytes, nor its first document
+
+postings_within : (last : ℕ) (ps : Docs) → length ps ≤ length (items_bytes (postings_items last ps))
+postings_within last [] = omega arith
+postings_within last (p ∷ ps) =
+    let body = position_items 0 p.positions ++ document_end ∷ [] in
+    let whole : items_bytes (postings_items last (p ∷ ps)) ++ [] ≡ items_bytes (posting_items last p) ++ (items_bytes (postings_items p.id ps) ++ []) = bytes_append (posting_items last p) (postings_items p.id ps) [] in
+    let first : items_bytes (posting_items last p) ++ [] ≡ items_bytes (increase (p.id - last) ∷ position_items 0 p.positions) ++ (items_bytes (document_end ∷ []) ++ []) = bytes_append (increase (p.id - last) ∷ position_items 0 p.positions) (document_end ∷ []) [] in
+    omega (
+      arith,
+      postings_within p.id ps,
+      ap length whole,
+      ap length first,
+      length-append (items_bytes (postings_items last (p ∷ ps))) [],
+      length-append (items_bytes (posting_items last p)) (items_bytes (postings_items p.id ps) ++ []),
+      length-append (items_bytes (postings_items p.id ps)) [],
+      length-append (items_bytes (posting_items last p)) [],
+      length-append (items_bytes (increase (p.id - last) ∷ position_items 0 p.positions)) (0 ∷ []),
+    )
+
+pub count_within : (docs : Docs) → length docs ≤ node_size docs
+count_within docs = postings_within 0 docs
+
+pub head_within : (docs : Docs) → head_size docs ≤ node_size docs
+head_within [] = omega arith
+head_within (p ∷ ps) = omega (arith, one_more [] p, size_front (p ∷ []) ps)
 
 -- ---- what is kept of two nodes tells whether one takes the other's first document
 

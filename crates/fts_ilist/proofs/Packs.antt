@@ -1,6 +1,8 @@
 -- Documents packed one after another.
-use Rattle.std.proofs.Common.{◌≡◌, ◌≢◌, ℕ, ◌<◌, List, [], ◌∷◌, ◌++◌, Bool, true, false, if◌then◌else◌, length, refl, sym, ap, subst, ◌∙◌, append_assoc, arith, inl, inr}
+use Rattle.std.proofs.Common.{◌≡◌, ◌≢◌, ℕ, ◌<◌, List, [], ◌∷◌, ◌++◌, All, Bool, true, false, if◌then◌else◌, length, refl, sym, ap, subst, ◌∙◌, append_assoc, arith, inl, inr}
+use Rattle.std.specs.List.{AllByRecursion}
 use Rattle.std.proofs.lemmas.List.{append-nil}
+use Rattle.std.proofs.lemmas.List.Elements.{All-from_recursion}
 use Rattle.std.proofs.lemmas.Grind.{flat_map-append}
 use Rattle.fts_ilist.specs.Spelling.{Posting, PostingsAfter, last_id}
 use Rattle.fts_ilist.specs.Packing.{has_place, packed_from, packed_within, packed, joined, IsPacking, PutsInto}
@@ -72,6 +74,39 @@ put_packs closed (d ∷ ds) p closed' begun' k (inr h) = put_at closed (d ∷ ds
 pub packed_all : (closed : List (List Posting)) (begun : List Posting) → IsPacking closed begun → begun ≢ [] → packed (joined closed ++ begun) ≡ closed ++ begun ∷ []
 packed_all closed [] k some = absurd (some refl)
 packed_all closed (d ∷ ds) k some = ap packed (sym (append-nil (joined closed ++ (d ∷ ds)))) ∙ k.packs []
+
+-- ---- packed documents are no empty nodes
+
+push_filled : (docs : List Posting) (p : Posting) → docs ++ p ∷ [] ≢ []
+push_filled [] p e = absurd (omega (arith, ap length e))
+push_filled (d ∷ docs) p e = absurd (omega (arith, ap length e))
+
+filled_from : (limit : ℕ) (node ps : List Posting) → node ≢ [] → AllByRecursion (λ docs. docs ≢ []) (packed_from limit node ps)
+filled_from limit node [] some = (some, tt)
+filled_from limit node (p ∷ ps) some =
+    by (has_place limit node p) (filled_from limit (node ++ p ∷ []) ps (push_filled node p)) (filled_from limit (p ∷ []) ps (λ e. push_filled [] p e))
+  where
+    by : (b : Bool) → AllByRecursion (λ docs. docs ≢ []) (packed_from limit (node ++ p ∷ []) ps) → AllByRecursion (λ docs. docs ≢ []) (packed_from limit (p ∷ []) ps)
+        → AllByRecursion (λ docs. docs ≢ []) (if b then packed_from limit (node ++ p ∷ []) ps else node ∷ packed_from limit (p ∷ []) ps)
+    by true more next = more
+    by false more next = (some, next)
+
+pub packed_filled : (ps : List Posting) → AllByRecursion (λ docs. docs ≢ []) (packed ps)
+packed_filled [] = tt
+packed_filled (p ∷ ps) = filled_from 8192 (p ∷ []) ps (λ e. push_filled [] p e)
+
+-- no documents
+pub packed_none : (closed : List (List Posting)) (begun : List Posting) → IsPacking closed begun → begun ≡ [] → packed (joined closed ++ begun) ≡ []
+packed_none closed begun k none = ap (λ (ns : List (List Posting)). packed (joined ns ++ begun)) (k.first none) ∙ ap packed none
+
+all_front : (front rest : List (List Posting)) → AllByRecursion (λ docs. docs ≢ []) (front ++ rest) → AllByRecursion (λ docs. docs ≢ []) front
+all_front [] rest h = tt
+all_front (n ∷ front) rest h = (h.0, all_front front rest h.1)
+
+-- the closed nodes are none without documents
+pub closed_filled : (closed : List (List Posting)) (begun : List Posting) → IsPacking closed begun → begun ≢ [] → All (λ (docs : List Posting). docs ≢ []) closed
+closed_filled closed begun k some =
+    All-from_recursion (λ (docs : List Posting). docs ≢ []) closed (all_front closed (begun ∷ []) (subst (AllByRecursion (λ (docs : List Posting). docs ≢ [])) (packed_all closed begun k some) (packed_filled (joined closed ++ begun))))
 
 -- documents taken from the front, one after another
 pub record IsPacked (done rest docs : List Posting) : Type 0 where

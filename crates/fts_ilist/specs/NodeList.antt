@@ -1,5 +1,5 @@
 -- Nodes that lie one behind the other in one run of bytes, and a table with a row for each.
-use Rattle.std.specs.Prelude.{◌≡◌, ◌≢◌, ℕ, ◌≤◌, Bool, List, [], ◌++◌, ◌+◌, length, map, sum_by}
+use Rattle.std.specs.Prelude.{◌≡◌, ◌≢◌, ℕ, ◌≤◌, ◌<◌, ◌^◌, Bool, List, [], ◌++◌, ◌+◌, length, map, sum_by}
 use Rattle.std.specs.List.{slice_range, AllByRecursion}
 use Rattle.fts_ilist.specs.Reading.{postings_in, IsKept}
 use Rattle.fts_ilist.specs.Node.{Docs, head_size}
@@ -49,11 +49,12 @@ pub record Takes (old new : NodeState) (more : List Docs) : Type 0 where
   pub node_room : new.node_room + length more ≡ old.node_room
   pub byte_room : new.byte_room + nodes_size more ≡ old.byte_room
 
--- the fields of a list of nodes: rows that fit their bytes, room within the capacities, and whether packing would
--- change the nodes
+-- the fields of a list of nodes: rows that fit their bytes, room within the capacities and within 32 bits, and whether
+-- packing would change the nodes
 pub record IsNodeList (rows : List NodeRow) (bytes : List ℕ) (row_spare byte_spare node_room byte_room : ℕ)
     (loose : Bool) : Type 0 where
   pub are : AreRows bytes rows
   pub told : loose ≡ are_loose (nodes_at bytes rows)
   pub within_rows : node_room ≤ row_spare
   pub within_bytes : byte_room ≤ byte_spare
+  pub within_ends : length bytes + byte_room < 2 ^ 32

@@ -59,6 +59,13 @@ impl<'a> Cursor<'a> {
         }
     }
 
+    /// How many bytes spell the documents from the one at which it stands on, without its id. A
+    /// list of them takes no more beside this id.
+    #[inline]
+    pub fn bytes_left(&self) -> usize {
+        self.rest.len()
+    }
+
     /// The id of the document at which it stands, and None at the end. Nothing moves.
     #[inline]
     pub fn doc(&self) -> Option<u64>

@@ -101,6 +101,19 @@ impl Ilist {
         }
     }
 
+    /// The list without documents, which has memory for so many bytes.
+    pub(crate) fn with_room(alloc: Global, room: usize) -> Result<Self, AllocError>
+        ensures { IfOk result (λ list. list ≡ []) }
+    {
+        let bytes = Vec::with_capacity(alloc, room)?;
+        Ok(Ilist {
+            bytes,
+            first: 0,
+            last: 0,
+            count: 0,
+        })
+    }
+
     /// Whether the list has no documents.
     pub fn is_empty(&self) -> bool
         ensures { IsTrue result ↔ (self.now ≡ []) }

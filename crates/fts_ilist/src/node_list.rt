@@ -1,7 +1,7 @@
 //! The nodes of a word, in one run of bytes.
 ghost use Rattle.std.specs.Prelude.{◌≡◌, ◌+◌, ◌≤◌, ◌↔◌, [], ◌∷◌, ◌++◌, length, IsTrue, IfOk, OnOk};
 ghost use Rattle.std.specs.Prelude.{OnErr};
-ghost use Rattle.std.specs.Prelude.{◌^◌, IfSome, IfNone};
+ghost use Rattle.std.specs.Prelude.{◌^◌, ◌-◌, IfSome, IfNone, vec_len, vec_capacity};
 ghost use Rattle.std.specs.Iterator.{YieldsFirst, item_count};
 ghost use Rattle.fts_ilist.specs.Spelling.{ArePostings, HasFirstId, last_id, list_bytes};
 ghost use Rattle.fts_ilist.specs.Node.{head_size};
@@ -17,15 +17,15 @@ use std::alloc::{AllocError, Global};
 use std::iter::FusedIterator;
 use std::marker::Model;
 
-/// Where a node's bytes begin and end, and what is kept of it.
+/// Where a node's bytes begin and end, and what is kept of it. With these numbers it fits 32 bytes.
 #[derive(Clone, Copy)]
 pub struct NodeRow {
-    start: usize,
-    end: usize,
+    start: u32,
+    end: u32,
     first: u64,
     last: u64,
-    count: usize,
-    head: usize,
+    count: u32,
+    head: u32,
 }
 
 /// A node that is lent: its bytes, the first and the last of its ids, and the number of its
@@ -170,11 +170,11 @@ fn node_of<'a>(row: &NodeRow, bytes: &'a [u8]) -> NodeRef<'a>
     ensures { result ≡ row_docs bytes.now row.now }
 {
     NodeRef {
-        bytes: &bytes[row.start..row.end],
+        bytes: &bytes[row.start as usize..row.end as usize],
         first: row.first,
         last: row.last,
-        count: row.count,
-        head: row.head,
+        count: row.count as usize,
+        head: row.head as usize,
     }
 }
 
@@ -239,6 +239,19 @@ fn more_room(room: u32, more: usize) -> Option<u32>
         Ok(more) => room.checked_add(more),
         Err(_) => None,
     }
+}
+
+/// Makes room for so many more items. Where there is too little, the list gets half as much again,
+/// so that little is held beside the items.
+fn grow<T>(items: &mut Vec<T>, room: usize) -> Result<(), AllocError>
+    ensures items { items.new.items ≡ items.old.items }
+    ensures room { OnOk result (room ≤ vec_capacity items.new - vec_len items.new) }
+    ensures kept { vec_capacity items.old ≤ vec_capacity items.new }
+{
+    if items.capacity() - items.len() < room {
+        items.reserve_exact(room.max(items.len() / 2 + 1))?;
+    }
+    Ok(())
 }
 
 impl NodeList {
@@ -318,8 +331,10 @@ impl NodeList {
     {
         let node_room = more_room(self.node_room, nodes).ok_or(AllocError)?;
         let byte_room = more_room(self.byte_room, bytes).ok_or(AllocError)?;
-        self.rows.reserve(node_room as usize)?;
-        self.bytes.reserve(byte_room as usize)?;
+        // A row says by 32 bits where its node's bytes end.
+        let _ = more_room(byte_room, self.bytes.len()).ok_or(AllocError)?;
+        grow(&mut self.rows, node_room as usize)?;
+        grow(&mut self.bytes, byte_room as usize)?;
         self.node_room = node_room;
         self.byte_room = byte_room;
         Ok(())
@@ -343,12 +358,12 @@ impl NodeList {
         let start = self.bytes.len();
         self.bytes.extend_from_slice(node.bytes).unwrap();
         let row = NodeRow {
-            start,
-            end: self.bytes.len(),
+            start: start as u32,
+            end: self.bytes.len() as u32,
             first: node.first,
             last: node.last,
-            count: node.count,
-            head: node.head,
+            count: node.count as u32,
+            head: node.head as u32,
         };
         self.rows.push(row).unwrap();
         self.node_room -= 1;

@@ -1,18 +1,25 @@
 //! Documents packed into nodes.
 ghost use Rattle.std.specs.Prelude.{◌≡◌, ◌<◌, ◌↔◌, List, [], ◌∷◌, ◌++◌, map, true, IfOk, OnOk};
-ghost use Rattle.std.specs.Prelude.{OnErr};
+ghost use Rattle.std.specs.Prelude.{◌≢◌, OnErr};
+ghost use Rattle.std.specs.List.{All};
 ghost use Rattle.fts_ilist.specs.Spelling.{Posting, ArePostings, last_id};
 ghost use Rattle.fts_ilist.specs.Packing.{packed, PutsInto, AreLoose, are_loose};
 
 use crate::cursor::Cursor;
 use crate::documents::Document;
 use crate::list::Ilist;
+use crate::node::Node;
+use crate::number::NUMBER_ROOM;
 use std::alloc::{AllocError, Global};
 use std::marker::Model;
 use std::mem;
 
 /// How many bytes a node may have, unless it has one document alone.
 pub const NODE_LIMIT: usize = 8_192;
+
+/// For how many bytes of a first node memory is taken before its documents come, at most: more than
+/// most nodes of a batch have.
+const FIRST_ROOM: usize = 64;
 
 /// The nodes of a word while its documents come, one behind the other: each node is the list of its
 /// documents, and is closed where the next document would bring its bytes above 8,192.
@@ -76,6 +83,19 @@ fn put(
     begin_next(closed, begun, document)
 }
 
+/// Lists as nodes.
+fn nodes_of(alloc: Global, lists: Vec<Ilist>) -> Result<Vec<Node>, AllocError>
+    requires { All (λ docs. docs ≢ []) lists.items }
+    ensures { IfOk result (λ nodes. nodes.items ≡ lists.items) }
+{
+    // A word has mostly one node, which is put behind these.
+    let mut nodes = Vec::with_capacity(alloc, lists.len() + 1)?;
+    for list in lists {
+        nodes.push(Node::new(list))?;
+    }
+    Ok(nodes)
+}
+
 impl Packing {
     /// No documents. What it holds later lies in this allocator.
     pub fn new(alloc: Global) -> Self
@@ -85,6 +105,18 @@ impl Packing {
             closed: Vec::new(alloc),
             begun: Ilist::new(alloc),
         }
+    }
+
+    /// No documents, with memory for a first node of about so many bytes.
+    pub fn with_room(alloc: Global, bytes: usize) -> Result<Self, AllocError>
+        ensures { IfOk result (λ packing. packing ≡ []) }
+    {
+        let room = bytes.min(FIRST_ROOM) + 2 * NUMBER_ROOM;
+        let begun = Ilist::with_room(alloc, room)?;
+        Ok(Packing {
+            closed: Vec::new(alloc),
+            begun,
+        })
     }
 
     /// Adds a document behind the last. Where there is no memory for it, nothing changes.
@@ -107,6 +139,20 @@ impl Packing {
         }
         closed.push(begun)?;
         Ok(closed)
+    }
+
+    /// The nodes of the documents.
+    pub fn nodes(self) -> Result<Vec<Node>, AllocError>
+        ensures { IfOk result (λ nodes. nodes.items ≡ packed self) }
+    {
+        let Packing { closed, begun } = self;
+        let alloc = *closed.allocator();
+        if begun.is_empty() {
+            return Ok(Vec::new(alloc));
+        }
+        let mut nodes = nodes_of(alloc, closed)?;
+        nodes.push(Node::new(begun))?;
+        Ok(nodes)
     }
 }
 

@@ -17,6 +17,9 @@ use crate::writing::{bytes_for_document, put_posting};
 use std::alloc::{AllocError, Global};
 use std::marker::Model;
 
+/// How many bytes a queue may hold beside those in use, and as many as these.
+const KEPT_ROOM: usize = 16;
+
 /// Documents by ascending ids, each with its positions, kept in the bytes of a list. A document is
 /// put in at the back, within room that was made for it, and the oldest leave at the front.
 #[derive(Drop)]
@@ -93,6 +96,19 @@ fn cut_front(bytes: &mut Vec<u8>, count: usize)
     ensures capacity { vec_capacity bytes.new ≡ vec_capacity bytes.old }
 {
     bytes.drain(..count);
+}
+
+/// Gives memory back where more than half of it would stay empty beside the room: what leaves a
+/// queue mostly makes place for what comes.
+fn give_back(bytes: &mut Vec<u8>, room: usize)
+    requires { vec_len bytes.old + room ≤ vec_capacity bytes.old }
+    ensures items { bytes.new.items ≡ bytes.old.items }
+    ensures capacity { vec_len bytes.new + room ≤ vec_capacity bytes.new }
+{
+    let kept = bytes.len() + room;
+    if bytes.capacity() / 2 > kept + KEPT_ROOM {
+        bytes.shrink_to(kept + kept / 8);
+    }
 }
 
 impl PostingQueue {
@@ -190,8 +206,7 @@ impl PostingQueue {
         if start > (self.bytes.len() - start) / 4 {
             cut_front(&mut self.bytes, start);
             self.start = 0;
-            let kept = self.bytes.len();
-            self.bytes.shrink_to(kept + kept / 8 + self.room);
+            give_back(&mut self.bytes, self.room);
         }
     }
 }

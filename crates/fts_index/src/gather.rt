@@ -1,6 +1,6 @@
 //! What an index tells of the leaves of a query.
 ghost use Rattle.std.specs.Prelude.{◌≡◌, ◌∷◌, ◌++◌, ◌+◌, ◌↔◌, ◌&&◌, ◌||◌, ℕ, not, IfOk, OnOk};
-ghost use Rattle.std.specs.Prelude.{IsTrue};
+ghost use Rattle.std.specs.Prelude.{IsTrue, []};
 ghost use Rattle.std.specs.Prelude.{map};
 ghost use Rattle.std.specs.List.{list_any};
 ghost use Rattle.fts_ids.specs.Ids.{has, Ascend, AscendFrom};
@@ -131,12 +131,22 @@ fn stands_before(front: &[DocId], rest: &[DocId]) -> bool
     }
 }
 
-/// The ids that one of two lists has. Where all of the first stand before those of the second, it
-/// costs a copy of these.
+/// Whether a list has no id.
+fn has_none(ids: &IdList) -> bool
+    ensures { IsTrue result ↔ (ids.now ≡ []) }
+{
+    ids.as_slice().is_empty()
+}
+
+/// The ids that one of two lists has. It costs nothing where the first is empty, and a copy of the
+/// second where all of the first stand before its ids.
 fn joined_ids(alloc: Global, front: IdList, rest: IdList) -> Result<IdList, AllocError>
     ensures ascend { IfOk result Ascend }
     ensures each { IfOk result (λ ids. (id : ℕ) → has ids id ≡ (has front id || has rest id)) }
 {
+    if has_none(&front) {
+        return Ok(IdList::new(rest.into_vec()));
+    }
     if stands_before(front.as_slice(), rest.as_slice()) {
         let mut ids = front.into_vec();
         ids.extend_from_slice(rest.as_slice())?;

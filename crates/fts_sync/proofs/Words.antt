@@ -1,26 +1,25 @@
 -- Words with their nodes, those that have some.
-use Rattle.std.proofs.Common.{◌≡◌, ◌≢◌, ℕ, ⊎_elim, Bool, true, false, cond, List, [], ◌∷◌, ◌++◌, append-nil, bytes_eq, is_eq, Less, refl, sym, ap, ap₂, subst, ◌∙◌, arith, length, ◌||◌, ◌≤◌, ◌↔◌, not, filter, map, take, if◌then◌else◌}
+use Rattle.std.proofs.Common.{◌≡◌, ◌≢◌, ℕ, ⊎_elim, Bool, true, false, cond, List, [], ◌∷◌, ◌++◌, append-nil, bytes_eq, is_eq, Less, refl, sym, ap, ap₂, subst, ◌∙◌, arith, length, ◌||◌, ◌↔◌, not, filter}
 use Rattle.std.specs.List.{AllByRecursion, list_any}
 use Rattle.std.specs.List.Sorted.{IsStrictlySortedBy}
 use Rattle.std.specs.Map.{keys_of}
 use Rattle.std.proofs.lemmas.Bool.{false≢true, true≢false, cases_Bool}
 use Rattle.std.proofs.lemmas.Grind.{flat_map-append}
 use Rattle.std.specs.Borrow.{Bor}
-use Rattle.std.proofs.lemmas.List.{take_all}
 use Rattle.std.proofs.lemmas.Map.Text.{is_eq-slice_cmp}
 use Rattle.std.proofs.lemmas.Map.Keys.{sorted_head, sorted_tail}
 use Rattle.fts_words.specs.Order.{byte_order}
 use Rattle.fts_cache.proofs.Queues.{which_word}
 use Rattle.fts_cache.specs.Cache.{CacheState, postings_of}
-use Rattle.fts_cache.specs.Sorted.{IsAmong, AscendByBytes}
+use Rattle.fts_cache.specs.Sorted.{lent_words}
 use Rattle.fts_cache.specs.Words.{postings_until}
 use Rattle.fts_ids.specs.Ids.{has}
 use Rattle.fts_lists.specs.State.{State, ids_of}
 use Rattle.fts_lists.specs.declared.lists.DeleteList.TheVariants.{DeletedCache}
-use Rattle.fts_ilist.specs.Spelling.{Posting}
+use Rattle.fts_ilist.specs.Spelling.{Posting, ArePostings}
 use Rattle.fts_ilist.specs.Node.{Docs, nodes_for}
-use Rattle.fts_ilist.specs.Packing.{has_place, packed_from, packed}
-use Rattle.fts_sync.specs.Leaving.{filled_word, filled_words, leaving_nodes}
+use Rattle.fts_ilist.specs.Packing.{packed}
+use Rattle.fts_sync.specs.Leaving.{leaving, filled_word, filled_words, leaving_nodes, sealed_words}
 
 apart : (v w : List ℕ) → byte_order v w ≡ Less → bytes_eq v w ≡ false
 apart v w less = sym (is_eq-slice_cmp v w) ∙ ap is_eq less
@@ -116,40 +115,23 @@ module _ (nodes : List ℕ → List Docs) where
           right true b e = absurd (true≢false e)
           right false b e = e
 
--- ---- packed documents are no empty nodes
-
-push_filled : (docs : List Posting) (p : Posting) → docs ++ p ∷ [] ≢ []
-push_filled [] p e = absurd (omega (arith, ap length e))
-push_filled (d ∷ docs) p e = absurd (omega (arith, ap length e))
-
-filled_from : (limit : ℕ) (node ps : List Posting) → node ≢ [] → AllByRecursion (λ docs. docs ≢ []) (packed_from limit node ps)
-filled_from limit node [] some = (some, tt)
-filled_from limit node (p ∷ ps) some =
-    by (has_place limit node p) (filled_from limit (node ++ p ∷ []) ps (push_filled node p)) (filled_from limit (p ∷ []) ps (λ e. push_filled [] p e))
-  where
-    by : (b : Bool) → AllByRecursion (λ docs. docs ≢ []) (packed_from limit (node ++ p ∷ []) ps) → AllByRecursion (λ docs. docs ≢ []) (packed_from limit (p ∷ []) ps)
-        → AllByRecursion (λ docs. docs ≢ []) (if b then packed_from limit (node ++ p ∷ []) ps else node ∷ packed_from limit (p ∷ []) ps)
-    by true more next = more
-    by false more next = (some, next)
-
-pub packed_filled : (ps : List Posting) → AllByRecursion (λ docs. docs ≢ []) (packed ps)
-packed_filled [] = tt
-packed_filled (p ∷ ps) = filled_from 8192 (p ∷ []) ps (λ e. push_filled [] p e)
-
 -- ---- the words that leave a cache
 
--- all words were taken
-pub all_taken : (nodes : List ℕ → List Docs) (words lent : List (Bor (List ℕ))) (i : ℕ) (found : List (List ℕ × List Docs))
-    → found ≡ filled_words nodes (map (λ w. w.now) (take i words)) → length words ≤ i → words ≡ lent → found ≡ filled_words nodes (map (λ w. w.now) lent)
-all_taken nodes words lent i found is past same =
-    is ∙ ap (λ (ws : List (Bor (List ℕ))). filled_words nodes (map (λ w. w.now) ws)) (take_all i words past ∙ same)
+-- where each word is lent with its documents
+pub sealed_are : (cache : CacheState) (doc : ℕ) (lists : State) (entries : List (Bor (List ℕ) × List Posting))
+    → AllByRecursion (λ (e : Bor (List ℕ) × List Posting). (e.1 ≡ postings_of cache e.0.now) × ArePostings e.1) entries
+    → sealed_words doc (ids_of DeletedCache lists) entries ≡ filled_words (leaving_nodes cache doc lists) (lent_words entries)
+sealed_are cache doc lists [] h = refl
+sealed_are cache doc lists (e ∷ es) h =
+    ap₂ (λ (x y : List (List ℕ × List Docs)). x ++ y)
+    (ap (λ (ps : List Posting). filled_word e.0.now (packed (leaving doc (ids_of DeletedCache lists) ps))) h.0.0)
+    (sealed_are cache doc lists es h.1)
 
-pub exact_for : (cache : CacheState) (doc : ℕ) (lists : State) (words : List (Bor (List ℕ))) → AscendByBytes words
-    → ((w : List ℕ) → IsAmong w words ↔ (postings_until doc (postings_of cache w) ≢ [])) → (word : List ℕ)
-    → nodes_for word (filled_words (leaving_nodes cache doc lists) (map (λ w. w.now) words)) ≡ leaving_nodes cache doc lists word
-exact_for cache doc lists words up among word =
+pub exact_for : (cache : CacheState) (doc : ℕ) (lists : State) (ws : List (List ℕ)) → IsStrictlySortedBy byte_order ws
+    → ((w : List ℕ) → (list_any (bytes_eq w) ws ≡ true) ↔ (postings_until doc (postings_of cache w) ≢ [])) → (word : List ℕ)
+    → nodes_for word (filled_words (leaving_nodes cache doc lists) ws) ≡ leaving_nodes cache doc lists word
+exact_for cache doc lists ws up among word =
     let nodes = leaving_nodes cache doc lists in
-    let ws = map (λ (w : Bor (List ℕ)). w.now) words in
     ⊎_elim
     (λ (there : list_any (bytes_eq word) ws ≡ true). found_for nodes word ws up there)
     (λ (absent : list_any (bytes_eq word) ws ≡ false). absent_for nodes word ws absent

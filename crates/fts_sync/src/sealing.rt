@@ -10,11 +10,10 @@ ghost use Rattle.fts_lists.specs.declared.lists.DeleteList.TheVariants.{DeletedC
 ghost use Rattle.fts_ilist.specs.Spelling.{ArePostings, last_id};
 ghost use Rattle.fts_ilist.specs.Node.{nodes_for};
 ghost use Rattle.fts_ilist.specs.Packing.{packed};
-ghost use Rattle.fts_cache.specs.Cache.{postings_of};
-ghost use Rattle.fts_sync.specs.Leaving.{leaving, leaving_nodes, filled_word};
+ghost use Rattle.fts_sync.specs.Leaving.{leaving, leaving_nodes, filled_word, sealed_words};
 
 use fts_cache::Cache;
-use fts_ilist::{Cursor, Document, Ilist, Node, Nodes, Packing, WordNodes};
+use fts_ilist::{Cursor, Document, Node, Nodes, Packing, WordNodes};
 use fts_lists::{DeleteList, Lists};
 use fts_types::{DocId, Word};
 use std::alloc::{AllocError, Global};
@@ -30,65 +29,77 @@ fn put_alive(
         ≡ packing.old ++ filter (λ p. not (has (ids_of DeletedCache lists.now) p.id))
         (document.now ∷ [])) }
 {
+    // Mostly nobody died, and the list is not looked into.
+    if lists.is_empty(DeleteList::DeletedCache) {
+        return packing.push(document);
+    }
     if lists.contains(DeleteList::DeletedCache, document.id()) {
         return Ok(());
     }
     packing.push(document)
 }
 
-/// The lists of the documents up to an id that are not dead, packed.
+/// The nodes of the documents up to an id that are not dead.
 fn packed_until(
     alloc: Global,
     documents: Cursor<'_>,
     doc: DocId,
     lists: &Lists,
-) -> Result<Vec<Ilist>, AllocError>
+) -> Result<Vec<Node>, AllocError>
     requires { ArePostings documents }
     ensures { IfOk result (λ nodes. nodes.items
         ≡ packed (leaving doc (ids_of DeletedCache lists.now) documents.entry)) }
 {
-    let mut packing = Packing::new(alloc);
+    let mut packing = Packing::with_room(alloc, documents.bytes_left())?;
     for document in documents {
         if document.id() > doc {
-            return packing.finish();
+            return packing.nodes();
         }
         put_alive(&mut packing, &document, lists)?;
     }
-    packing.finish()
-}
-
-/// The nodes of lists.
-fn nodes_of(alloc: Global, lists: Vec<Ilist>) -> Result<Vec<Node>, AllocError>
-    requires { All (λ docs. docs ≢ []) lists.items }
-    ensures { IfOk result (λ nodes. nodes.items ≡ lists.items) }
-{
-    let mut nodes = Vec::with_capacity(alloc, lists.len())?;
-    for list in lists {
-        nodes.push(Node::new(list))?;
-    }
-    Ok(nodes)
+    packing.nodes()
 }
 
 /// Puts a word behind the others, with the nodes of its documents up to an id that are not dead,
 /// where it has some.
 fn put_word(
     nodes: &mut Nodes,
-    cache: &Cache,
     word: &[u8],
+    documents: Cursor<'_>,
     doc: DocId,
     lists: &Lists,
 ) -> Result<(), AllocError>
-    ensures { OnOk result (nodes.new.items ≡ nodes.old.items
-        ++ filled_word word.now (leaving_nodes cache.now doc lists.now word.now)) }
+    requires { ArePostings documents }
+    ensures { OnOk result (nodes.new.items ≡ nodes.old.items ++ filled_word word.now
+        (packed (leaving doc (ids_of DeletedCache lists.now) documents.entry))) }
 {
     let alloc = *nodes.allocator();
-    let packed = packed_until(alloc, cache.postings(word), doc, lists)?;
+    let packed = packed_until(alloc, documents, doc, lists)?;
     if packed.is_empty() {
         return Ok(());
     }
-    let word_nodes = WordNodes::new(Word::copied(alloc, word)?, nodes_of(alloc, packed)?);
-    nodes.push(word_nodes)?;
+    nodes.push(WordNodes::new(Word::copied(alloc, word)?, packed))?;
     Ok(())
+}
+
+/// Words, each with the nodes of its documents up to an id that are not dead. A word without such
+/// a document is left out.
+fn sealed(
+    alloc: Global,
+    words: Vec<(&[u8], Cursor<'_>)>,
+    doc: DocId,
+    lists: &Lists,
+) -> Result<Nodes, AllocError>
+    requires { All (λ e. ArePostings e.1) words.items }
+    ensures { IfOk result (λ nodes. nodes.items
+        ≡ sealed_words doc (ids_of DeletedCache lists.now) words.entry.items) }
+{
+    let mut nodes = Vec::with_capacity(alloc, words.len())?;
+    for entry in words {
+        let (word, documents) = entry;
+        put_word(&mut nodes, word, documents, doc, lists)?;
+    }
+    Ok(nodes)
 }
 
 /// The words of a cache's documents up to `doc`, in byte order, each with the documents that are
@@ -101,9 +112,6 @@ pub fn batch(alloc: Global, cache: &Cache, doc: DocId, lists: &Lists) -> Result<
     ensures exact { IfOk result (λ nodes. (word : List ℕ)
         → nodes_for word nodes.items ≡ leaving_nodes cache.now doc lists.now word) }
 {
-    let mut nodes = Vec::new(alloc);
-    for word in &cache.words_until(doc)? {
-        put_word(&mut nodes, cache, word, doc, lists)?;
-    }
-    Ok(nodes)
+    let words = cache.words_until(doc)?;
+    sealed(alloc, words, doc, lists)
 }

@@ -1,21 +1,11 @@
-use Rattle.std.proofs.Common.{◌≡◌, false, ℕ, List, arith, ap, sym, subst, ◌∙◌}
+use Rattle.std.proofs.Common.{arith, ap, sym, subst, ◌∙◌}
 use Rattle.fts_ilist.specs.Queue.{postings_behind}
-use Rattle.fts_cache.specs.declared.cache.Cached.{Cached}
-use Rattle.fts_cache.specs.Cache.{CachedDocument, IdsAscend}
-use Rattle.fts_cache.specs.Words.{queue_in, has_number}
+use Rattle.fts_cache.specs.Cache.{CachedDocument}
+use Rattle.fts_cache.specs.Words.{queue_in, number_in, left_of}
 use Rattle.fts_cache.specs.Kept.{kept, NoteWords}
 use Rattle.fts_cache.proofs.Ids.{popped, all_above}
-use Rattle.fts_cache.proofs.Notes.{unnoted_stays, note_rest, rest_above}
-use Rattle.fts_cache.proofs.Documents.{behind_again}
+use Rattle.fts_cache.proofs.Notes.{note_rest, behind_left, rest_above}
 use Rattle.fts_cache.proofs.cache.drop_documents.Goals as goal
-
-pub drop_words-requires : goal.drop_words-requires
-drop_words-requires c =
-    let first = c.in-Some.first in
-    let h = c.in-Some.ensures.some in
-    let inv = c.loop-first.invariant in
-    λ w n e f. unnoted_stays c.loop-first.words first c.pop_until.new.documents.items (subst (λ (ds : List Cached). IdsAscend (kept ds)) h.0 inv.ascend) (subst (NoteWords c.loop-first.words) h.0 inv.noted) w n e
-    (subst (λ (ns : List ℕ). has_number n ns ≡ false) c.deref.ensures.value f)
 
 pub loop-first-preserved : goal.loop-first-preserved
 loop-first-preserved c =
@@ -28,8 +18,9 @@ loop-first-preserved c =
       ascend = p.ascend;
       behind = p.behind ∙ inv.behind;
       size = omega (arith, p.size, inv.size, c.from-size.ensures);
-      noted = note_rest c.loop-first.words c.drop_words.new.words first c.pop_until.new.documents.items (subst (NoteWords c.loop-first.words) h.0 inv.noted) c.drop_words.ensures.numbers c.drop_words.ensures.postings;
-      postings = λ w. ap (postings_behind c.args.doc) (c.drop_words.ensures.postings w) ∙ behind_again c.args.doc first.id (queue_in c.loop-first.words w).postings h.1 ∙ inv.postings w;
+      noted = note_rest c.loop-first.words c.drop_words.new.words c.args.doc first c.pop_until.new.documents.items h.1 (subst (NoteWords c.loop-first.words) h.0 inv.noted) c.drop_words.ensures.numbers
+          (λ w. c.drop_words.ensures.postings w ∙ ap (λ ns. left_of c.args.doc ns (number_in c.loop-first.words w) (queue_in c.loop-first.words w).postings) c.deref.ensures.value);
+      postings = λ w. ap (postings_behind c.args.doc) (c.drop_words.ensures.postings w) ∙ behind_left c.args.doc c.deref.result.now (number_in c.loop-first.words w) (queue_in c.loop-first.words w).postings ∙ inv.postings w;
       last = λ w. omega (arith, c.drop_words.ensures.last w, inv.last w);
     }
 

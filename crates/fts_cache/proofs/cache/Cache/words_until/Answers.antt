@@ -2,7 +2,10 @@ use Rattle.std.proofs.Common.{◌≡◌, ◌≢◌, ◌↔◌, ℕ, List, Some, 
 use Rattle.std.proofs.lemmas.Result.{IfOk-weaker}
 use Rattle.fts_cache.specs.Cache.{postings_of}
 use Rattle.fts_cache.specs.Words.{number_in, queue_in, has_number, postings_until}
-use Rattle.fts_cache.specs.Sorted.{IsAmong}
+use Rattle.std.specs.List.{All, list_any}
+use Rattle.std.specs.Str.{bytes_eq}
+use Rattle.fts_ilist.specs.Spelling.{ArePostings}
+use Rattle.fts_cache.specs.Sorted.{lent_words}
 use Rattle.fts_cache.proofs.Notes.{word_noted}
 use Rattle.fts_cache.proofs.cache.Cache.words_until.Goals as goal
 
@@ -10,9 +13,15 @@ pub returns-clause-words : goal.returns-clause-words
 returns-clause-words c =
     let i = c.self.inside in
     IfOk-weaker c.leaving.result _ _
-    (λ words h w. subst (λ s. IsAmong w words.items ↔ (postings_until c.args.doc (postings_of s w) ≢ [])) c.self.view_is (
+    (λ words h w. subst (λ s. (list_any (bytes_eq w) (lent_words words.items) ≡ true) ↔ (postings_until c.args.doc (postings_of s w) ≢ [])) c.self.view_is (
       (λ e. ((h w).0 e).3),
       (λ some. (h w).1 (subst (λ (ns : List ℕ). (n : ℕ) × (number_in i.words w ≡ Some n) × (has_number n ns ≡ true) × (postings_until c.args.doc (queue_in i.words w).postings ≢ [])) (sym c.deref.ensures.value)
           (word_noted i.words i.documents.items c.args.doc c.in_ok-numbers.numbers.items w c.self.invariant.noted c.in_ok-numbers.ensures.noted some))),
     ))
     c.leaving.ensures.words
+
+pub returns-clause-documents : goal.returns-clause-documents
+returns-clause-documents c =
+    IfOk-weaker c.leaving.result _ _
+    (λ words h. subst (λ s. All (λ e. (e.1 ≡ postings_of s e.0.now) × ArePostings e.1) words.items) c.self.view_is h)
+    c.leaving.ensures.documents

@@ -1,9 +1,12 @@
 use Rattle.std.proofs.Common.{◌≡◌, ◌+◌, ◌∷◌, ◌++◌, [], length, sym, ap, ◌∙◌, subst, arith, rules}
 use Rattle.std.specs.Vec.{vec_len}
+use Rattle.fts_ilist.specs.Node.{head_size}
 use Rattle.fts_ilist.specs.Packing.{node_size, are_loose}
 use Rattle.fts_ilist.specs.NodeList.{AreRows, nodes_at}
 use Rattle.fts_ilist.specs.declared.node_list.NodeRow.{NodeRow}
+use Rattle.std.proofs.lemmas.List.{length-append}
 use Rattle.fts_ilist.proofs.Arena.{rows_more, nodes_more}
+use Rattle.fts_ilist.proofs.Loose.{count_within, head_within}
 use Rattle.fts_ilist.proofs.node_list.NodeList.push.Goals as goal
 
 pub invariant_of-self : goal.invariant_of-self
@@ -25,6 +28,7 @@ invariant_of-self c =
           (subst (AreRows (c.self.inside.bytes.items ++ more)) (sym rows)
           (rows_more c.self.inside.bytes.items more c.self.inside.rows.items row c.self.invariant.are begins ends c.node.invariant));
       within_rows = omega (arith, c.self.invariant.within_rows, c.push.ensures.capacity, vec_rows);
+      within_ends = omega (arith, c.self.invariant.within_ends, c.requires.bytes, ap (λ s. s.byte_room) c.self.view_is, ap length bytes, length-append c.self.inside.bytes.items more, ap length c.node.invariant.kept.list.spelled ∙ ap node_size c.node.view_is);
       within_bytes = omega (arith, c.self.invariant.within_bytes, c.extend_from_slice.ensures.capacity, c.len-start.ensures, c.len.ensures, begins, ends);
     }
 
@@ -47,3 +51,11 @@ returns c =
       node_room = omega (arith, ap (λ s. s.node_room) old, c.requires.nodes);
       byte_room = omega (arith, ap (λ s. s.byte_room) old, c.requires.bytes, size);
     }
+
+pub overflow_cast-row-3 : goal.overflow_cast-row-3
+overflow_cast-row-3 c =
+    omega (arith, c.self.invariant.within_ends, c.requires.bytes, ap (λ s. s.byte_room) c.self.view_is, c.node.invariant.kept.count_is, ap length c.node.view_is, count_within c.args.node.now)
+
+pub overflow_cast-row-4 : goal.overflow_cast-row-4
+overflow_cast-row-4 c =
+    omega (arith, c.self.invariant.within_ends, c.requires.bytes, ap (λ s. s.byte_room) c.self.view_is, c.node.invariant.head_is, ap head_size c.node.view_is, head_within c.args.node.now)

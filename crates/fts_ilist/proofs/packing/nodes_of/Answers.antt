@@ -2,7 +2,7 @@ use Rattle.std.proofs.Common.{◌≢◌, ◌++◌, ◌∷◌, [], List, All, ap,
 use Rattle.std.proofs.lemmas.List.{append_assoc}
 use Rattle.std.proofs.lemmas.List.Elements.{All-tail}
 use Rattle.fts_ilist.specs.Node.{Docs}
-use Rattle.fts_sync.proofs.sealing.nodes_of.Goals as goal
+use Rattle.fts_ilist.proofs.packing.nodes_of.Goals as goal
 
 pub loop-list-preserved : goal.loop-list-preserved
 loop-list-preserved c =

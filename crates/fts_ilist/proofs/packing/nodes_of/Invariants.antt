@@ -1,5 +1,5 @@
 use Rattle.std.proofs.Common.{◌≡◌, ◌≢◌, ◌++◌, [], All}
-use Rattle.fts_sync.proofs.sealing.nodes_of.Given as goal
+use Rattle.fts_ilist.proofs.packing.nodes_of.Given as goal
 
 abbrev pub invariant-loop-list : goal.invariant-loop-list
 invariant-loop-list l = record {
