@@ -1,3 +1,4 @@
+pub mod Setting
 pub mod Naming
 pub mod Executing
 pub mod Flushing

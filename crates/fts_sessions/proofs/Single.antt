@@ -39,7 +39,7 @@ apart bytes one other h k differ = differ (one_statement bytes one other h k)
 
 -- a statement that changes rows is no other one
 apart_change : (bytes : List ℕ) (one other : Statement) → IsStatement bytes one × IsChange one → IsStatement bytes other → (IsChange other → ⊥) → ⊥
-apart_change bytes one other h k no = no (subst IsChange (one_statement bytes one other h.0 k) h.1)
+apart_change bytes one other h k never = never (subst IsChange (one_statement bytes one other h.0 k) h.1)
 
 -- a listing is one request
 one_listed : (bytes schema schema' view view' : List ℕ) → IsStatement bytes (ListView schema view) → IsStatement bytes (ListView schema' view') → lists schema view ≡ lists schema' view'
@@ -52,24 +52,24 @@ one_listed bytes schema schema' view view' h k =
 -- a line is one request
 pub one_request : (line : Line) (r s : Request) → IsRequest line r → IsRequest line s → r ≡ s
 one_request (whole bytes) (changes a) (changes b) h k = ap changes (one_statement bytes a b h.0 k.0)
-one_request (whole bytes) (changes a) (searches t' n' s') h k = absurd (apart_change bytes a (Match t' n' k.0) h k.1 (λ no. no))
-one_request (whole bytes) (changes a) syncs h k = absurd (apart_change bytes a Sync h k (λ no. no))
-one_request (whole bytes) (changes a) (lists a' b') h k = absurd (apart_change bytes a (ListView a' b') h k (λ no. no))
+one_request (whole bytes) (changes a) (searches t' n' s') h k = absurd (apart_change bytes a (Match t' n' k.0) h k.1 (λ is. is))
+one_request (whole bytes) (changes a) syncs h k = absurd (apart_change bytes a Sync h k (λ is. is))
+one_request (whole bytes) (changes a) (lists a' b') h k = absurd (apart_change bytes a (ListView a' b') h k (λ is. is))
 one_request (whole bytes) (changes a) blank h k = absurd (blank_or_statement bytes a k h.0)
 one_request (whole bytes) (changes a) (unknown here) h k = absurd (statement_or_fault bytes a here h.0 k)
-one_request (whole bytes) (searches t n s) (changes b) h k = absurd (apart_change bytes b (Match t n h.0) k h.1 (λ no. no))
+one_request (whole bytes) (searches t n s) (changes b) h k = absurd (apart_change bytes b (Match t n h.0) k h.1 (λ is. is))
 one_request (whole bytes) (searches t n s) (searches t' n' s') h k = one_searched bytes t t' h.0 k.0 n n' s s' h.1 k.1 h.2 k.2
 one_request (whole bytes) (searches t n s) syncs h k = absurd (apart bytes (Match t n h.0) Sync h.1 k (λ same. cc))
 one_request (whole bytes) (searches t n s) (lists a' b') h k = absurd (apart bytes (Match t n h.0) (ListView a' b') h.1 k (λ same. cc))
 one_request (whole bytes) (searches t n s) blank h k = absurd (blank_or_statement bytes (Match t n h.0) k h.1)
 one_request (whole bytes) (searches t n s) (unknown here) h k = absurd (statement_or_fault bytes (Match t n h.0) here h.1 k)
-one_request (whole bytes) syncs (changes b) h k = absurd (apart_change bytes b Sync k h (λ no. no))
+one_request (whole bytes) syncs (changes b) h k = absurd (apart_change bytes b Sync k h (λ is. is))
 one_request (whole bytes) syncs (searches t' n' s') h k = absurd (apart bytes Sync (Match t' n' k.0) h k.1 (λ same. cc))
 one_request (whole bytes) syncs syncs h k = refl
 one_request (whole bytes) syncs (lists a' b') h k = absurd (apart bytes Sync (ListView a' b') h k (λ same. cc))
 one_request (whole bytes) syncs blank h k = absurd (blank_or_statement bytes Sync k h)
 one_request (whole bytes) syncs (unknown here) h k = absurd (statement_or_fault bytes Sync here h k)
-one_request (whole bytes) (lists a b) (changes c) h k = absurd (apart_change bytes c (ListView a b) k h (λ no. no))
+one_request (whole bytes) (lists a b) (changes c) h k = absurd (apart_change bytes c (ListView a b) k h (λ is. is))
 one_request (whole bytes) (lists a b) (searches t' n' s') h k = absurd (apart bytes (ListView a b) (Match t' n' k.0) h k.1 (λ same. cc))
 one_request (whole bytes) (lists a b) syncs h k = absurd (apart bytes (ListView a b) Sync h k (λ same. cc))
 one_request (whole bytes) (lists a b) (lists a' b') h k = one_listed bytes a a' b b' h k

@@ -1,5 +1,5 @@
 -- What a line asks to change can be committed.
-use Rattle.std.proofs.Common.{◌≡◌, ℕ, zero, suc, ◌+◌, ◌<◌, ◌≤◌, ◌^◌, Bool, true, false, List, [], ◌∷◌, ◌++◌, refl, sym, ap, subst, ◌∙◌, length, arith, Some, None, inl, inr}
+use Rattle.std.proofs.Common.{◌≡◌, ℕ, zero, suc, ◌+◌, ◌<◌, ◌≤◌, ◌^◌, Bool, true, false, List, [], ◌∷◌, ◌++◌, refl, sym, ap, subst, ◌∙◌, length, arith, Some, None, inl, inr, cond}
 use Rattle.std.proofs.lemmas.List.Elements.{All-nil, All-cons, All-head, All-tail}
 use Rattle.std.proofs.lemmas.Bool.{and_parts, eqb-true}
 use Rattle.std.specs.Prelude.{All, ◌&&◌, ◌==◌, codes, map, Option}
@@ -174,15 +174,16 @@ module _ (columns : ℕ) (some : 1 ≤ columns) (few : columns ≤ 8) where
       let rest = All-tail IsFit (Number key) (Number doc ∷ values) fit in
       insert_can key (Some doc) values made (All-head IsFit (Number key) (Number doc ∷ values) fit) (All-head IsFit (Number doc) values rest) (All-tail IsFit (Number doc) values rest) found
 
+chosen_fits : (same : Bool) (text : List ℕ) (later : Option (List ℕ)) → IsText text → IsNewText later → IsNewText (cond same (Some text) later)
+chosen_fits true text later fit fits = fit
+chosen_fits false text later fit fits = fits
+
 text_fits : (column : List ℕ) (names texts : List (List ℕ)) → All IsText texts → IsNewText (text_for column names texts)
 text_fits column [] texts fit = tt
-text_fits column (name ∷ names) [] fit = tt
-text_fits column (name ∷ names) (text ∷ texts) fit =
-    by (str_eq_ignore_ascii_case name column) refl
-  where
-    by : (same : Bool) → str_eq_ignore_ascii_case name column ≡ same → IsNewText (text_for column (name ∷ names) (text ∷ texts))
-    by true is = rw is (All-head IsText text texts fit)
-    by false is = rw is (text_fits column names texts (All-tail IsText text texts fit))
+text_fits column (first ∷ names) [] fit = tt
+text_fits column (first ∷ names) (text ∷ texts) fit =
+    chosen_fits (str_eq_ignore_ascii_case first column) text (text_for column names texts) (All-head IsText text texts fit)
+    (text_fits column names texts (All-tail IsText text texts fit))
 
 news_fit : (columns names texts : List (List ℕ)) → All IsText texts → All IsNewText (map (λ column. text_for column names texts) columns)
 news_fit [] names texts fit = All-nil IsNewText

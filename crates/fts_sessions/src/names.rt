@@ -99,10 +99,16 @@ pub fn are_insert_columns(columns: &Names, names: &Names) -> bool
 pub fn are_numbered_columns(columns: &Names, names: &Names) -> bool
     ensures { result ≡ are_names (codes "id" ∷ codes "fts_doc_id" ∷ columns.now) names.now }
 {
-    if names.len() < 2 || names.len() - 2 != columns.len() {
+    if names.len() < 2 {
         return false;
     }
-    if !is_same(names.text(0), b"id") || !is_same(names.text(1), b"fts_doc_id") {
+    if names.len() - 2 != columns.len() {
+        return false;
+    }
+    if !is_same(names.text(0), b"id") {
+        return false;
+    }
+    if !is_same(names.text(1), b"fts_doc_id") {
         return false;
     }
     are_columns(columns, names, 2)

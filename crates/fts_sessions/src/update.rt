@@ -89,7 +89,8 @@ fn comes_again(names: &Names, place: usize) -> bool
         str_eq_ignore_ascii_case (slice_index_or names.now place []) other)
         (drop (place + 1) names.now) }
 {
-    for other in place + 1..names.len() {
+    let count = names.len();
+    for other in place + 1..count {
         if is_same(names.text(place), names.text(other)) {
             return true;
         }
