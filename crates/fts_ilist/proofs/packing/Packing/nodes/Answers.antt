@@ -1,7 +1,7 @@
-use Rattle.std.proofs.Common.{◌≢◌, ◌++◌, ◌∷◌, [], All, ap, sym, subst, ◌∙◌}
+use Rattle.std.proofs.Common.{◌++◌, ◌∷◌, [], ap, sym, ◌∙◌}
 use Rattle.std.proofs.lemmas.Bool.{false≢true}
 use Rattle.fts_ilist.specs.Node.{Docs}
-use Rattle.fts_ilist.specs.Packing.{packed, joined}
+use Rattle.fts_ilist.specs.Packing.{packed}
 use Rattle.fts_ilist.proofs.Packs.{packed_all, packed_none, closed_filled}
 use Rattle.fts_ilist.proofs.packing.Packing.nodes.Goals as goal
 
