@@ -82,7 +82,7 @@ impl Building {
         Ok(())
     }
 
-    /// Takes the node of the last word whose list begins the bytes, and gives what stands behind it.
+    /// Takes the node of the last word whose list begins the bytes, and gives what is behind it.
     #[tactic(auto, unfolding(crate::specs::Reading::more_at))]
     fn take_list<'a>(&mut self, alloc: Global, bytes: &'a [u8]) -> Result<&'a [u8], Fault>
         ensures { Gives (λ rest. (self.new, rest.now)) result (more_at self.old bytes.now) }

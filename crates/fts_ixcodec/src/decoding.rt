@@ -88,7 +88,7 @@ fn entry_in(alloc: Global, bytes: &[u8]) -> Result<Entry, Fault>
 /// `Bad` exactly where the bytes are no payload of the index log, with the place at which the first
 /// field begins that can't stand there: a kind that is none; a number that is cut; a word's length
 /// of 0 or above 84; a word that is cut, has no word's form or stands before the one before it; a
-/// list that is cut, is empty or none, begins with an id that is not above the last one of its word,
+/// list that is cut, is empty or none, begins with an id that is not above its word's last one,
 /// or has more documents than one in more than 8,192 bytes; what stands behind the last field.
 /// `NoMemory` where there is none for the entry.
 pub fn decode(alloc: Global, bytes: &[u8]) -> Result<Entry, DecodeError>

@@ -1,7 +1,7 @@
 //! The payloads of the index log: batches, the begin and the finish of a pass, and its words.
 //!
 //! `encode_sealed_into(7, 12, &nodes, &mut buf)` writes a batch, in the bytes that
-//! `sealed_size(&nodes)` counts, and `decode(alloc, &bytes)?` gives the entry that bytes stand for, or
+//! `sealed_size(&nodes)` counts, and `decode(alloc, &bytes)?` gives the entry that bytes are, or
 //! where the first field begins that can't stand there.
 //! `docs/FORMATS.md`, "Payloads of the index log", has the format.
 //!

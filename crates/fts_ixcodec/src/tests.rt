@@ -241,8 +241,8 @@ fn standing(rt: &impl Abort, alloc: Global, place: usize, byte: u8) -> Result<us
     Ok(count)
 }
 
-// By hand: each bit of through and of synced gives another batch, and so do 4, 5, 5, 4 and 5 bits of
-// the letters, six of the id and six of the place.
+// By hand: each bit of through and of synced gives another batch, and so do 4, 5, 5, 4 and 5 bits
+// of the letters, six of the id and six of the place.
 #[test]
 fn a_flipped_bit_is_refused_or_another_entry(rt: HostRuntime) -> Result<(), Fail> {
     let mut count = 0usize;
