@@ -2,8 +2,8 @@
 //!
 //! `u32_at(bytes)?` gives the number at the front and the bytes behind it, and
 //! `at += put_u32(&mut buf[at..], 7)` writes one. `specs/Reading.antt` says what is read, and
-//! `specs/Writing.antt` what a writer leaves of a buffer; that what is written is read back, and what
-//! is read is written so, are laws of these alone (`proofs/Spelled.antt`).
+//! `specs/Writing.antt` what a writer leaves of a buffer. That what is written is read back, and
+//! what is read is written so, are laws of these alone (`proofs/Spelled.antt`).
 //!
 //! None takes memory.
 #![tactic(auto)]
