@@ -1,5 +1,5 @@
 ghost use Rattle.std.specs.Prelude.{◌≡◌, ◌≤◌, ℕ, length, IfOk, IfSome};
-ghost use Rattle.fts_commits.specs.Fits.{IsText, FitsColumns, FitsNumbers, IsPlainInsert};
+ghost use Rattle.fts_commits.specs.Fits.{IsText, FitsColumns, FitsNumbers};
 ghost use Rattle.fts_commits.specs.Fits.{CanCommit};
 
 use super::*;
@@ -87,7 +87,6 @@ fn insert(alloc: Global, key: Key, title: &[u8], body: &[u8]) -> Result<Change, 
     requires title { IsText title.now }
     requires body { IsText body.now }
     ensures fits { IfOk result (FitsColumns 2) }
-    ensures plain { IfOk result IsPlainInsert }
     ensures numbers { IfOk result FitsNumbers }
 {
     let mut texts = RowTexts::new(alloc);
