@@ -39,7 +39,8 @@ pub struct Reached<'l> {
 
 /// The step of a token that stands where the pieces begin.
 fn begin<'g>(pieces: &'g [Piece], ahead: &'g [Part], token: &Token) -> Option<Step<'g>>
-    ensures { option_map step_of result ≡ begin pieces.now (parts_of ahead.now) (token_of token.now) }
+    ensures { option_map step_of result
+        ≡ begin pieces.now (parts_of ahead.now) (token_of token.now) }
 {
     let (first, begun) = pieces.split_first()?;
     if !first.has(token) {
