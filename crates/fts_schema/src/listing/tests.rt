@@ -91,9 +91,19 @@ fn no_word_is_no_row(rt: HostRuntime) -> Result<(), Fail> {
 fn each_id_is_a_row(rt: HostRuntime) -> Result<(), Fail> {
     let alloc = rt.alloc();
     let ids = DocIds::new(vec![in alloc; 7; 1]?);
-    lists(&rt, alloc, Listing::Ids { ids }, "DOC_ID\n7\nOK 1 rows as of 12\n")?;
+    lists(
+        &rt,
+        alloc,
+        Listing::Ids { ids },
+        "DOC_ID\n7\nOK 1 rows as of 12\n",
+    )?;
     let ids = DocIds::new(Vec::new(alloc));
-    lists(&rt, alloc, Listing::Ids { ids }, "DOC_ID\nOK 0 rows as of 12\n")
+    lists(
+        &rt,
+        alloc,
+        Listing::Ids { ids },
+        "DOC_ID\nOK 0 rows as of 12\n",
+    )
 }
 
 /// Settings of a database of which two commits are flushed.

@@ -37,7 +37,7 @@ framed_commit-requires g c = (
   _,
   c.requires.few,
   accepted_fits _ (engine_limits c.args.self.now) c.args.changes.now (kept_rows c.args.self.now.kept) c.in-Ok.ensures.planned.0 c.args.self.now.kept.within c.args.self.now.kept.fit
-  c.requires c.in-Ok.ensures.planned.1,
+      c.requires c.in-Ok.ensures.planned.1,
 )
 
 pub returns-in-Err-framed_commit-clause-steps : goal.returns-in-Err-framed_commit-clause-steps
