@@ -1,0 +1,78 @@
+#!/usr/bin/env python3
+"""Times changes of a database that has rows already: bench/churn.py [ROWS ..]
+
+Mails as in bench/queries.py, each INSERT a commit, into a database with the default cache. Then changes, as many of each kind
+as there are in a tenth of the rows, but at most 3,000: an INSERT, an UPDATE of a random row and a DELETE of another, in turn.
+Told is the processor's time of one of each kind, batches that follow it included, and that of a search for a word before any
+change, behind them, and behind a tenth of the rows died and all is flushed. It needs Python 3 and Linux, and works below TMPDIR.
+"""
+import argparse
+import os
+import random
+import tempfile
+
+from batches import INSERT, end, inserts
+from queries import MATCH, TOP, Fts, texts_of, word_of
+
+UPDATE = "UPDATE docs SET body = '%s' WHERE id = %d\n"
+DELETE = "DELETE FROM docs WHERE id = %d\n"
+WORDS = {"a rare word": (5_000, 40_000), "a word of the middle": (300, 1_500), "a frequent word": (100, 200)}
+LEAST_OF = 5
+
+
+def searches(fts):
+    """The least time of five turns, of each kind of word."""
+    told = {}
+    for name, (low, high) in WORDS.items():
+        draw = random.Random(3)
+        lines = [MATCH % word_of(draw.randrange(low, high)) for _ in range(40)]
+        told[name] = min(fts.ask(lines)[1] for _ in range(LEAST_OF))
+    return told
+
+
+def changes(fts, texts, rows, count):
+    """The mean times of an INSERT, an UPDATE and a DELETE, made in turn, hundred by hundred."""
+    draw = random.Random(4)
+    keys = list(range(1, rows + 1))
+    draw.shuffle(keys)
+    spent = {"INSERT": 0, "UPDATE": 0, "DELETE": 0}
+    for first in range(0, count, 100):
+        kinds = {
+            "INSERT": [INSERT % (rows + first + k + 1, " ".join(texts[first + k])) for k in range(100)],
+            "UPDATE": [UPDATE % (" ".join(texts[-first - k - 1]), keys[count + first + k]) for k in range(100)],
+            "DELETE": [DELETE % keys[first + k] for k in range(100)],
+        }
+        for kind, lines in kinds.items():
+            spent[kind] += fts.ask(lines)[1]
+    return {kind: total / (count / 100) for kind, total in spent.items()}, keys[2 * count :]
+
+
+def told(times):
+    return ", ".join(f"{name} {took:.0f} us" for name, took in times.items())
+
+
+def main():
+    parser = argparse.ArgumentParser(description="Times changes of rows.")
+    parser.add_argument("rows", nargs="*", type=int, default=[10_000])
+    parser.add_argument("--program", default=os.path.join(TOP, "crates/fts/out/fts"))
+    words = parser.parse_args()
+    for rows in words.rows:
+        texts = texts_of(rows)
+        count = min(3_000, rows // 10) // 100 * 100
+        with tempfile.TemporaryDirectory() as folder:
+            fts = Fts(words.program, f"{folder}/db")
+            for first in range(0, rows, 1_000):
+                fts.ask(inserts(texts[first : first + 1_000], first + 1))
+            fts.ask(["SYNC\n"])
+            print(f"{rows:,} mails, before: {told(searches(fts))}", flush=True)
+            times, left = changes(fts, texts, rows, count)
+            print(f"one of {count:,} each: {told(times)}", flush=True)
+            print(f"behind them: {told(searches(fts))}", flush=True)
+            fts.ask([DELETE % key for key in left[: rows // 10 - 2 * count]])
+            fts.ask(["SYNC\n"])
+            print(f"a tenth dead, all flushed: {told(searches(fts))}", flush=True)
+            end(fts)
+
+
+if __name__ == "__main__":
+    main()
