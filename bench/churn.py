@@ -1,8 +1,8 @@
 #!/usr/bin/env python3
 """Times changes of a database that has rows already: bench/churn.py [ROWS ..]
 
-Mails as in bench/queries.py, each INSERT a commit, into a database with the default cache. Then changes, as many of each kind
-as there are in a tenth of the rows, but at most 3,000: an INSERT, an UPDATE of a random row and a DELETE of another, in turn.
+Mails as in bench/queries.py, each INSERT a commit, into a database with the default cache. Then changes, of each kind as many
+as a twentieth of the rows, but at most 3,000: an INSERT, an UPDATE of a random row and a DELETE of another, in turn.
 Told is the processor's time of one of each kind, batches that follow it included, and that of a search for a word before any
 change, behind them, and behind a tenth of the rows died and all is flushed. It needs Python 3 and Linux, and works below TMPDIR.
 """
@@ -58,7 +58,7 @@ def main():
     words = parser.parse_args()
     for rows in words.rows:
         texts = texts_of(rows)
-        count = min(3_000, rows // 10) // 100 * 100
+        count = min(3_000, rows // 20) // 100 * 100
         with tempfile.TemporaryDirectory() as folder:
             fts = Fts(words.program, f"{folder}/db")
             for first in range(0, rows, 1_000):
