@@ -14,6 +14,8 @@ MOST_ROWS = 1_000_000
 MOST_TEXT_BYTES = 65_535
 LEAST_KEY_PAST = 2**64
 MOST_LOG_BYTES = 2**32
+MOST_DOC_STEP = 65_535
+LARGEST_DOC = 2**63 - 1
 PIECE = 65_536
 # The first bytes of a packed stream, and what unpacks it.
 PACKED = {b"BZh": bz2.open, b"\x1f\x8b": gzip.open, b"\xfd7zXZ\0": lzma.open}
@@ -68,10 +70,12 @@ def quoted(text):
     return "'" + text.replace("'", "''") + "'"
 
 
-def insert_of(columns, key, texts):
-    """The statement of a row, whose texts are folded."""
-    names = ", ".join(("id", *columns))
-    values = ", ".join((str(key), *(quoted(it) for it in texts)))
+def insert_of(columns, key, doc, texts):
+    """The statement of a row, whose texts are folded, with a document id or none."""
+    given = () if doc is None else ("FTS_DOC_ID",)
+    names = ", ".join(("id", *given, *columns))
+    numbers = [key] if doc is None else [key, doc]
+    values = ", ".join((*map(str, numbers), *(quoted(it) for it in texts)))
     return f"INSERT INTO docs ({names}) VALUES ({values})\n"
 
 
@@ -80,9 +84,9 @@ def log_bytes_of_settings(columns):
     return 29 + sum(1 + len(it) for it in columns)
 
 
-def log_bytes_of(texts):
-    """How many bytes of the log a row takes."""
-    return 18 + sum(2 + len(it) for it in texts)
+def log_bytes_of(doc, texts):
+    """How many bytes of the log a row takes, with a document id or none."""
+    return (18 if doc is None else 26) + sum(2 + len(it) for it in texts)
 
 
 def cut(texts):
@@ -139,6 +143,8 @@ class Script:
         self.columns = ()
         self.rows = 0
         self.row_bytes = 0
+        # The document id of the last row.
+        self.doc = 0
         self.status = 0
         # At most a million: where a key comes twice, the engine refuses it and gives no id.
         self.keys = set()
@@ -151,8 +157,11 @@ class Script:
         self.tell(place, what)
         self.status = 1
 
-    def insert(self, place, label, texts, key=None):
-        """Writes a row, its texts folded, with this key, a number in digits, or else counted."""
+    def insert(self, place, label, texts, key=None, doc=None):
+        """Writes a row, its texts folded, with this key, a number in digits, or else counted.
+
+        The same of its document id, which is counted too where it does not go on from the last.
+        """
         if key is not None:
             key = self.checked(place, key)
             if key is None:
@@ -162,14 +171,26 @@ class Script:
         if size > MOST_TEXT_BYTES:
             self.tell(place, f"texts of {size} bytes cut at {MOST_TEXT_BYTES}")
             texts = cut(texts)
-        self.take_room(place, texts)
-        self.write(self.out, insert_of(self.columns, self.rows if key is None else key, texts))
+        given = None if doc is None else self.next_doc(place, doc)
+        self.take_room(place, given, texts)
+        self.doc = self.doc + 1 if given is None else given
+        key = self.rows if key is None else key
+        self.write(self.out, insert_of(self.columns, key, given, texts))
         if self.map_file:
-            self.write(self.map_file, f"{self.rows}\t{one_line(label)}\n")
+            self.write(self.map_file, f"{self.doc}\t{one_line(label)}\n")
 
-    def take_room(self, place, texts):
+    def next_doc(self, place, doc):
+        """The document id as a number, or none where the engine would refuse it behind the last."""
+        if re.fullmatch(r"[0-9]{1,40}", doc):
+            if self.doc < int(doc) <= min(self.doc + MOST_DOC_STEP, LARGEST_DOC):
+                return int(doc)
+        within = f"within {MOST_DOC_STEP} above {self.doc}, and counted"
+        self.tell(place, f"the document id {one_line(doc)[:40]!r} is not {within}")
+        return None
+
+    def take_room(self, place, doc, texts):
         """Counts a row. Where the database has no room for it, nothing is written any more."""
-        self.row_bytes += log_bytes_of(texts)
+        self.row_bytes += log_bytes_of(doc, texts)
         if self.rows == MOST_ROWS:
             raise Full(place, f"{MOST_ROWS} rows are the most")
         if log_bytes_of_settings(self.columns) + self.row_bytes > MOST_LOG_BYTES:
