@@ -1,6 +1,7 @@
 use super::*;
 use fts_ilist::{Ilist, Nodes};
 use fts_listing::ListedWords;
+use fts_types::DocIds;
 use std::process::Abort;
 use std::test::Fail;
 
