@@ -68,7 +68,9 @@ def main():
             times, left = changes(fts, texts, rows, count)
             print(f"one of {count:,} each: {told(times)}", flush=True)
             print(f"behind them: {told(searches(fts))}", flush=True)
-            fts.ask([DELETE % key for key in left[: rows // 10 - 2 * count]])
+            dying = left[: rows // 10 - 2 * count]
+            if dying:
+                fts.ask([DELETE % key for key in dying])
             fts.ask(["SYNC\n"])
             print(f"a tenth dead, all flushed: {told(searches(fts))}", flush=True)
             end(fts)

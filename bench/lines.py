@@ -2,9 +2,10 @@
 """Runs random lines by the built program, and by a plain model of it that stands here: bench/lines.py [LINES [SEED]]
 
 INSERTs with and without a document id, UPDATEs, DELETEs, searches, SYNC and the views, over at most fifty keys, in runs of
-1,000 lines on one database, so that each run opens what the last one left. The model keeps lists and looks at each row of the
-table. It tells the first reply that differs, and ends with status 1 then. The program is built first by ./fts, if it isn't.
-Takes a minute for 100,000 lines. Python 3.8 or later.
+1,000 lines, so that each run opens what the last one left, and with a new database each 5,000 lines, which has the next seed.
+The model keeps lists and looks at each row of the table. It tells the first reply that differs, and ends with status 1 then.
+The program is built first by ./fts, if it isn't.
+Takes some five minutes for 100,000 lines. Python 3.8 or later.
 """
 import os
 import random
@@ -15,7 +16,8 @@ import tempfile
 
 TOP = os.path.dirname(os.path.dirname(os.path.realpath(__file__)))
 SCRIPT = os.path.join(TOP, "fts")
-RUN_LINES = 1000
+RUN_LINES = 1_000
+DATABASE_LINES = 5_000
 KEYS = 50
 COLUMNS = ["title", "body"]
 STOPWORDS = set(
@@ -282,9 +284,8 @@ def differs(lines, seen):
     return bool(seen)
 
 
-def main():
-    count = int(sys.argv[1]) if len(sys.argv) > 1 else 100_000
-    seed = int(sys.argv[2]) if len(sys.argv) > 2 else 1
+def tried(seed, count):
+    """How many commits so many lines made on a database of their own, or nothing where a reply differs."""
     draw = random.Random(seed)
     batch_docs, cache_bytes = draw.choice([1, 3, 20]), draw.choice([1000, 4000])
     model = Model(batch_docs, cache_bytes)
@@ -293,18 +294,28 @@ def main():
         folder = os.path.join(room, "shop")
         words = ["--columns", ",".join(COLUMNS), "--batch-docs", str(batch_docs), "--cache-bytes", str(cache_bytes)]
         if subprocess.run([SCRIPT, folder, "create"] + words, stdout=subprocess.DEVNULL).returncode:
-            return 1
-        done = 0
-        while done < count:
+            return None
+        for done in range(0, count, RUN_LINES):
             model.open()
             chunk = [lines.next() for _ in range(min(RUN_LINES, count - done))]
             script = "".join(line + "\n" for line, _ in chunk)
             ran = subprocess.run([SCRIPT, folder, "run"], input=script, capture_output=True, text=True)
             if ran.returncode or differs(chunk, ran.stdout):
                 print(f"seed {seed}, behind {done} lines: status {ran.returncode} {ran.stderr}")
-                return 1
-            done += len(chunk)
-    print(f"{done} lines with {len(model.turns)} commits, {batch_docs} documents a batch, as the model has it")
+                return None
+    return len(model.turns)
+
+
+def main():
+    count = int(sys.argv[1]) if len(sys.argv) > 1 else 100_000
+    seed = int(sys.argv[2]) if len(sys.argv) > 2 else 1
+    commits = 0
+    for done in range(0, count, DATABASE_LINES):
+        made = tried(seed + done // DATABASE_LINES, min(DATABASE_LINES, count - done))
+        if made is None:
+            return 1
+        commits += made
+    print(f"{count} lines with {commits} commits, as the model has it")
     return 0
 
 
