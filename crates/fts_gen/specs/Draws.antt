@@ -14,8 +14,8 @@ draws (suc n) x = draws n (draw x)
 abbrev pub vocabulary : List (List ℕ)
 vocabulary =
     codes "ant" ∷ codes "bee" ∷ codes "cat" ∷ codes "dog" ∷ codes "elk" ∷ codes "fox" ∷ codes "gnu" ∷ codes "hen"
-    ∷ codes "ibis" ∷ codes "jay" ∷ codes "kite" ∷ codes "lark" ∷ codes "mole" ∷ codes "newt" ∷ codes "owl" ∷ codes "pony"
-    ∷ []
+    ∷ codes "ibis" ∷ codes "jay" ∷ codes "kite" ∷ codes "lark" ∷ codes "mole" ∷ codes "newt" ∷ codes "owl"
+    ∷ codes "pony" ∷ []
 
 -- the word of a draw
 abbrev pub word_of : ℕ → List ℕ

@@ -1,11 +1,12 @@
 -- The script of a number.
-use Rattle.std.specs.Prelude.{ℕ, zero, suc, ◌+◌, ◌-◌, ◌%◌, ◌==◌, nat_lt, Bool, if◌then◌else◌, List, [], ◌∷◌, ◌++◌, codes, decimal, drop, slice_index_or}
+use Rattle.std.specs.Prelude.{ℕ, zero, suc, ◌+◌, ◌-◌, ◌%◌, ◌==◌, nat_lt, Bool, if◌then◌else◌, List, [], ◌∷◌, ◌++◌}
+use Rattle.std.specs.Prelude.{codes, decimal, drop, slice_index_or}
 use Rattle.std.specs.List.{concat, flat_map}
 use Rattle.fts_gen.specs.Draws.{draw, draws, word_of, text_behind}
 use Rattle.fts_gen.specs.declared.table.Table.{Table}
 use Rattle.fts_gen.specs.declared.generator.ScriptLines.{ScriptLines}
 
--- how statements name the text columns: the first one, each other one behind a comma; and an empty text for each of these
+-- how statements name the text columns: the first, each other one behind a comma; and an empty text for each of these
 pub record Spelled : Type 0 where
   pub first : List ℕ
   pub others : List ℕ
