@@ -30,6 +30,8 @@ abbrev pub sync_answer_of : Result SyncBatch SyncError → Answer
 sync_answer_of (Ok (Flushed through commits)) = flushed through commits
 sync_answer_of (Ok (Nothing commits)) = all_flushed commits
 sync_answer_of (Err sync.NoMemory) = no_memory
+sync_answer_of (Err (sync.LogFull end)) = full end
+sync_answer_of (Err (sync.DiskFault faults)) = disk_fault faults
 sync_answer_of (Err (sync.Stopped faults)) = stopped faults
 
 -- the answer that a listing's result is

@@ -1,35 +1,36 @@
 -- An engine as its steps see it, and what they add to it.
 use Rattle.std.specs.Prelude.{ℕ, List, [], ◌∷◌, length, Option, Some, None}
 use Rattle.fts_types.specs.Rules.{rules_of}
-use Rattle.fts_commits.specs.Commit.{Commit, no_rows}
-use Rattle.fts_commits.specs.Turn.{Turn, turns_from, births_of}
-use Rattle.fts_entries.specs.Entry.{IndexState, no_entries, unflushed}
-use Rattle.fts_entries.specs.Batch.{after_batch, next_through}
+use Rattle.fts_commits.specs.Commit.{Commit}
+use Rattle.fts_commits.specs.Turn.{births_of}
+use Rattle.fts_entries.specs.Entry.{IndexEntry, IndexState, unflushed}
+use Rattle.fts_entries.specs.Batch.{after_batch, next_entry, next_through}
 use Rattle.fts_entries.specs.Words.{rows_size}
-use Rattle.fts_steps.specs.State.{State, with_commits}
+use Rattle.fts_steps.specs.State.{State, turns_of, index_state, with_commits, with_entries}
 
 -- the database that the steps so far made; the state of its index; where a fault stopped the engine, the sum of the
--- counts of faults at that fault; and the commit, if any, that the fault left in doubt
+-- counts of faults at that fault; and the commit or the entry, if any, that the fault left in doubt
 pub record Running : Type 0 where
   pub state : State
   pub index : IndexState
   pub stopped : Option ℕ
   pub doubt : List Commit
+  pub loose : List IndexEntry
 
--- an engine that was just opened: nothing is flushed
+-- an engine that was just opened
 abbrev pub opened : State → Running
-opened state = record { state = state; index = no_entries; stopped = None; doubt = [] }
+opened state = record { state = state; index = index_state state; stopped = None; doubt = []; loose = [] }
 
--- what the commits do, as an index sees them
-abbrev pub turns_of : State → List Turn
-turns_of state = turns_from no_rows state.commits
-
--- the state of the index behind its next batch, and through which commit that flushes
+-- the state of the index behind its next batch, through which commit that flushes, and its entry
 abbrev pub next_index : State → IndexState → IndexState
 next_index state index = after_batch (rules_of state.settings) state.settings.batch_docs (turns_of state) index
 
 abbrev pub next_flushed : Running → ℕ
 next_flushed running = next_through running.state.settings.batch_docs (turns_of running.state) running.index
+
+abbrev pub next_batch : Running → IndexEntry
+next_batch running = next_entry (rules_of running.state.settings) running.state.settings.batch_docs
+    (turns_of running.state) running.index
 
 -- the size of the cache: what the rows count that were born in commits that are not flushed
 abbrev pub cache_size : Running → ℕ
@@ -37,11 +38,12 @@ cache_size running =
     rows_size (rules_of running.state.settings) (births_of (unflushed (turns_of running.state) running.index))
 
 -- what a step adds: a commit; a batch of the index; or a fault that stops the engine, with the sum of the counts, and
--- what it left in doubt
+-- that leaves a commit in doubt, or the entry of a batch
 pub data What : Type 0 where
   made : Commit → What
   batched : What
   failed : ℕ → List Commit → What
+  loosened : ℕ → What
 
 -- what was added, and the number of who added it
 pub record Entry : Type 0 where
@@ -49,20 +51,14 @@ pub record Entry : Type 0 where
   pub what : What
 
 abbrev pub with_what : Running → What → Running
-with_what running (made commit) = record {
-  state = with_commits running.state (commit ∷ []);
-  index = running.index;
-  stopped = running.stopped;
-  doubt = running.doubt;
-}
-with_what running batched = record {
-  state = running.state;
+with_what running (made commit) = record running { state = with_commits running.state (commit ∷ []) }
+with_what running batched = record running {
+  state = with_entries running.state (next_batch running ∷ []);
   index = next_index running.state running.index;
-  stopped = running.stopped;
-  doubt = running.doubt;
 }
-with_what running (failed faults doubt) =
-    record { state = running.state; index = running.index; stopped = Some faults; doubt = doubt }
+with_what running (failed faults doubt) = record running { stopped = Some faults; doubt = doubt }
+with_what running (loosened faults) =
+    record running { stopped = Some faults; loose = next_batch running ∷ [] }
 
 -- the engine, grown by these entries
 abbrev pub grown : Running → List Entry → Running

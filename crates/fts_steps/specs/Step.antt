@@ -13,13 +13,13 @@ use Rattle.fts_meaning.specs.View.{View, view_of}
 use Rattle.fts_disk.specs.Crash.{Images}
 use Rattle.fts_disk.specs.Moments.{LeavesOnly}
 use Rattle.fts_disk.specs.declared.disk.Disk.{Ghosts}
-use Rattle.fts_steps.specs.State.{State, end_after}
+use Rattle.fts_steps.specs.State.{State, turns_of, end_after, index_end_after}
 use Rattle.fts_listing.specs.declared.kind.ListingKind.{ListingKind}
 use Rattle.fts_listing.specs.declared.listing.Listing.{Listing}
 use Rattle.fts_listing.specs.Listing.{IsListed}
-use Rattle.fts_steps.specs.Running.{Running, What, made, batched, failed, Entry, grown, turns_of, next_flushed}
-use Rattle.fts_steps.specs.Running.{cache_size}
-use Rattle.fts_steps.specs.Crash.{IsBetween, HoldsIndex}
+use Rattle.fts_steps.specs.Running.{Running, What, made, batched, failed, loosened, Entry, grown, next_flushed}
+use Rattle.fts_steps.specs.Running.{next_batch, cache_size}
+use Rattle.fts_steps.specs.Crash.{IsBetween, IsIndexBetween}
 
 -- what a step is asked: to make a commit; to make a batch of the index; to tell what the rows have for leaves; to find
 -- the rows in which a query holds; to list what a view has; or to tell the size of the cache
@@ -60,11 +60,18 @@ commit_answer limits state commit (Ok rows) =
     if nat_lt limits.log_bytes (end_after state commit) then full (end_after state commit) else committed
     (length state.commits + 1)
 
--- the answer to a batch
-abbrev pub batch_answer : Running → Answer
-batch_answer running =
+-- the answer to a batch: where all commits are flushed there is none, and else its entry is written, unless the log
+-- would pass its limit
+abbrev pub entry_answer : Limits → Running → Answer
+entry_answer limits running =
+    if nat_lt limits.log_bytes (index_end_after running.state (next_batch running))
+    then full (index_end_after running.state (next_batch running))
+    else flushed (next_flushed running) (length running.state.commits)
+
+abbrev pub batch_answer : Limits → Running → Answer
+batch_answer limits running =
     if nat_lt running.index.flushed (length running.state.commits)
-    then flushed (next_flushed running) (length running.state.commits)
+    then entry_answer limits running
     else all_flushed (length running.state.commits)
 
 -- the view of a database for leaves
@@ -80,7 +87,7 @@ unless_stopped (Some faults) answer = stopped faults
 abbrev pub plain_answer : Limits → Running → Ask → Answer
 plain_answer limits running (to_commit commit) = unless_stopped running.stopped
     (commit_answer limits running.state commit (after_commit limits commit (replay running.state.commits)))
-plain_answer limits running to_sync = unless_stopped running.stopped (batch_answer running)
+plain_answer limits running to_sync = unless_stopped running.stopped (batch_answer limits running)
 plain_answer limits running (to_view asked) = viewed (state_view running.state asked)
 plain_answer limits running (to_find terms) = found (length running.state.commits)
     (scan (rules_of running.state.settings) (replay running.state.commits).list terms)
@@ -93,11 +100,15 @@ Lists running (to_list kind) number listing = (number ≡ length running.state.c
     × IsListed running.state.settings (turns_of running.state) running.index kind listing
 Lists running ask number listing = ⊥
 
--- the answers that a step may give: its plain one, want of memory, and a disk fault where it would have committed
+-- the step would write: a commit, or the entry of a batch
+abbrev pub Writes : Running → Answer → Type 0
+Writes running answer = (answer ≡ committed (length running.state.commits + 1))
+    ⊎ (answer ≡ flushed (next_flushed running) (length running.state.commits))
+
+-- the answers that a step may give: its plain one, want of memory, and a disk fault where it would have written
 abbrev pub MayAnswer : Limits → Running → Ask → Answer → Type 0
 MayAnswer limits running ask no_memory = Unit {0}
-MayAnswer limits running ask (disk_fault faults) =
-    plain_answer limits running ask ≡ committed (length running.state.commits + 1)
+MayAnswer limits running ask (disk_fault faults) = Writes running (plain_answer limits running ask)
 MayAnswer limits running ask (committed number) = plain_answer limits running ask ≡ committed number
 MayAnswer limits running ask (refused why) = plain_answer limits running ask ≡ refused why
 MayAnswer limits running ask (full end) = plain_answer limits running ask ≡ full end
@@ -115,6 +126,7 @@ abbrev pub changes_of : Ask → Answer → List What
 changes_of (to_commit commit) (committed number) = made commit ∷ []
 changes_of (to_commit commit) (disk_fault faults) = failed faults (commit ∷ []) ∷ []
 changes_of to_sync (flushed through commits) = batched ∷ []
+changes_of to_sync (disk_fault faults) = loosened faults ∷ []
 changes_of ask answer = []
 
 -- the entries that a step adds, by their number's owner
@@ -148,8 +160,8 @@ Leaves below P old new = (below.device new ≡ below.device old)
     ⊎ LeavesOnly below.disk (below.device old) (below.device new) P
 
 -- a step: `more` is what others added before it. It answers as it may on the engine grown so, and what stands then
--- stands for this engine after the answer. Where there are no others, a crash at any moment leaves what stood before it
--- or what stands behind it, and the index log as it was
+-- stands for this engine after the answer. Where there are no others, a crash at any moment leaves of each log what stood
+-- before it or what stands behind it
 pub record Steps {S : Type 0} (sight : Sight S) (ask : Ask) (answer : Answer) (old new : S) : Type 0 where
   pub more : List Entry
   pub alone : sight.is_shared ≡ false → more ≡ []
@@ -159,7 +171,8 @@ pub record Steps {S : Type 0} (sight : Sight S) (ask : Ask) (answer : Answer) (o
   pub crash : sight.is_shared ≡ false → IsTrue sight.rows.disk.tells → (running : Running)
       → sight.stands running old → Leaves sight.rows (IsBetween running (after (grown running more) ask answer)) old new
   pub index : sight.is_shared ≡ false → IsTrue sight.index.disk.tells → (running : Running)
-      → sight.stands running old → Leaves sight.index (HoldsIndex running.state) old new
+      → sight.stands running old
+      → Leaves sight.index (IsIndexBetween running (after (grown running more) ask answer)) old new
   pub settings : sight.settings new ≡ sight.settings old
   pub limits : sight.limits new ≡ sight.limits old
   pub faults : CountsFault (IsTrue (is_disk_fault answer)) (sight.faults old) (sight.faults new)

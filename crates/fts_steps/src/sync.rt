@@ -17,8 +17,13 @@ pub enum SyncBatch {
 /// Why no batch was made.
 #[derive(Clone, Copy, Debug, PartialEq, Eq)]
 pub enum SyncError {
-    /// Memory ran out. Nothing changed.
+    /// Memory ran out, before the device was touched. Nothing changed.
     NoMemory,
+    /// The index log would end at this place, which is past its limit. Nothing changed.
+    LogFull { end: u64 },
+    /// A device failed, and the devices' counts of faults are now `faults` together. Whether the
+    /// batch is in the log is open until the log is opened again.
+    DiskFault { faults: u128 },
     /// A device failed in an earlier writing step, after which the devices' counts of faults were
     /// `faults` together. Nothing changed.
     Stopped { faults: u128 },
@@ -28,6 +33,8 @@ impl fmt::Display for SyncError {
     fn fmt<W: fmt::Write>(&self, f: &mut fmt::Formatter<W>) -> fmt::Result {
         match self {
             SyncError::NoMemory => write!(f, "no memory"),
+            SyncError::LogFull { end } => write!(f, "log full at {end}"),
+            SyncError::DiskFault { .. } => write!(f, "disk fault"),
             SyncError::Stopped { faults } => write!(f, "stopped after {faults} disk faults"),
         }
     }
