@@ -1,6 +1,6 @@
 -- What a commit makes of an engine that stands for a state.
-use Rattle.std.proofs.Common.{◌≡◌, ℕ, ◌+◌, ◌-◌, ◌<◌, List, [], ◌∷◌, ◌++◌, refl, ap, subst, sym, ◌∙◌, length, arith, inl, inr, length-append}
-use Rattle.std.proofs.lemmas.List.{map-append}
+use Rattle.std.proofs.Common.{◌≡◌, ℕ, ◌+◌, ◌-◌, ◌<◌, List, [], ◌∷◌, ◌++◌, refl, ap, subst, sym, ◌∙◌, length, map, arith, inl, inr, length-append}
+use Rattle.std.proofs.lemmas.List.{map-append, length-map}
 use Rattle.std.proofs.lemmas.List.Elements.{All-push}
 use Rattle.std.proofs.lemmas.Bool.{ltb-true, false_from_ne_true}
 use Rattle.std.specs.Prelude.{Bool, true, false, nat_lt, Result, Ok, None}
@@ -15,7 +15,7 @@ use Rattle.fts_commits.specs.Commit.{Commit, Rows, after_commit, replay, no_rows
 use Rattle.fts_commits.specs.Fits.{CanCommit}
 use Rattle.fts_meaning.specs.Leaf.{Leaf}
 use Rattle.fts_meaning.specs.View.{View, view_of}
-use Rattle.fts_log.specs.Record.{IsLog, log_end}
+use Rattle.fts_log.specs.Record.{IsLog, IsLogOfEither, log_end}
 use Rattle.fts_log.specs.Crash.{IsBeforeOrAfter}
 use Rattle.fts_log.specs.Log as log
 use Rattle.fts_log.specs.Log.{StandsFor, device_of, magic_of, limit_of, count_of, end_of}
@@ -24,8 +24,11 @@ use Rattle.fts_log.specs.declared.frame.Framed.{Framed}
 use Rattle.fts_log.specs.declared.log.Log.{Log}
 use Rattle.fts_log.proofs.Bytes.{length-front-push}
 use Rattle.fts_rowcodec.specs.Payload.{commit_payload, settings_payload, IsWritten}
-use Rattle.fts_steps.specs.State.{State, payloads, rows_magic, index_magic, end_after, with_commits, IsSound, IsRows}
+use Rattle.fts_entries.specs.Entry.{IndexEntry}
+use Rattle.fts_ixcodec.specs.Payload.{entry_payload}
+use Rattle.fts_steps.specs.State.{State, payloads, index_payloads, rows_magic, index_magic, end_after, with_commits, IsSound, HasEntries}
 use Rattle.fts_steps.specs.Running.{Running}
+use Rattle.fts_steps.proofs.Growing.{entries_stay}
 use Rattle.fts_steps.specs.Crash.{MayHold}
 use Rattle.fts_steps.specs.Step.{Answer, to_commit, to_view, committed, full, viewed, plain_answer, changes_of, is_disk_fault, MayAnswer}
 use Rattle.fts_commits.specs.declared.refusal.Refusal.{Refusal}
@@ -36,7 +39,7 @@ use Rattle.fts_engine.specs.Refusing.{refusal_answer}
 use Rattle.fts_engine.specs.declared.engine.Engine.{Engine}
 use Rattle.fts_engine.specs.Bounds.{AreWithin}
 use Rattle.fts_engine.specs.Kept.{kept_settings, kept_rows, kept_limits}
-use Rattle.fts_engine.specs.Stands.{Keeps, OnRows, OnIndex, engine_limits}
+use Rattle.fts_engine.specs.Stands.{Keeps, KeepsLog, OnRows, OnIndex, engine_limits}
 use Rattle.fts_engine.proofs.Accepting.{accepted_more, replay_accepted, AreAccepted-push}
 use Rattle.fts_engine.proofs.Fitting.{accepted_fits, replay_fits}
 
@@ -51,7 +54,6 @@ sound-push state commit after sound written ok = record {
   settings = sound.settings;
   written = All-push (IsWritten (length state.settings.columns)) state.commits commit sound.written written;
   accepted = AreAccepted-push no_rows state.commits commit sound.accepted (rw ok refl);
-  entries = sound.entries;
 }
 
 module _ (running : Running) (commit : Commit) (limits : Limits) (after : Rows) (going : running.stopped ≡ None)
@@ -67,52 +69,79 @@ module _ (running : Running) (commit : Commit) (limits : Limits) (after : Rows) 
   pub is_committed : (limits.log_bytes < end_after running.state commit → ⊥) → plain_answer limits running (to_commit commit) ≡ committed (length running.state.commits + 1)
   is_committed within = answered false (false_from_ne_true _ (λ past. within (ltb-true limits.log_bytes _ past)))
 
-module _ {D : Type 0} {disk : Ghosts D} (state : State) (log : Log D disk) (sound : IsSound state) (magic : magic_of log ≡ rows_magic) (logged : StandsFor (payloads state) log) where
-  -- the device reads as the rows log of the state
-  reads : IsRows state (disk.seen (device_of log) 0)
-  reads = record { sound = sound; log = subst (λ (m : List ℕ). IsLog m (payloads state) (disk.seen (device_of log) 0)) magic logged.is_log }
+-- ---- one log
 
-  -- a crash leaves the rows log of the state
-  crashed : (c : Files) → disk.images (device_of log) c → IsRows state (c 0)
-  crashed c may = subst (λ (file : List ℕ). IsRows state file) (sym (logged.durable c may)) reads
+module _ {D : Type 0} {disk : Ghosts D} (magic : List ℕ) (entries : List (List ℕ)) (limit : ℕ) (old : Log D disk) (keeps : KeepsLog magic entries limit old) where
+  module _ (framed : Framed) (payload : List ℕ) (is : payload_of framed ≡ payload) where
+    -- the end that the log computes is that of the entries and one more
+    pub same_end : log.end_after old framed ≡ log_end magic (entries ++ payload ∷ [])
+    same_end =
+        let ended = keeps.«end» in
+        let long : length (payload_of framed) ≡ length payload = ap length is in
+        let pushed = length-front-push magic entries payload in
+        omega (arith, ended, long, pushed)
 
--- a log with the entries of the state is the state's rows log on its device, whatever is in doubt
-pub on_rows : {D : Type 0} {disk : Ghosts D} (running : Running) (log : Log D disk) → IsSound running.state → magic_of log ≡ rows_magic → StandsFor (payloads running.state) log
-    → OnRows disk running (device_of log)
-on_rows running log sound magic logged = record {
-  reads = λ going. reads running.state log sound magic logged;
-  may_read = inl (reads running.state log sound magic logged);
-  crash = λ c may. inl (crashed running.state log sound magic logged c may);
+    -- an end that is not past the log's limit is not past the engine's
+    pub not_past : (limit_of old < log.end_after old framed → ⊥) → limit < log_end magic (entries ++ payload ∷ []) → ⊥
+    not_past within past =
+        let same = same_end in
+        let limited = keeps.limited in
+        within (omega (arith, same, limited, past))
+
+    -- it has one entry more
+    pub one_more : (new : Log D disk) (more : List (List ℕ)) → more ≡ entries ++ payload ∷ [] → magic_of new ≡ magic_of old → limit_of new ≡ limit_of old
+        → count_of new ≡ count_of old + 1 → end_of new ≡ log.end_after old framed → KeepsLog magic more limit new
+    one_more new more are begins limited count ended = record {
+      count = (let counted = keeps.count in omega (arith, count, counted, ap length are, length-append entries (payload ∷ [])));
+      «end» = ended ∙ same_end ∙ ap (log_end magic) (sym are);
+      begins = begins ∙ keeps.begins;
+      limited = limited ∙ keeps.limited;
+    }
+
+  -- it has the entries that it had
+  pub as_before : (new : Log D disk) → magic_of new ≡ magic_of old → limit_of new ≡ limit_of old → count_of new ≡ count_of old → end_of new ≡ end_of old
+      → KeepsLog magic entries limit new
+  as_before new begins limited count ended =
+      record { count = count ∙ keeps.count; «end» = ended ∙ keeps.«end»; begins = begins ∙ keeps.begins; limited = limited ∙ keeps.limited }
+
+  -- its device reads as the log of the entries, and a crash leaves that
+  pub log_reads : StandsFor entries old → IsLog magic entries (disk.seen (device_of old) 0)
+  log_reads logged = subst (λ (m : List ℕ). IsLog m entries (disk.seen (device_of old) 0)) keeps.begins logged.is_log
+
+  pub log_left : StandsFor entries old → (c : Files) → disk.images (device_of old) c → IsLog magic entries (c 0)
+  log_left logged c may = subst (λ (file : List ℕ). IsLog magic entries file) (sym (logged.durable c may)) (log_reads logged)
+
+  -- a crash in an append leaves the log of the entries, or of these and one more
+  pub left_either : (payload : List ℕ) (images : Images) (files c : Files) → IsBeforeOrAfter (magic_of old) entries payload images files c
+      → IsLogOfEither magic entries payload (c 0)
+  left_either payload images files c (inl before) = inl (subst (λ (m : List ℕ). IsLog m entries (c 0)) keeps.begins before.is_log)
+  left_either payload images files c (inr behind) = inr (subst (λ (m : List ℕ). IsLog m (entries ++ payload ∷ []) (c 0)) keeps.begins behind.is_log)
+
+-- a log with other limits
+pub within_limit : {D : Type 0} {disk : Ghosts D} (magic : List ℕ) (entries : List (List ℕ)) (limit limit' : ℕ) (log : Log D disk) → limit' ≡ limit
+    → KeepsLog magic entries limit log → KeepsLog magic entries limit' log
+within_limit magic entries limit limit' log same keeps = subst (λ (l : ℕ). KeepsLog magic entries l log) (sym same) keeps
+
+-- a log with the payloads of the state is the state's log on its device, whatever is in doubt
+pub on_rows : {D : Type 0} {disk : Ghosts D} (running : Running) (limit : ℕ) (log : Log D disk) → IsSound running.state
+    → KeepsLog rows_magic (payloads running.state) limit log → StandsFor (payloads running.state) log → OnRows disk running (device_of log)
+on_rows running limit log sound keeps logged = record {
+  reads = λ going. record { sound = sound; log = log_reads rows_magic (payloads running.state) limit log keeps logged };
+  may_read = inl (record { sound = sound; log = log_reads rows_magic (payloads running.state) limit log keeps logged });
+  crash = λ c may. inl (record { sound = sound; log = log_left rows_magic (payloads running.state) limit log keeps logged c may });
 }
 
--- and so is the index log on its device
-pub on_index : {E : Type 0} {disk : Ghosts E} (running : Running) (log : Log E disk) → magic_of log ≡ index_magic → StandsFor running.state.entries log
-    → OnIndex disk running (device_of log)
-on_index {disk} running log magic logged = record {
-  reads = is_index;
-  crash = λ c may. subst (λ (file : List ℕ). IsLog index_magic running.state.entries file) (sym (logged.durable c may)) is_index;
+pub on_index : {E : Type 0} {disk : Ghosts E} (running : Running) (limit : ℕ) (log : Log E disk) → HasEntries running.state
+    → KeepsLog index_magic (index_payloads running.state) limit log → StandsFor (index_payloads running.state) log → OnIndex disk running (device_of log)
+on_index running limit log entries keeps logged = record {
+  reads = λ going. record { sound = entries; log = log_reads index_magic (index_payloads running.state) limit log keeps logged };
+  may_read = inl (record { sound = entries; log = log_reads index_magic (index_payloads running.state) limit log keeps logged });
+  crash = λ c may. inl (record { sound = entries; log = log_left index_magic (index_payloads running.state) limit log keeps logged c may });
 }
-  where
-    is_index : IsLog index_magic running.state.entries (disk.seen (device_of log) 0)
-    is_index = subst (λ (m : List ℕ). IsLog m running.state.entries (disk.seen (device_of log) 0)) magic logged.is_log
+
+-- ---- one commit more
 
 module _ {D E : Type 0} {disk : Ghosts D} {disk' : Ghosts E} (state : State) (engine : Engine D E disk disk') (keeps : Keeps state engine) (commit : Commit) where
-  -- the end that the log computes is the one that the state has
-  pub same_end : (framed : Framed) → payload_of framed ≡ commit_payload commit → log.end_after engine.rows framed ≡ end_after state commit
-  same_end framed payload =
-      let is = keeps.log.«end» in
-      let long : length (payload_of framed) ≡ length (commit_payload commit) = ap length payload in
-      let pushed = length-front-push rows_magic (payloads state) (commit_payload commit) in
-      omega (arith, is, long, pushed)
-
-  -- an end that is not past the log's limit is not past the engine's
-  pub not_past : (framed : Framed) → payload_of framed ≡ commit_payload commit
-      → (limit_of engine.rows < log.end_after engine.rows framed → ⊥) → (engine_limits engine).log_bytes < end_after state commit → ⊥
-  not_past framed payload within past =
-      let same = same_end framed payload in
-      let limit = keeps.limit in
-      within (omega (arith, same, limit, past))
-
   -- what the rows that are kept accept, the rows of the state accept
   pub same_rows : (answer : Result Rows Refusal) → after_commit (engine_limits engine) commit (kept_rows engine.kept) ≡ answer
       → after_commit (engine_limits engine) commit (replay state.commits) ≡ answer
@@ -137,16 +166,15 @@ module _ {D E : Type 0} {disk : Ghosts D} {disk' : Ghosts E} (state : State) (en
         → Keeps (with_commits state (commit ∷ [])) new
     keeps_after new settings kept limits magic limit count framed payload ended index = record {
       sound = sound_after;
+      entries = entries_stay state (commit ∷ []) keeps.entries;
       settings = keeps.settings ∙ sym settings;
       rows = kept ∙ sym (replay_accepted state.commits commit after accepted);
       within = subst (λ (l : Limits). AreWithin standard_limits l) (sym limits) keeps.within;
-      log = record {
-        count = (let counted = keeps.log.count in omega (arith, count, counted, length-append state.commits (commit ∷ [])));
-        «end» = ended ∙ same_end framed payload ∙ ap (log_end rows_magic) (sym (payloads-push state commit));
-        magic = magic ∙ keeps.log.magic;
-      };
-      limit = limit ∙ keeps.limit ∙ ap (λ (l : Limits). l.log_bytes) (sym limits);
-      entries = ap (λ (l : Log E disk'). log.count_of l) index ∙ keeps.entries;
+      log = within_limit rows_magic (payloads (with_commits state (commit ∷ []))) (engine_limits engine).log_bytes (engine_limits new).log_bytes new.rows (ap (λ (l : Limits). l.log_bytes) limits)
+          (one_more rows_magic (payloads state) (engine_limits engine).log_bytes engine.rows keeps.log framed (commit_payload commit) payload new.rows (payloads (with_commits state (commit ∷ [])))
+          (payloads-push state commit) magic limit count ended);
+      index = within_limit index_magic (index_payloads state) (engine_limits engine).log_bytes (engine_limits new).log_bytes new.index (ap (λ (l : Limits). l.log_bytes) limits)
+          (subst (λ (log : Log E disk'). KeepsLog index_magic (index_payloads state) (engine_limits engine).log_bytes log) (sym index) keeps.index);
     }
 
     -- the entries of a log of the commit behind the state's are those of the state after it
@@ -155,37 +183,40 @@ module _ {D E : Type 0} {disk : Ghosts D} {disk' : Ghosts E} (state : State) (en
 
     -- a crash that leaves the old entries or these and the commit's leaves the one database or the other
     pub holds_either : (images : Images) (files c : Files) → IsBeforeOrAfter (magic_of engine.rows) (payloads state) (commit_payload commit) images files c → MayHold state (commit ∷ []) c
-    holds_either images files c (inl before) =
-        inl (record { sound = keeps.sound; log = subst (λ (m : List ℕ). IsLog m (payloads state) (c 0)) keeps.log.magic before.is_log })
-    holds_either images files c (inr behind) =
-        inr (record {
-          sound = sound_after;
-          log = subst (λ (entries : List (List ℕ)). IsLog rows_magic entries (c 0)) (sym (payloads-push state commit))
-              (subst (λ (m : List ℕ). IsLog m (payloads state ++ commit_payload commit ∷ []) (c 0)) keeps.log.magic behind.is_log);
-        })
+    holds_either images files c left =
+        elim (left_either rows_magic (payloads state) (engine_limits engine).log_bytes engine.rows keeps.log (commit_payload commit) images files c left) [
+          | inl before ↦ inl (record { sound = keeps.sound; log = before })
+          | inr behind ↦ inr (record { sound = sound_after; log = subst (λ (entries : List (List ℕ)). IsLog rows_magic entries (c 0)) (sym (payloads-push state commit)) behind })
+        ]
 
-  -- an engine with the same rows and the same numbers of its log keeps the same state
-  pub keeps_still : (new : Engine D E disk disk') → kept_settings new.kept ≡ kept_settings engine.kept → kept_rows new.kept ≡ kept_rows engine.kept → kept_limits new.kept ≡ kept_limits engine.kept
-      → magic_of new.rows ≡ magic_of engine.rows → limit_of new.rows ≡ limit_of engine.rows → count_of new.rows ≡ count_of engine.rows → end_of new.rows ≡ end_of engine.rows → new.index ≡ engine.index
-      → Keeps state new
-  keeps_still new settings kept limits magic limit count ended index = record {
-    sound = keeps.sound;
+module _ {D E : Type 0} {disk : Ghosts D} {disk' : Ghosts E} (state : State) (engine : Engine D E disk disk') (keeps : Keeps state engine) (new : Engine D E disk disk')
+    (settings : kept_settings new.kept ≡ kept_settings engine.kept) (kept : kept_rows new.kept ≡ kept_rows engine.kept) (limits : kept_limits new.kept ≡ kept_limits engine.kept) where
+  abbrev bytes : (engine_limits new).log_bytes ≡ (engine_limits engine).log_bytes
+  bytes = ap (λ (l : Limits). l.log_bytes) limits
+
+  -- an engine with the same rows, whose logs have their own numbers, keeps a state with the same commits
+  pub keeps_with : (entries : List IndexEntry) → HasEntries (record state { entries = entries }) → KeepsLog rows_magic (payloads state) (engine_limits engine).log_bytes new.rows
+      → KeepsLog index_magic (map entry_payload entries) (engine_limits engine).log_bytes new.index → Keeps (record state { entries = entries }) new
+  keeps_with entries are rows index = record {
+    sound = record { settings = keeps.sound.settings; written = keeps.sound.written; accepted = keeps.sound.accepted };
+    entries = are;
     settings = keeps.settings ∙ sym settings;
     rows = kept ∙ keeps.rows;
     within = subst (λ (l : Limits). AreWithin standard_limits l) (sym limits) keeps.within;
-    log = record { count = count ∙ keeps.log.count; «end» = ended ∙ keeps.log.«end»; magic = magic ∙ keeps.log.magic };
-    limit = limit ∙ keeps.limit ∙ ap (λ (l : Limits). l.log_bytes) (sym limits);
-    entries = ap (λ (l : Log E disk'). log.count_of l) index ∙ keeps.entries;
+    log = within_limit rows_magic (payloads state) (engine_limits engine).log_bytes (engine_limits new).log_bytes new.rows bytes rows;
+    index = within_limit index_magic (map entry_payload entries) (engine_limits engine).log_bytes (engine_limits new).log_bytes new.index bytes index;
   }
 
-  pub keeps_in : (state' : State) → state' ≡ state → (new : Engine D E disk disk') → kept_settings new.kept ≡ kept_settings engine.kept → kept_rows new.kept ≡ kept_rows engine.kept
-      → kept_limits new.kept ≡ kept_limits engine.kept → new.rows ≡ engine.rows → new.index ≡ engine.index → Keeps state' new
-  keeps_in state' is new settings kept limits same index =
-      subst (λ (s : State). Keeps s new) (sym is) (keeps_still new settings kept limits (ap magic_of same) (ap limit_of same) (ap log.count_of same) (ap end_of same) index)
+  -- an engine with the same rows and logs keeps the same state
+  pub keeps_in : new.rows ≡ engine.rows → new.index ≡ engine.index → Keeps state new
+  keeps_in same index =
+      keeps_with state.entries keeps.entries
+      (subst (λ (log : Log D disk). KeepsLog rows_magic (payloads state) (engine_limits engine).log_bytes log) (sym same) keeps.log)
+      (subst (λ (log : Log E disk'). KeepsLog index_magic (index_payloads state) (engine_limits engine).log_bytes log) (sym index) keeps.index)
 
 module _ {D E : Type 0} {disk : Ghosts D} {disk' : Ghosts E} (running : Running) (engine : Engine D E disk disk') (keeps : Keeps running.state engine) where
   pub same_number : log.count_of engine.rows - 1 ≡ length running.state.commits
-  same_number = let count = keeps.log.count in omega (arith)
+  same_number = let count = keeps.log.count in omega (arith, count, length-map running.state.commits commit_payload)
 
   -- a view of what is kept is the state's
   pub is_viewed : (asked : List Leaf) (number : ℕ) (view : View) → number ≡ length running.state.commits
@@ -196,6 +227,10 @@ module _ {D E : Type 0} {disk : Ghosts D} {disk' : Ghosts E} (running : Running)
       ∙ ap (λ (rows : Rows). viewed (view_of (rules_of (kept_settings engine.kept)) rows.list (length running.state.commits) asked)) (sym keeps.rows)
       ∙ ap (λ (n : ℕ). viewed (view_of (rules_of (kept_settings engine.kept)) (kept_rows engine.kept).list n asked)) (sym numbered)
       ∙ ap viewed (sym same)
+
+-- the number of the next commit is one more than there are
+pub numbered : (running : Running) → {n : ℕ} → n ≡ length (payloads running.state) → n ≡ length running.state.commits + 1
+numbered running is = omega (arith, is, length-map running.state.commits commit_payload)
 
 -- a refusal by the rows adds nothing, and is no fault
 pub refusal_adds : (commit : Commit) (error : PlanError) (answer : Answer) → answer ≡ refusal_answer error → changes_of (to_commit commit) answer ≡ []

@@ -1,7 +1,8 @@
--- That an index in memory stays right for commits.
+-- That an index in memory still stands for commits.
 use Rattle.std.proofs.Common.{◌≡◌, ℕ, ◌+◌, ◌<◌, ◌≤◌, List, [], ◌∷◌, ◌++◌, refl, ap, subst, sym, ◌∙◌, length, arith, cond}
 use Rattle.std.proofs.lemmas.List.Sums.{fold-append}
 use Rattle.std.proofs.lemmas.Bool.{and_parts, leb-true}
+use Rattle.std.proofs.Math.Logic.{∥∥₁_map, ∥∥₁_elim}
 use Rattle.std.specs.Prelude.{Ok, fold, nat_eq, Bool, true, false, nat_le, if◌then◌else◌, Option, Some, None, filter, not, ◌==◌}
 use Rattle.std.specs.List.{IsDistinct, list_any}
 use Rattle.fts_types.specs.declared.settings.Settings.{Settings}
@@ -16,18 +17,22 @@ use Rattle.fts_commits.specs.Commit.{Commit, Rows, no_rows, after_commit, rows_a
 use Rattle.fts_commits.specs.Turn.{Turn, RowsAscend, AreTurns, rows_but, rows_by, turn_between, turns_from, deaths_of}
 use Rattle.fts_rows.specs.Rows.{Held, rows_of}
 use Rattle.fts_entries.specs.Entry.{Batch, IndexState, no_entries, sealed, after_entry}
-use Rattle.fts_entries.specs.Batch.{IsBatch, largest_after, after_batch, next_through}
-use Rattle.fts_entries.specs.Exact.{FitsTurns, IsExact}
-use Rattle.fts_entries.proofs.Commits.{one_exact, one_fits, none_fits, commits_exact}
-use Rattle.fts_entries.proofs.Kept.{still_exact, still_fits, same_state}
+use Rattle.fts_entries.specs.Batch.{IsBatch, largest_after, after_batch}
+use Rattle.fts_entries.specs.Exact.{FitsTurns}
+use Rattle.fts_entries.proofs.Commits.{one_fits, none_fits}
+use Rattle.fts_entries.proofs.Kept.{still_fits, same_state}
 use Rattle.fts_index.specs.declared.index.Index.{Index}
 use Rattle.fts_index.specs.Births.{AreBirths}
 use Rattle.fts_index.proofs.Births.{ids_lower}
 use Rattle.fts_index.specs.declared.sync.SyncPlan.{SyncPlan}
-use Rattle.fts_index.specs.Index.{StandsFor, Indexes, AreCommits, CanTurn, WillTurn, FitsSync, PlansBatch}
+use Rattle.fts_index.specs.Index.{StandsFor, AreCommits, CanTurn, WillTurn, PlansBatch}
 use Rattle.fts_engine.specs.declared.kept.NextKept.{NextKept}
 use Rattle.fts_engine.specs.Indexed.{IsIndexOf, HasIndex}
 use Rattle.fts_engine.specs.Next.{WillHold}
+use Rattle.fts_engine.specs.declared.kept.Kept.{Kept}
+use Rattle.fts_engine.specs.Kept.{IsPlanned, CanSync}
+use Rattle.fts_engine.proofs.Props.{fits_prop}
+use Rattle.fts_steps.proofs.Growing.{turns_more}
 use Rattle.fts_engine.proofs.Accepting.{replay_accepted}
 
 ids_order : (low high : ℕ) (rows : List Row) → RowsAscend low high rows → low ≤ high
@@ -51,13 +56,6 @@ rows_left left low high (row ∷ rows) up = by (left row) refl (rows_left left r
     by true is rest = (up.0, rest)
     by false is rest = rows_lower low row.doc high (filter left rows) (omega (arith, up.0)) rest
 
--- the turns of one commit more
-turns-push : (rows : Rows) (commits : List Commit) (commit : Commit)
-    → turns_from rows (commits ++ commit ∷ []) ≡ turns_from rows commits ++ turn_between (fold rows_after rows commits) (rows_after (fold rows_after rows commits) commit) ∷ []
-turns-push rows [] commit = refl
-turns-push rows (first ∷ commits) commit =
-    ap (λ (turns : List Turn). turn_between rows (rows_after rows first) ∷ turns) (turns-push (rows_after rows first) commits commit)
-
 -- there are as many turns as commits
 pub turns_count : (rows : Rows) (commits : List Commit) → length (turns_from rows commits) ≡ length commits
 turns_count rows [] = refl
@@ -79,13 +77,10 @@ pub none_right : (settings : Settings) (rows : Rows) (index : Index) → rows �
     → IsIndexOf settings rows index [] no_entries
 none_right settings rows index is stands laws = record {
   same = is;
-  right = record {
-    stands = stands;
-    commits = record { ascend = tt; once = laws.once [] };
-    fits = none_fits [];
-    exact = commits_exact (rules_of settings) [] tt;
-    ascend = omega arith;
-  };
+  stands = stands;
+  are = record { ascend = tt; once = laws.once [] };
+  fits = none_fits [];
+  ascend = omega arith;
 }
 
 module _ (settings : Settings) (held : Held) (old new : Index) (next : NextKept) (commit : Commit) (after : Rows) (will : WillHold settings held old next commit after)
@@ -102,7 +97,7 @@ module _ (settings : Settings) (held : Held) (old new : Index) (next : NextKept)
   accepted = subst (λ (rows : Rows). after_commit standard_limits commit rows ≡ Ok after) is.same will.accepted
 
   grown : turns_from no_rows (commits ++ commit ∷ []) ≡ turns ++ turn ∷ []
-  grown = turns-push no_rows commits commit ∙ ap (λ (rows : Rows). turns ++ turn_between (replay commits) rows ∷ []) (rw accepted refl)
+  grown = turns_more no_rows commits (commit ∷ []) ∙ ap (λ (rows : Rows). turns ++ turn_between (replay commits) rows ∷ []) (rw accepted refl)
 
   replayed : replay (commits ++ commit ∷ []) ≡ after
   replayed = replay_accepted commits commit after accepted
@@ -117,7 +112,7 @@ module _ (settings : Settings) (held : Held) (old new : Index) (next : NextKept)
   can = subst (λ (largest : ℕ). AreBirths largest turn.largest turn.births) (sym (largest_is no_rows commits)) births
 
   stands : StandsFor (rules_of settings) (turns ++ turn ∷ []) s new
-  stands = installed (rules_of settings) turns s turn is.right.stands
+  stands = installed (rules_of settings) turns s turn is.stands
       (subst (λ (rows : Rows). WillTurn (rules_of settings) (turn_between rows after) old next.words) is.same will.turn) can
 
   are : AreTurns 0 (turns ++ turn ∷ [])
@@ -130,26 +125,22 @@ module _ (settings : Settings) (held : Held) (old new : Index) (next : NextKept)
   rows_ascend : RowsAscend 0 (replay (commits ++ commit ∷ [])).largest (replay (commits ++ commit ∷ [])).list
   rows_ascend = subst (λ (rows : Rows). RowsAscend 0 rows.largest rows.list) led
       (rows_join 0 (replay commits).largest turn.largest (rows_but turn.deaths (replay commits).list) turn.births
-      (rows_left (λ row. not (list_any (λ id. id == row.doc) turn.deaths)) 0 (replay commits).largest (replay commits).list is.right.ascend) births.ids)
+      (rows_left (λ row. not (list_any (λ id. id == row.doc) turn.deaths)) 0 (replay commits).largest (replay commits).list is.ascend) births.ids)
 
-  -- an index that got the turn of one commit more is right for it
+  -- an index that got the turn of one commit more stands for it
   pub one_right : IsIndexOf settings after new (commits ++ commit ∷ []) s
   one_right = record {
     same = sym replayed;
-    right = subst (λ (turns : List Turn). Indexes (rules_of settings) (replay (commits ++ commit ∷ [])) turns s new) (sym grown) (record {
-      stands = stands;
-      commits = record { ascend = are; once = subst (λ (turns : List Turn). IsDistinct nat_eq (deaths_of turns)) grown (laws.once (commits ++ commit ∷ [])) };
-      fits = one_fits turns turn s is.right.fits;
-      exact = subst (λ (rows : Rows). IsExact (rules_of settings) rows.list (turns ++ turn ∷ []) s) led
-          (one_exact turns turn s is.right.fits are (rules_of settings) (replay commits) is.right.exact);
-      ascend = rows_ascend;
-    });
+    stands = subst (λ (turns : List Turn). StandsFor (rules_of settings) turns s new) (sym grown) stands;
+    are = record { ascend = laws.ascend (commits ++ commit ∷ []); once = laws.once (commits ++ commit ∷ []) };
+    fits = subst (λ (turns : List Turn). FitsTurns turns s) (sym grown) (one_fits turns turn s is.fits);
+    ascend = rows_ascend;
   }
 
 -- the last id of the cache is one that the rows used
 pub last_used : (settings : Settings) (rows : Rows) (index : Index) → HasIndex settings rows index → index.cache.last ≤ rows.largest
 last_used settings rows index has =
-    let used = has.is.right.stands.last in
+    let used = has.is.stands.last in
     let largest : largest_after 0 (turns_from no_rows has.commits) ≡ (replay has.commits).largest = largest_is no_rows has.commits in
     let same : rows.largest ≡ (replay has.commits).largest = ap (λ (rows : Rows). rows.largest) has.is.same in
     omega (arith, used, largest, same)
@@ -160,13 +151,10 @@ pub same_right : (settings : Settings) (rows rows' : Rows) (old new : Index) →
     → (commits : List Commit) (s : IndexState) → IsIndexOf settings rows old commits s → IsIndexOf settings rows' new commits s
 same_right settings rows rows' old new same stays commits s is = record {
   same = same ∙ is.same;
-  right = record {
-    stands = stays (rules_of settings) (turns_from no_rows commits) s is.right.stands;
-    commits = is.right.commits;
-    fits = is.right.fits;
-    exact = is.right.exact;
-    ascend = is.right.ascend;
-  };
+  stands = stays (rules_of settings) (turns_from no_rows commits) s is.stands;
+  are = is.are;
+  fits = is.fits;
+  ascend = is.ascend;
 }
 
 -- settings have a least length of a word that is above 0
@@ -190,67 +178,42 @@ batch_right settings right rows old new commits s limit through synced batch is 
     let rules = rules_of settings in
     let turns = turns_from no_rows commits in
     let same : after_entry turns s (sealed through synced batch) ≡ after_batch rules limit turns s = same_state rules limit turns s through synced batch made in
-    let fits = still_fits rules limit turns s through synced batch made (min_some settings right) is.right.commits.ascend is.right.fits in
-    let exact = still_exact rules limit turns s through synced batch made (replay commits).list is.right.commits.ascend is.right.fits is.right.exact in
+    let fits = still_fits rules limit turns s through synced batch made (min_some settings right) is.are.ascend is.fits in
     record {
       same = is.same;
-      right = record {
-        stands = stands;
-        commits = is.right.commits;
-        fits = subst (λ (after : IndexState). FitsTurns turns after) same fits;
-        exact = subst (λ (after : IndexState). IsExact rules (replay commits).list turns after) same exact;
-        ascend = is.right.ascend;
-      };
+      stands = stands;
+      are = is.are;
+      fits = subst (λ (after : IndexState). FitsTurns turns after) same fits;
+      ascend = is.ascend;
     }
 
-module _ (settings : Settings) (rows : Rows) (old new : Index) (limit : ℕ) where
-  -- what a plan of a batch says of each index that is right
-  abbrev pub Plans : Option SyncPlan → Type 0
-  Plans plan = (rules : Rules) (turns : List Turn) (s : IndexState) → StandsFor rules turns s old → AreCommits turns → FitsTurns turns s
-      → PlansBatch rules limit turns s new plan
+-- what a plan of a batch says of an index, for each that stands for commits
+abbrev Plans : Kept → Index → Option SyncPlan → Type 0
+Plans kept old plan = (rules : Rules) (turns : List Turn) (s : IndexState) → StandsFor rules turns s old → AreCommits turns → FitsTurns turns s
+    → PlansBatch rules kept.settings.batch_docs turns s kept.index plan
 
-  -- the plan of a batch fits an index that is right for some commits
-  pub plan_fits : (plan : SyncPlan) → Plans (Some plan) → HasIndex settings rows old → FitsSync new plan
-  plan_fits plan planned has =
-      let right = has.is.right in
-      (planned (rules_of settings) (turns_from no_rows has.commits) has.state right.stands right.commits right.fits).1
+-- the plan is the next batch of what is kept
+pub as_planned : (kept : Kept) (old : Index) (plan : Option SyncPlan) → Plans kept old plan → (commits : List Commit) (s : IndexState)
+    → IsIndexOf kept.settings (rows_of kept.rows) old commits s → IsPlanned kept commits s plan
+as_planned kept old None planned commits s is =
+    let most = planned (rules_of kept.settings) (turns_from no_rows commits) s is.stands is.are is.fits in
+    omega (arith, most, turns_count no_rows commits)
+as_planned kept old (Some plan) planned commits s is = (planned (rules_of kept.settings) (turns_from no_rows commits) s is.stands is.are is.fits).0
 
-  module _ (commits : List Commit) (s : IndexState) (is : IsIndexOf settings rows old commits s) where
-    -- where there is no plan, all commits are flushed
-    pub all_are : Plans None → length commits ≤ s.flushed
-    all_are planned =
-        let right = is.right in
-        let most = planned (rules_of settings) (turns_from no_rows commits) s right.stands right.commits right.fits in
-        omega (arith, most, turns_count no_rows commits)
-
-    pub some_left : (plan : SyncPlan) → Plans (Some plan) → s.flushed < length commits
-    some_left plan planned =
-        let right = is.right in
-        let batch = (planned (rules_of settings) (turns_from no_rows commits) s right.stands right.commits right.fits).0 in
-        omega (arith, batch.some, turns_count no_rows commits)
-
-module _ (settings : Settings) (right : AreSettings settings) (rows : Rows) (old middle new : Index) (plan : SyncPlan)
-    (stays : (rules : Rules) (turns : List Turn) (s : IndexState) → StandsFor rules turns s old → StandsFor rules turns s middle)
-    (planned : Plans settings rows old middle settings.batch_docs (Some plan))
-    (made : (rules : Rules) (limit : ℕ) (turns : List Turn) (s : IndexState) → StandsFor rules turns s middle → AreCommits turns → FitsTurns turns s
-    → IsBatch rules limit turns s plan.through plan.synced plan.nodes.items → StandsFor rules turns (after_batch rules limit turns s) new) where
-  abbrev pub next_state : List Commit → IndexState → IndexState
-  next_state commits s = after_batch (rules_of settings) settings.batch_docs (turns_from no_rows commits) s
-
-  -- the batch of the plan was made
-  pub plan_right : (commits : List Commit) (s : IndexState) → IsIndexOf settings rows old commits s → IsIndexOf settings rows new commits (next_state commits s)
-  plan_right commits s is =
-      let rules = rules_of settings in
-      let turns = turns_from no_rows commits in
-      let batch = (planned rules turns s is.right.stands is.right.commits is.right.fits).0 in
-      batch_right settings right rows old new commits s settings.batch_docs plan.through plan.synced plan.nodes.items is batch
-      (made rules settings.batch_docs turns s (stays rules turns s is.right.stands) is.right.commits is.right.fits batch)
-
-  pub next_has : HasIndex settings rows old → HasIndex settings rows new
-  next_has has = record { commits = has.commits; state = next_state has.commits has.state; is = plan_right has.commits has.state has.is }
-
-  pub through_is : (commits : List Commit) (s : IndexState) → IsIndexOf settings rows old commits s → plan.through ≡ next_through settings.batch_docs (turns_from no_rows commits) s
-  through_is commits s is = (planned (rules_of settings) (turns_from no_rows commits) s is.right.stands is.right.commits is.right.fits).0.through_is
+-- there is room for it
+pub can_sync : (kept : Kept) (old : Index) (plan : SyncPlan)
+    → ((rules : Rules) (turns : List Turn) (s : IndexState) → StandsFor rules turns s old → StandsFor rules turns s kept.index)
+    → Plans kept old (Some plan) → ∥ HasIndex kept.settings (rows_of kept.rows) old ∥₁ → CanSync kept plan
+can_sync kept old plan stays planned indexed = record {
+  fits = ∥∥₁_elim indexed (fits_prop kept.index plan)
+      (λ has. (planned (rules_of kept.settings) (turns_from no_rows has.commits) has.state has.is.stands has.is.are has.is.fits).1);
+  next = ∥∥₁_map indexed (λ has. record {
+    commits = has.commits;
+    state = has.state;
+    is = same_right kept.settings (rows_of kept.rows) (rows_of kept.rows) old kept.index refl stays has.commits has.state has.is;
+    batch = (planned (rules_of kept.settings) (turns_from no_rows has.commits) has.state has.is.stands has.is.are has.is.fits).0;
+  });
+}
 
 -- an index that stands for the same has what it had
 pub still_has : (settings : Settings) (rows rows' : Rows) (old new : Index) → rows' ≡ rows

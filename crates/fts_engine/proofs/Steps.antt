@@ -11,22 +11,36 @@ use Rattle.fts_disk.specs.declared.disk.Disk.{Ghosts}
 use Rattle.fts_disk.proofs.Runs.{reads_now, leaves_weaker}
 use Rattle.fts_log.specs.Log.{StandsFor, device_of}
 use Rattle.fts_log.specs.declared.log.Log.{Log}
-use Rattle.fts_steps.specs.State.{State, payloads, with_commits, IsRows}
-use Rattle.fts_steps.specs.Crash.{MayHold, IsBetween}
-use Rattle.fts_entries.specs.Entry.{IndexState}
-use Rattle.fts_steps.specs.Running.{Running, What, made, failed, grown, with_what, next_index}
+use Rattle.fts_entries.specs.Entry.{IndexEntry}
+use Rattle.fts_steps.specs.State.{State, payloads, index_payloads, index_state, with_commits, with_entries, IsRight, IsRows, IsIndex}
+use Rattle.fts_steps.specs.Crash.{MayHold, MayHoldIndex, IsBetween, IsIndexBetween}
+use Rattle.fts_steps.specs.Running.{Running, What, made, batched, failed, loosened, grown, with_what, next_index, next_batch, next_flushed}
 use Rattle.fts_steps.specs.Step.{Ask, to_commit, to_sync, Answer, disk_fault, committed, flushed, stopped, is_disk_fault, changes_of, after, unless_stopped, MayAnswer, Steps, plain_answer}
-use Rattle.fts_types.specs.declared.limits.Limits.{Limits}
+use Rattle.fts_steps.proofs.Growing.{entries_stay, index_stays, right_stays}
 use Rattle.fts_types.specs.declared.settings.Settings.{Settings}
 use Rattle.fts_engine.specs.declared.engine.Engine.{Engine}
 use Rattle.fts_engine.specs.Kept.{kept_settings, kept_rows, kept_limits, IsIndexed, StaysIndexed}
-use Rattle.fts_engine.specs.Stands.{Keeps, Stands, OnRows, OnIndex, engine_sight, engine_limits, engine_faults, rows_device, index_device, stopped_at}
-use Rattle.fts_engine.proofs.Committing.{keeps_in, on_rows}
+use Rattle.fts_engine.specs.Stands.{Keeps, Has, Holds, Stands, OnRows, OnIndex, engine_sight, engine_limits, engine_faults, rows_device, index_device, stopped_at}
+use Rattle.fts_engine.proofs.Committing.{keeps_in, on_rows, on_index}
+
+-- ---- what a log still is
 
 -- the rows log of a state is that of the state with no more commits
 none_more : (state : State) (file : List ℕ) → IsRows state file → IsRows (with_commits state []) file
 none_more state file rows =
     subst (λ (commits : List Commit). IsRows (record { settings = state.settings; commits = commits; entries = state.entries }) file) (sym (append-nil state.commits)) rows
+
+no_entry_more : (state : State) (file : List ℕ) → IsIndex state file → IsIndex (with_entries state []) file
+no_entry_more state file index =
+    subst (λ (entries : List IndexEntry). IsIndex (record { settings = state.settings; commits = state.commits; entries = entries }) file) (sym (append-nil state.entries)) index
+
+-- the rows log is that of a state with more entries too, and the index log that of one with more commits
+rows_stay : (state : State) (more : List IndexEntry) (file : List ℕ) → IsRows state file → IsRows (with_entries state more) file
+rows_stay state more file rows =
+    record { sound = record { settings = rows.sound.settings; written = rows.sound.written; accepted = rows.sound.accepted }; log = rows.log }
+
+index_stay : (state : State) (more : List Commit) (file : List ℕ) → IsIndex state file → IsIndex (with_commits state more) file
+index_stay state more file index = record { sound = entries_stay state more index.sound; log = index.log }
 
 -- before a commit or behind it is between the two
 between_made : (running : Running) (commit : Commit) → running.doubt ≡ [] → (c : Files) → MayHold running.state (commit ∷ []) c
@@ -45,44 +59,72 @@ between_failed : (running : Running) (commit : Commit) (faults : ℕ) (c : Files
 between_failed running commit faults c (inl before) = record { front = []; rest = commit ∷ []; added = refl; rows = none_more running.state (c 0) before }
 between_failed running commit faults c (inr behind) = record { front = commit ∷ []; rest = []; added = refl; rows = behind }
 
+-- and so is before a batch or behind it
+between_sealed : (running : Running) → running.loose ≡ [] → (c : Files) → MayHoldIndex running.state (next_batch running ∷ []) c
+    → IsIndexBetween running (with_what running batched) c
+between_sealed running sure c held = by_case held
+  where
+    entry : IndexEntry
+    entry = next_batch running
+
+    all : (running.state.entries ++ entry ∷ []) ++ running.loose ≡ running.state.entries ++ entry ∷ []
+    all = ap (λ (loose : List IndexEntry). (running.state.entries ++ entry ∷ []) ++ loose) sure ∙ append-nil (running.state.entries ++ entry ∷ [])
+
+    by_case : MayHoldIndex running.state (entry ∷ []) c → IsIndexBetween running (with_what running batched) c
+    by_case (inl before) = record { front = []; rest = entry ∷ []; added = all; index = no_entry_more running.state (c 0) before }
+    by_case (inr behind) = record { front = entry ∷ []; rest = []; added = all; index = behind }
+
+between_loosened : (running : Running) (faults : ℕ) (c : Files) → MayHoldIndex running.state (next_batch running ∷ []) c
+    → IsIndexBetween running (with_what running (loosened faults)) c
+between_loosened running faults c (inl before) =
+    record { front = []; rest = next_batch running ∷ []; added = refl; index = no_entry_more running.state (c 0) before }
+between_loosened running faults c (inr behind) = record { front = next_batch running ∷ []; rest = []; added = refl; index = behind }
+
 no_fault : (answer : Answer) (n : ℕ) → is_disk_fault answer ≡ false → answer ≡ disk_fault n → ⊥
 no_fault answer n calm is = false≢true (sym calm ∙ ap is_disk_fault is)
 
+no_none : (faults : ℕ) → ◌≡◌ {A = Option ℕ} (Some faults) None → ⊥
+no_none faults is = let no = is in cc
+
+-- ---- steps that leave the logs
+
 module _ {D E : Type 0} {disk : Ghosts D} {disk' : Ghosts E} (old new : Engine D E disk disk') (settings : kept_settings new.kept ≡ kept_settings old.kept)
     (rows : kept_rows new.kept ≡ kept_rows old.kept) (limits : kept_limits new.kept ≡ kept_limits old.kept) (same : new.rows ≡ old.rows) (index : new.index ≡ old.index)
-    (still : stopped_at new ≡ stopped_at old) where
-  -- it stands for the same with the state of the index for which what is kept stands
-  stands_as : (running : Running) (s : IndexState) → Stands running old → IsIndexed new.kept running.state.commits s
-      → Stands (record { state = running.state; index = s; stopped = running.stopped; doubt = running.doubt }) new
-  stands_as running s stands indexed = record {
-    keeps = keeps_in running.state old stands.keeps [] running.state refl new settings rows limits same index;
-    indexed = indexed;
-    stopped = still ∙ stands.stopped;
-    logs = λ told going. record {
-      entries = subst (λ (log : Log D disk). StandsFor (payloads running.state) log) (sym same) (stands.logs told going).entries;
-      sure = (stands.logs told going).sure;
+    (still : stopped_at new ≡ stopped_at old) (indexed : StaysIndexed old.kept new.kept) where
+  -- it holds the same
+  pub holds_still : (running : Running) → Holds running old → Holds running new
+  holds_still running holds = record {
+    has = record {
+      keeps = keeps_in running.state old holds.has.keeps new settings rows limits same index;
+      indexed = indexed running.state.commits running.index holds.has.indexed;
+      left = holds.has.left;
+      stopped = still ∙ holds.has.stopped;
     };
-    on_rows = λ told.
-        let on = subst (λ (log : Log D disk). OnRows disk running (device_of log)) (sym same) (stands.on_rows told) in
-        record { reads = on.reads; may_read = on.may_read; crash = on.crash };
-    on_index = λ told.
-        let on = subst (λ (log : Log E disk'). OnIndex disk' running (device_of log)) (sym index) (stands.on_index told) in
-        record { reads = on.reads; crash = on.crash };
+    logs = λ told going. record {
+      entries = subst (λ (log : Log D disk). StandsFor (payloads running.state) log) (sym same) (holds.logs told going).entries;
+      sure = (holds.logs told going).sure;
+    };
+    index_logs = λ told going. record {
+      entries = subst (λ (log : Log E disk'). StandsFor (index_payloads running.state) log) (sym index) (holds.index_logs told going).entries;
+      sure = (holds.index_logs told going).sure;
+    };
+    on_rows = λ told. subst (λ (log : Log D disk). OnRows disk running (device_of log)) (sym same) (holds.on_rows told);
+    on_index = λ told. subst (λ (log : Log E disk'). OnIndex disk' running (device_of log)) (sym index) (holds.on_index told);
   }
 
   same_faults : engine_faults new ≡ engine_faults old
   same_faults = ap (λ (log : Log D disk). disk.faults (device_of log) + disk'.faults (index_device new)) same
       ∙ ap (λ (log : Log E disk'). disk.faults (rows_device old) + disk'.faults (device_of log)) index
 
-  -- a step that leaves the logs and is no fault, for each engine that it may stand for
-  quiet : (ask : Ask) (answer : Answer) → is_disk_fault answer ≡ false
-      → ((running : Running) → Stands running old → MayAnswer (engine_limits old) running ask answer)
-      → ((running : Running) → Stands running old → Stands (after running ask answer) new) → Steps engine_sight ask answer old new
-  quiet ask answer calm may stands_then = record {
+  -- a step that changes nothing
+  pub refuses : (ask : Ask) (answer : Answer) → changes_of ask answer ≡ [] → is_disk_fault answer ≡ false
+      → ((running : Running) → Stands running old → MayAnswer (engine_limits old) running ask answer) → Steps engine_sight ask answer old new
+  refuses ask answer adds calm may = record {
     more = [];
     alone = λ e. refl;
     may = may;
-    stands = stands_then;
+    stands = λ running stands. subst (λ (whats : List What). Stands (grown running (map (λ (what : What). record { by = 0; what = what }) whats)) new) (sym adds)
+        (record { holds = holds_still running stands.holds; right = stands.right });
     crash = λ e told running stands. inl (ap (λ (log : Log D disk). device_of log) same);
     index = λ e told running stands. inl (ap (λ (log : Log E disk'). device_of log) index);
     settings = settings;
@@ -95,52 +137,42 @@ module _ {D E : Type 0} {disk : Ghosts D} {disk' : Ghosts E} (old new : Engine D
     sum = λ n is. absurd (no_fault answer n calm is);
   }
 
-  -- one that changes nothing
-  pub refuses : StaysIndexed old.kept new.kept → (ask : Ask) (answer : Answer) → changes_of ask answer ≡ [] → is_disk_fault answer ≡ false
-      → ((running : Running) → Stands running old → MayAnswer (engine_limits old) running ask answer) → Steps engine_sight ask answer old new
-  refuses indexed ask answer adds calm may =
-      quiet ask answer calm may
-      (λ running stands. subst (λ (whats : List What). Stands (grown running (map (λ (what : What). record { by = 0; what = what }) whats)) new) (sym adds)
-      (stands_as running running.index stands (indexed running.state.commits running.index stands.indexed)))
-
-  -- one that made the next batch
-  pub batches : (through commits : ℕ) → ((running : Running) → Stands running old → MayAnswer (engine_limits old) running to_sync (flushed through commits))
-      → ((running : Running) → Stands running old → IsIndexed new.kept running.state.commits (next_index running.state running.index))
-      → Steps engine_sight to_sync (flushed through commits) old new
-  batches through commits may indexed =
-      quiet to_sync (flushed through commits) refl may
-      (λ running stands. stands_as running (next_index running.state running.index) stands (indexed running stands))
-
 -- after a fault each commit and each batch is refused
 pub is_stopped : {D E : Type 0} {disk : Ghosts D} {disk' : Ghosts E} (engine : Engine D E disk disk') (faults : ℕ) (running : Running) → Stands running engine
     → stopped_at engine ≡ Some faults → (answer : Answer) → unless_stopped running.stopped answer ≡ stopped faults
-is_stopped engine faults running stands is answer = let same : running.stopped ≡ Some faults = sym stands.stopped ∙ is in rw same refl
+is_stopped engine faults running stands is answer = let same : running.stopped ≡ Some faults = sym stands.holds.has.stopped ∙ is in rw same refl
 
 -- changes that fit the engine's settings fit those of the state for which it stands
 pub can_still : {D E : Type 0} {disk : Ghosts D} {disk' : Ghosts E} (running : Running) (engine : Engine D E disk disk') → Stands running engine → (commit : Commit)
     → CanCommit (length (kept_settings engine.kept).columns) commit → CanCommit (length running.state.settings.columns) commit
-can_still running engine stands commit can = subst (λ (s : Settings). CanCommit (length s.columns) commit) (sym stands.keeps.settings) can
+can_still running engine stands commit can = subst (λ (s : Settings). CanCommit (length s.columns) commit) (sym stands.holds.has.keeps.settings) can
+
+-- the sum of two counts rises as one does
+rose_sum : (before after more : ℕ) → Rose before after → Rose (before + more) (after + more)
+rose_sum before after more (inl rose) = inl (omega (arith, rose))
+rose_sum before after more (inr last) = inr (omega (arith, last))
+
+rose_behind : (more before after : ℕ) → Rose before after → Rose (more + before) (more + after)
+rose_behind more before after (inl rose) = inl (omega (arith, rose))
+rose_behind more before after (inr last) = inr (omega (arith, last))
+
+-- ---- a commit
 
 -- what a device holds after a fault in a commit: the database with it or without it
 left_in_doubt : {D : Type 0} (disk : Ghosts D) (old new : D) (running : Running) (commit : Commit) (faults : ℕ)
     → ((t : ℕ) (c : Files) → t ≤ disk.moment new → disk.images new c → disk.left_since new t c) → disk.images new (disk.seen new)
     → LeavesOnly disk old new (MayHold running.state (commit ∷ [])) → OnRows disk (with_what running (failed faults (commit ∷ []))) new
 left_in_doubt disk old new running commit faults counts may run = record {
-  reads = λ e. absurd (let no : ◌≡◌ {A = Option ℕ} (Some faults) None = e in cc);
+  reads = λ e. absurd (no_none faults e);
   may_read = reads_now disk old new (MayHold running.state (commit ∷ [])) counts may run;
   crash = λ c left. run.each c (counts (disk.moment old) c run.later left);
 }
 
--- the sum of two counts rises as the first does
-rose_sum : (before after more : ℕ) → Rose before after → Rose (before + more) (after + more)
-rose_sum before after more (inl rose) = inl (omega (arith, rose))
-rose_sum before after more (inr last) = inr (omega (arith, last))
-
 module _ {D E : Type 0} {disk : Ghosts D} {disk' : Ghosts E} (old new : Engine D E disk disk') (commit : Commit) (settings : kept_settings new.kept ≡ kept_settings old.kept)
     (limits : kept_limits new.kept ≡ kept_limits old.kept) (index : new.index ≡ old.index) (going : stopped_at old ≡ None) where
   -- the index log is as it was
-  index_stays : (running : Running) → Stands running old → IsTrue disk'.tells → OnIndex disk' running (index_device new)
-  index_stays running stands told = subst (λ (log : Log E disk'). OnIndex disk' running (device_of log)) (sym index) (stands.on_index told)
+  index_stays_on : (running : Running) → Stands running old → IsTrue disk'.tells → OnIndex disk' running (index_device new)
+  index_stays_on running stands told = subst (λ (log : Log E disk'). OnIndex disk' running (device_of log)) (sym index) (stands.holds.on_index told)
 
   same_index : index_device new ≡ index_device old
   same_index = ap (λ (log : Log E disk'). device_of log) index
@@ -160,26 +192,49 @@ module _ {D E : Type 0} {disk : Ghosts D} {disk' : Ghosts E} (old new : Engine D
   commits number still calm may keeps logged left indexed = record {
     more = [];
     alone = λ e. refl;
-    may = λ running stands. may running stands (sym stands.stopped ∙ going);
-    stands = λ running stands. record {
-      keeps = keeps running stands;
-      indexed = indexed running stands;
-      stopped = still ∙ stands.stopped;
-      logs = λ told going. record { entries = logged running stands told going; sure = (stands.logs told going).sure };
-      on_rows = λ told. on_rows (with_what running (made commit)) new.rows (keeps running stands).sound (keeps running stands).log.magic
-          (logged running stands told (sym stands.stopped ∙ going));
-      on_index = λ told. record { reads = (index_stays running stands told).reads; crash = (index_stays running stands told).crash };
-    };
+    may = λ running stands. may running stands (sym stands.holds.has.stopped ∙ going);
+    stands = λ running stands.
+        let holds = stands.holds in
+        let before = holds.has.keeps in
+        record {
+          right = right_stays running.state commit before.entries stands.right;
+          holds = record {
+            has = record {
+              keeps = keeps running stands;
+              indexed = indexed running stands;
+              left = holds.has.left ∙ sym (index_stays running.state (commit ∷ []) before.entries);
+              stopped = still ∙ holds.has.stopped;
+            };
+            logs = λ told going. record { entries = logged running stands told going; sure = (holds.logs told going).sure };
+            index_logs = λ told going. record {
+              entries = subst (λ (log : Log E disk'). StandsFor (index_payloads running.state) log) (sym index) (holds.index_logs told going).entries;
+              sure = (holds.index_logs told going).sure;
+            };
+            on_rows = λ told. on_rows (with_what running (made commit)) _ new.rows (keeps running stands).sound (keeps running stands).log
+                (logged running stands told (sym holds.has.stopped ∙ going));
+            on_index = λ told.
+                let on = index_stays_on running stands told in
+                record {
+                  reads = λ going. index_stay running.state (commit ∷ []) (disk'.seen (index_device new) 0) (on.reads going);
+                  may_read = may_hold running (disk'.seen (index_device new)) on.may_read;
+                  crash = λ c may. may_hold running c (on.crash c may);
+                };
+          };
+        };
     crash = λ e told running stands.
-        let sure = (stands.logs told (sym stands.stopped ∙ going)).sure in
+        let sure = (stands.holds.logs told (sym stands.holds.has.stopped ∙ going)).sure in
         inr (leaves_weaker disk (rows_device old) (rows_device new) (MayHold running.state (commit ∷ [])) (IsBetween running (with_what running (made commit)))
-        (between_made running commit sure) (left running stands told (sym stands.stopped ∙ going)));
+        (between_made running commit sure) (left running stands told (sym stands.holds.has.stopped ∙ going)));
     index = λ e told running stands. inl same_index;
     settings = settings;
     limits = limits;
     faults = record { rose = λ e. absurd (false≢true e); calm = λ e. omega (arith, calm, same_count); never_falls = omega (arith, calm, same_count) };
     sum = λ n e. absurd cc;
   }
+    where
+      may_hold : (running : Running) (c : Files) → MayHoldIndex running.state running.loose c → MayHoldIndex (with_commits running.state (commit ∷ [])) running.loose c
+      may_hold running c (inl before) = inl (index_stay running.state (commit ∷ []) (c 0) before)
+      may_hold running c (inr behind) = inr (index_stay (with_entries running.state running.loose) (commit ∷ []) (c 0) behind)
 
   -- the device failed: what is kept stays, and the commit is in doubt
   pub fails : (faults : ℕ) → stopped_at new ≡ Some faults → Rose (disk.faults (rows_device old)) (disk.faults (rows_device new))
@@ -194,19 +249,30 @@ module _ {D E : Type 0} {disk : Ghosts D} {disk' : Ghosts E} (old new : Engine D
   fails faults noted rose up sum may keeps counts stays left indexed = record {
     more = [];
     alone = λ e. refl;
-    may = λ running stands. may running stands (sym stands.stopped ∙ going);
-    stands = λ running stands. record {
-      keeps = keeps running stands;
-      indexed = indexed running.state.commits running.index stands.indexed;
-      stopped = noted;
-      logs = λ told e. absurd (let no : ◌≡◌ {A = Option ℕ} (Some faults) None = e in cc);
-      on_rows = λ told. left_in_doubt disk (rows_device old) (rows_device new) running commit faults (λ t c le may. counts t c told le may) (stays told)
-          (left running stands told (sym stands.stopped ∙ going));
-      on_index = λ told. record { reads = (index_stays running stands told).reads; crash = (index_stays running stands told).crash };
-    };
+    may = λ running stands. inl (may running stands (sym stands.holds.has.stopped ∙ going));
+    stands = λ running stands.
+        let holds = stands.holds in
+        record {
+          right = stands.right;
+          holds = record {
+            has = record {
+              keeps = keeps running stands;
+              indexed = indexed running.state.commits running.index holds.has.indexed;
+              left = holds.has.left;
+              stopped = noted;
+            };
+            logs = λ told e. absurd (no_none faults e);
+            index_logs = λ told e. absurd (no_none faults e);
+            on_rows = λ told. left_in_doubt disk (rows_device old) (rows_device new) running commit faults (λ t c le may. counts t c told le may) (stays told)
+                (left running stands told (sym holds.has.stopped ∙ going));
+            on_index = λ told.
+                let on = index_stays_on running stands told in
+                record { reads = λ e. absurd (no_none faults e); may_read = on.may_read; crash = on.crash };
+          };
+        };
     crash = λ e told running stands.
         inr (leaves_weaker disk (rows_device old) (rows_device new) (MayHold running.state (commit ∷ [])) (IsBetween running (with_what running (failed faults (commit ∷ []))))
-        (between_failed running commit faults) (left running stands told (sym stands.stopped ∙ going)));
+        (between_failed running commit faults) (left running stands told (sym stands.holds.has.stopped ∙ going)));
     index = λ e told running stands. inl same_index;
     settings = settings;
     limits = limits;
@@ -215,6 +281,136 @@ module _ {D E : Type 0} {disk : Ghosts D} {disk' : Ghosts E} (old new : Engine D
           (rose_sum (disk.faults (rows_device old)) (disk.faults (rows_device new)) (disk'.faults (index_device old)) rose);
       calm = λ no. absurd (no refl);
       never_falls = omega (arith, up, same_count);
+    };
+    sum = λ n e. (let same : faults ≡ n = (let is = e in cc) in sym same ∙ sum);
+  }
+
+-- ---- a batch
+
+-- what a device holds after a fault in a batch: the index log with it or without it
+left_loose : {E : Type 0} (disk : Ghosts E) (old new : E) (running : Running) (faults : ℕ)
+    → ((t : ℕ) (c : Files) → t ≤ disk.moment new → disk.images new c → disk.left_since new t c) → disk.images new (disk.seen new)
+    → LeavesOnly disk old new (MayHoldIndex running.state (next_batch running ∷ [])) → OnIndex disk (with_what running (loosened faults)) new
+left_loose disk old new running faults counts may run = record {
+  reads = λ e. absurd (no_none faults e);
+  may_read = reads_now disk old new (MayHoldIndex running.state (next_batch running ∷ [])) counts may run;
+  crash = λ c left. run.each c (counts (disk.moment old) c run.later left);
+}
+
+module _ {D E : Type 0} {disk : Ghosts D} {disk' : Ghosts E} (old new : Engine D E disk disk') (settings : kept_settings new.kept ≡ kept_settings old.kept)
+    (limits : kept_limits new.kept ≡ kept_limits old.kept) (rows : new.rows ≡ old.rows) (going : stopped_at old ≡ None) where
+  rows_stay_on : (running : Running) → Stands running old → IsTrue disk.tells → OnRows disk running (rows_device new)
+  rows_stay_on running stands told = subst (λ (log : Log D disk). OnRows disk running (device_of log)) (sym rows) (stands.holds.on_rows told)
+
+  same_rows : rows_device new ≡ rows_device old
+  same_rows = ap (λ (log : Log D disk). device_of log) rows
+
+  same_rows_count : disk.faults (rows_device new) ≡ disk.faults (rows_device old)
+  same_rows_count = ap disk.faults same_rows
+
+  -- the batch was made: what is kept, and the log with its entry
+  pub seals : (through number : ℕ) → stopped_at new ≡ stopped_at old → disk'.faults (index_device new) ≡ disk'.faults (index_device old)
+      → ((running : Running) → Stands running old → running.stopped ≡ None → plain_answer (engine_limits old) running to_sync ≡ flushed through number)
+      → ((running : Running) → Stands running old → Keeps (with_what running batched).state new)
+      → ((running : Running) → Stands running old → IsTrue disk'.tells → running.stopped ≡ None → StandsFor (index_payloads (with_what running batched).state) new.index)
+      → ((running : Running) → Stands running old → IsTrue disk'.tells → running.stopped ≡ None
+      → LeavesOnly disk' (index_device old) (index_device new) (MayHoldIndex running.state (next_batch running ∷ [])))
+      → ((running : Running) → Stands running old → IsIndexed new.kept running.state.commits (next_index running.state running.index))
+      → ((running : Running) → Stands running old → Has (with_what running batched) new → IsRight (with_what running batched).state)
+      → ((running : Running) → Stands running old → (with_what running batched).index ≡ index_state (with_what running batched).state)
+      → Steps engine_sight to_sync (flushed through number) old new
+  seals through number still calm may keeps logged left indexed right leaves = record {
+    more = [];
+    alone = λ e. refl;
+    may = λ running stands. may running stands (sym stands.holds.has.stopped ∙ going);
+    stands = λ running stands.
+        let holds = stands.holds in
+        let has : Has (with_what running batched) new = record {
+          keeps = keeps running stands;
+          indexed = indexed running stands;
+          left = leaves running stands;
+          stopped = still ∙ holds.has.stopped;
+        } in
+        record {
+          right = right running stands has;
+          holds = record {
+            has = has;
+            logs = λ told going. record {
+              entries = subst (λ (log : Log D disk). StandsFor (payloads running.state) log) (sym rows) (holds.logs told going).entries;
+              sure = (holds.logs told going).sure;
+            };
+            index_logs = λ told going. record { entries = logged running stands told going; sure = (holds.index_logs told going).sure };
+            on_rows = λ told.
+                let on = rows_stay_on running stands told in
+                record {
+                  reads = λ going. rows_stay running.state (next_batch running ∷ []) (disk.seen (rows_device new) 0) (on.reads going);
+                  may_read = may_hold running (disk.seen (rows_device new)) on.may_read;
+                  crash = λ c may. may_hold running c (on.crash c may);
+                };
+            on_index = λ told. on_index (with_what running batched) _ new.index (keeps running stands).entries (keeps running stands).index
+                (logged running stands told (sym holds.has.stopped ∙ going));
+          };
+        };
+    crash = λ e told running stands. inl same_rows;
+    index = λ e told running stands.
+        let sure = (stands.holds.index_logs told (sym stands.holds.has.stopped ∙ going)).sure in
+        inr (leaves_weaker disk' (index_device old) (index_device new) (MayHoldIndex running.state (next_batch running ∷ [])) (IsIndexBetween running (with_what running batched))
+        (between_sealed running sure) (left running stands told (sym stands.holds.has.stopped ∙ going)));
+    settings = settings;
+    limits = limits;
+    faults = record { rose = λ e. absurd (false≢true e); calm = λ e. omega (arith, calm, same_rows_count); never_falls = omega (arith, calm, same_rows_count) };
+    sum = λ n e. absurd cc;
+  }
+    where
+      may_hold : (running : Running) (c : Files) → MayHold running.state running.doubt c → MayHold (with_entries running.state (next_batch running ∷ [])) running.doubt c
+      may_hold running c (inl before) = inl (rows_stay running.state (next_batch running ∷ []) (c 0) before)
+      may_hold running c (inr behind) = inr (rows_stay (with_commits running.state running.doubt) (next_batch running ∷ []) (c 0) behind)
+
+  -- the device failed: what is kept stays, and the batch is in doubt
+  pub loosens : (faults : ℕ) → stopped_at new ≡ Some faults → Rose (disk'.faults (index_device old)) (disk'.faults (index_device new))
+      → disk'.faults (index_device old) ≤ disk'.faults (index_device new) → faults ≡ engine_faults new
+      → ((running : Running) → Stands running old → running.stopped ≡ None → plain_answer (engine_limits old) running to_sync ≡ flushed (next_flushed running) (length running.state.commits))
+      → ((running : Running) → Stands running old → Keeps running.state new)
+      → ((t : ℕ) (c : Files) → IsTrue disk'.tells → t ≤ disk'.moment (index_device new) → disk'.images (index_device new) c → disk'.left_since (index_device new) t c)
+      → (IsTrue disk'.tells → disk'.images (index_device new) (disk'.seen (index_device new)))
+      → ((running : Running) → Stands running old → IsTrue disk'.tells → running.stopped ≡ None
+      → LeavesOnly disk' (index_device old) (index_device new) (MayHoldIndex running.state (next_batch running ∷ [])))
+      → StaysIndexed old.kept new.kept → Steps engine_sight to_sync (disk_fault faults) old new
+  loosens faults noted rose up sum may keeps counts stays left indexed = record {
+    more = [];
+    alone = λ e. refl;
+    may = λ running stands. inr (may running stands (sym stands.holds.has.stopped ∙ going));
+    stands = λ running stands.
+        let holds = stands.holds in
+        record {
+          right = stands.right;
+          holds = record {
+            has = record {
+              keeps = keeps running stands;
+              indexed = indexed running.state.commits running.index holds.has.indexed;
+              left = holds.has.left;
+              stopped = noted;
+            };
+            logs = λ told e. absurd (no_none faults e);
+            index_logs = λ told e. absurd (no_none faults e);
+            on_rows = λ told.
+                let on = rows_stay_on running stands told in
+                record { reads = λ e. absurd (no_none faults e); may_read = on.may_read; crash = on.crash };
+            on_index = λ told. left_loose disk' (index_device old) (index_device new) running faults (λ t c le may. counts t c told le may) (stays told)
+                (left running stands told (sym holds.has.stopped ∙ going));
+          };
+        };
+    crash = λ e told running stands. inl same_rows;
+    index = λ e told running stands.
+        inr (leaves_weaker disk' (index_device old) (index_device new) (MayHoldIndex running.state (next_batch running ∷ [])) (IsIndexBetween running (with_what running (loosened faults)))
+        (between_loosened running faults) (left running stands told (sym stands.holds.has.stopped ∙ going)));
+    settings = settings;
+    limits = limits;
+    faults = record {
+      rose = λ e. subst (λ (n : ℕ). Rose (engine_faults old) (n + disk'.faults (index_device new))) (sym same_rows_count)
+          (rose_behind (disk.faults (rows_device old)) (disk'.faults (index_device old)) (disk'.faults (index_device new)) rose);
+      calm = λ no. absurd (no refl);
+      never_falls = omega (arith, up, same_rows_count);
     };
     sum = λ n e. (let same : faults ≡ n = (let is = e in cc) in sym same ∙ sum);
   }

@@ -1,18 +1,23 @@
--- That an index in memory is right for commits.
+-- That an index in memory stands for commits.
 use Rattle.std.specs.Prelude.{◌≡◌, List}
 use Rattle.fts_types.specs.declared.settings.Settings.{Settings}
 use Rattle.fts_types.specs.Rules.{rules_of}
 use Rattle.fts_commits.specs.Commit.{Commit, Rows, no_rows, replay}
-use Rattle.fts_commits.specs.Turn.{turns_from}
+use Rattle.fts_commits.specs.Turn.{RowsAscend, turns_from}
 use Rattle.fts_entries.specs.Entry.{IndexState}
+use Rattle.fts_entries.specs.Exact.{FitsTurns}
 use Rattle.fts_index.specs.declared.index.Index.{Index}
-use Rattle.fts_index.specs.Index.{Indexes}
+use Rattle.fts_index.specs.Index.{StandsFor, AreCommits}
 
--- the rows are those of these commits, and the index is right for them, and stands for this state
+-- the rows are those of these commits, and the index stands over them for this state, which fits them. It says nothing of
+-- the texts behind the nodes
 pub record IsIndexOf (settings : Settings) (rows : Rows) (index : Index) (commits : List Commit) (s : IndexState)
     : Type 0 where
   pub same : rows ≡ replay commits
-  pub right : Indexes (rules_of settings) (replay commits) (turns_from no_rows commits) s index
+  pub stands : StandsFor (rules_of settings) (turns_from no_rows commits) s index
+  pub are : AreCommits (turns_from no_rows commits)
+  pub fits : FitsTurns (turns_from no_rows commits) s
+  pub ascend : RowsAscend 0 (replay commits).largest (replay commits).list
 
 -- it is so for some commits and some state
 pub record HasIndex (settings : Settings) (rows : Rows) (index : Index) : Type 0 where

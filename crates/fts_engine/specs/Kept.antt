@@ -1,12 +1,14 @@
-use Rattle.std.specs.Prelude.{◌≡◌, ℕ, ◌<◌, ◌≤◌, List, length, Option, Some, None}
+use Rattle.std.specs.Prelude.{◌≤◌, List, length, Option, Some, None}
 use Rattle.fts_types.specs.declared.limits.Limits.{Limits}
 use Rattle.fts_types.specs.declared.settings.Settings.{Settings}
 use Rattle.fts_types.specs.Rules.{rules_of}
-use Rattle.fts_commits.specs.Commit.{Commit, Rows, no_rows, replay}
-use Rattle.fts_commits.specs.Turn.{Turn, turns_from}
+use Rattle.fts_commits.specs.Commit.{Commit, Rows, no_rows}
+use Rattle.fts_commits.specs.Turn.{turns_from}
 use Rattle.fts_rows.specs.Rows.{rows_of, limits_of}
 use Rattle.fts_entries.specs.Entry.{IndexState}
-use Rattle.fts_entries.specs.Batch.{after_batch, next_through}
+use Rattle.fts_entries.specs.Batch.{IsBatch}
+use Rattle.fts_index.specs.declared.sync.SyncPlan.{SyncPlan}
+use Rattle.fts_index.specs.Index.{FitsSync}
 use Rattle.fts_engine.specs.declared.kept.Kept.{Kept}
 use Rattle.fts_engine.specs.declared.kept.NextKept.{NextKept}
 use Rattle.fts_engine.specs.Indexed.{IsIndexOf}
@@ -24,11 +26,11 @@ kept_limits kept = limits_of kept.rows
 abbrev pub kept_rows : Kept → Rows
 kept_rows kept = rows_of kept.rows
 
--- the rows that are kept are those of these commits, and the index is right for these and stands for this state
+-- the rows that are kept are those of these commits, and the index stands over these for this state
 abbrev pub IsIndexed : Kept → List Commit → IndexState → Type 0
 IsIndexed kept commits s = IsIndexOf kept.settings (rows_of kept.rows) kept.index commits s
 
--- whatever commits and state the index was right for, it is right for them still
+-- whatever commits and state the index stood for, it stands for them still
 abbrev pub StaysIndexed : Kept → Kept → Type 0
 StaysIndexed old new = (commits : List Commit) (s : IndexState) → IsIndexed old commits s → IsIndexed new commits s
 
@@ -36,10 +38,24 @@ StaysIndexed old new = (commits : List Commit) (s : IndexState) → IsIndexed ol
 abbrev pub WillKeep : Kept → NextKept → Commit → Rows → Type 0
 WillKeep kept next commit after = WillHold kept.settings kept.rows kept.index next commit after
 
--- the next batch was made, which flushes through this commit; or there is none, since all commits are flushed
-abbrev pub IsSynced : Kept → Kept → List Commit → IndexState → Option ℕ → Type 0
-IsSynced old new commits s None = (length commits ≤ s.flushed) × IsIndexed new commits s
-IsSynced old new commits s (Some through) = (s.flushed < length commits)
-    × (through ≡ next_through old.settings.batch_docs (turns_from no_rows commits) s)
-    × IsIndexed new commits
-    (after_batch (rules_of old.settings) old.settings.batch_docs (turns_from no_rows commits) s)
+-- the plan is the next batch of what is kept
+abbrev pub IsNextBatch : Kept → SyncPlan → List Commit → IndexState → Type 0
+IsNextBatch kept plan commits s = IsBatch (rules_of kept.settings) kept.settings.batch_docs (turns_from no_rows commits) s
+    plan.through plan.synced plan.nodes.items
+
+-- where there is no plan, all commits are flushed
+abbrev pub IsPlanned : Kept → List Commit → IndexState → Option SyncPlan → Type 0
+IsPlanned kept commits s None = length commits ≤ s.flushed
+IsPlanned kept commits s (Some plan) = IsNextBatch kept plan commits s
+
+-- the plan is the next batch for some commits and some state for which the index stands
+pub record HasBatch (kept : Kept) (plan : SyncPlan) : Type 0 where
+  pub commits : List Commit
+  pub state : IndexState
+  pub is : IsIndexed kept commits state
+  pub batch : IsNextBatch kept plan commits state
+
+-- the batch can be made: there is room for it, and it is the next one
+pub record CanSync (kept : Kept) (plan : SyncPlan) : Type 0 where
+  pub fits : FitsSync kept.index plan
+  pub next : ∥ HasBatch kept plan ∥₁

@@ -2,6 +2,7 @@ pub mod Fitting
 pub mod Indexed
 pub mod Next
 pub mod Kept
+pub mod Batch
 pub mod Bounds
 pub mod Refusing
 pub mod Stands

@@ -8,6 +8,9 @@ ghost use Rattle.fts_commits.specs.Fits.{CanCommit};
 ghost use Rattle.fts_rowcodec.specs.Payload.{IsWritten, commit_payload};
 ghost use Rattle.fts_steps.specs.State.{State};
 ghost use Rattle.fts_steps.specs.Step.{to_commit, to_sync, to_view, to_list, to_measure, measured};
+ghost use Rattle.fts_steps.specs.Step.{flushed};
+ghost use Rattle.fts_ixcodec.specs.Payload.{entry_payload, FitsRecord};
+ghost use Rattle.fts_engine.specs.Batch.{batch_of};
 ghost use Rattle.fts_steps.specs.Step.{is_disk_fault, Steps};
 ghost use Rattle.fts_steps.specs.Answers.{commit_answer_of, sync_answer_of, view_answer_of};
 ghost use Rattle.fts_steps.specs.Answers.{listing_answer_of};
@@ -15,6 +18,8 @@ ghost use Rattle.fts_steps.specs.Answers.{listing_answer_of};
 use crate::kept::Kept;
 use fts_commits::Change;
 use fts_disk::Disk;
+use fts_index::SyncPlan;
+use fts_ixcodec::{encode_sealed_into, sealed_size};
 use fts_listing::{ListingKind, NumberedListing};
 use fts_log::{AROUND_PAYLOAD, AppendError, BEFORE_PAYLOAD, Framed, Log};
 use fts_query::{Leaf, View};
@@ -25,8 +30,8 @@ use fts_types::Settings;
 use std::alloc::{AllocError, Global};
 
 /// A database that is open: its rows log and its index log, and its settings, its rows and the
-/// index of their words in memory. After a fault of a commit it takes no more commits and makes no
-/// more batches, and views and listings go on.
+/// index of their words in memory. After a fault of a commit or a batch it takes no more commits and
+/// makes no more batches, and views and listings go on.
 #[derive(Drop)]
 pub struct Engine<D: Disk, E: Disk> {
     pub(crate) alloc: Global,
@@ -40,7 +45,7 @@ impl<D: Disk, E: Disk> Engine<D, E> {
     ghost use Rattle.fts_disk.specs.Crash.{Only};
     ghost use Rattle.fts_query.specs.Seen.{leaves_seen};
     ghost use Rattle.fts_steps.specs.Running.{Running};
-    ghost use Rattle.fts_engine.specs.Stands.{Keeps, Stands, engine_sight, engine_settings};
+    ghost use Rattle.fts_engine.specs.Stands.{Keeps, Holds, engine_sight, engine_settings};
     ghost use Rattle.fts_engine.specs.Stands.{rows_log, index_log, rows_device, index_device};
 
     /// Makes a commit of these changes, and returns its number, from 1. The changes fit the table:
@@ -54,7 +59,7 @@ impl<D: Disk, E: Disk> Engine<D, E> {
     /// After each of them the engine keeps what it kept.
     ///
     /// - `NoMemory` if memory ran out. The logs are untouched.
-    /// - `Stopped` exactly where an earlier commit answered `DiskFault`, with the sum of the counts
+    /// - `Stopped` exactly where an earlier step answered `DiskFault`, with the sum of the counts
     ///   of faults at that answer. The logs are untouched.
     /// - `Refused` exactly where the rows refuse the commit. The logs are untouched.
     /// - `LogFull` exactly where the rows log would end above its limit. The logs are untouched.
@@ -97,7 +102,7 @@ impl<D: Disk, E: Disk> Engine<D, E> {
     }
 
     /// What the rows have for the leaves of a query, at this moment. Want of memory is the only
-    /// refusal; it goes on after a fault of a commit.
+    /// refusal; it goes on after a fault.
     pub fn view(&self, leaves: Vec<Leaf>) -> Result<View, AllocError>
         ensures { Steps engine_sight (to_view (leaves_seen leaves.items)) (view_answer_of result)
             self.now self.now }
@@ -111,35 +116,62 @@ impl<D: Disk, E: Disk> Engine<D, E> {
     /// Makes the next batch of the index: the words of the next commits leave the cache for the
     /// tables, of as many as have at most `batch_docs` births together, and of at least one. It
     /// tells through which commit all are flushed then, and how many there are; `Nothing` where all
-    /// were flushed. All memory is taken before anything changes. It costs the words of the rows
-    /// that it flushes. The logs are untouched: an opening begins with nothing flushed.
+    /// were flushed. At `Flushed` the batch is durable. All memory is taken before a device is
+    /// touched. It costs the words of the rows that it flushes.
+    ///
+    /// A crash at any moment of the call leaves the index log without the batch, or with it.
     ///
     /// # Errors
     ///
     /// After each of them the engine keeps what it kept.
     ///
-    /// - `NoMemory` if memory ran out.
-    /// - `Stopped` exactly where an earlier commit answered `DiskFault`, with the sum of the counts
-    ///   of faults at that answer.
+    /// - `NoMemory` if memory ran out, for a batch of 4 GiB too. The logs are untouched.
+    /// - `Stopped` exactly where an earlier step answered `DiskFault`, with the sum of the counts of
+    ///   faults at that answer. The logs are untouched.
+    /// - `LogFull` exactly where the index log would end above its limit. The logs are untouched.
+    /// - `DiskFault` if the index device failed, with the sum of both devices' counts of faults.
+    ///   Whether the batch is in the log is known from a new opening alone.
     pub fn sync_batch(&mut self) -> Result<SyncBatch, SyncError>
         ensures steps { Steps engine_sight to_sync (sync_answer_of result) self.old self.new }
+        ensures durable { (through commits : ℕ) → sync_answer_of result ≡ flushed through commits
+            → IsTrue E.tells
+            → Only (E.seen (index_device self.new)) (E.images (index_device self.new)) }
+        ensures untouched { is_disk_fault (sync_answer_of result) ≡ false
+            → ((through commits : ℕ) → sync_answer_of result ≡ flushed through commits → ⊥)
+            → index_log self.new ≡ index_log self.old }
         ensures rows { rows_log self.new ≡ rows_log self.old }
-        ensures index { index_log self.new ≡ index_log self.old }
     {
         match self.stopped {
             None => {}
             Some(faults) => return Err(SyncError::Stopped { faults }),
         }
         let commits = self.commits();
-        match self.kept.sync() {
-            Ok(Some(through)) => Ok(SyncBatch::Flushed { through, commits }),
-            Ok(None) => Ok(SyncBatch::Nothing { commits }),
-            Err(AllocError) => Err(SyncError::NoMemory),
+        let plan = match self.kept.plan_sync() {
+            Ok(Some(plan)) => plan,
+            Ok(None) => return Ok(SyncBatch::Nothing { commits }),
+            Err(AllocError) => return Err(SyncError::NoMemory),
+        };
+        let framed = match framed_batch(self.alloc, &plan) {
+            Ok(framed) => framed,
+            Err(AllocError) => return Err(SyncError::NoMemory),
+        };
+        match self.index.append(&framed) {
+            Ok(_) => {
+                let through = plan.through();
+                self.kept.install_sync(plan);
+                Ok(SyncBatch::Flushed { through, commits })
+            }
+            Err(AppendError::LogFull { end }) => Err(SyncError::LogFull { end }),
+            Err(AppendError::DiskFault) => {
+                let faults = self.rows.faults() as u128 + self.index.faults() as u128;
+                self.stopped = Some(faults);
+                Err(SyncError::DiskFault { faults })
+            }
         }
     }
 
     /// What a view of the index lists, with the number of commits. Want of memory is the only
-    /// refusal; it goes on after a fault of a commit. It costs what it lists.
+    /// refusal; it goes on after a fault. It costs what it lists.
     pub fn listing(&self, kind: ListingKind) -> Result<NumberedListing, AllocError>
         ensures { Steps engine_sight (to_list kind) (listing_answer_of result) self.now self.now }
     {
@@ -180,7 +212,7 @@ impl<D: Disk, E: Disk> Engine<D, E> {
         ensures some { 1 ≤ length result.now.columns }
         ensures few { length result.now.columns ≤ 8 }
         ensures settings { result.now ≡ engine_settings self.now }
-        ensures stand { (running : Running) → Stands running self.now
+        ensures stand { (running : Running) → Holds running self.now
             → running.state.settings ≡ result.now }
     {
         self.kept.settings()
@@ -220,6 +252,31 @@ fn framed_commit(alloc: Global, changes: &[Change]) -> Result<Framed, AllocError
     let mut bytes = vec![in alloc; 0; commit_size(changes) + AROUND_PAYLOAD]?;
     put_commit(&mut bytes, changes);
     Ok(Framed::around(bytes))
+}
+
+// A batch, framed for the log.
+fn framed_batch(alloc: Global, plan: &SyncPlan) -> Result<Framed, AllocError>
+    ensures payload { IfOk result (λ framed. payload_of framed ≡ entry_payload (batch_of plan.now)) }
+    ensures fits { IfOk result (λ _. FitsRecord (batch_of plan.now)) }
+{
+    let size = match sealed_size(plan.nodes()) {
+        Some(size) => size,
+        None => return Err(AllocError),
+    };
+    let mut bytes = vec![in alloc; 0; size + AROUND_PAYLOAD]?;
+    put_batch(&mut bytes, plan);
+    Ok(Framed::around(bytes))
+}
+
+// Puts the payload of a batch into the bytes of its frame.
+fn put_batch(frame: &mut [u8], plan: &SyncPlan)
+    requires fits { FitsRecord (batch_of plan.now) }
+    requires room { length frame.old ≡ length (entry_payload (batch_of plan.now)) + 5 }
+    ensures size { length frame.new ≡ length frame.old }
+    ensures payload { inner frame.new ≡ entry_payload (batch_of plan.now) }
+{
+    let payload = &mut frame[BEFORE_PAYLOAD..];
+    encode_sealed_into(plan.through(), plan.synced(), plan.nodes(), payload);
 }
 
 // Puts the payload of a commit into the bytes of its frame.

@@ -12,7 +12,7 @@ ghost use Rattle.fts_engine.specs.Next.{WillHold};
 
 use crate::looking::candidates;
 use fts_commits::{Change, are_turns};
-use fts_index::{CommitPlan, Index};
+use fts_index::{CommitPlan, Index, SyncPlan};
 use fts_listing::{Listing, ListingKind};
 use fts_query::{Leaf, View};
 use fts_rows::{Plan, PlanError, Rows};
@@ -40,11 +40,13 @@ pub struct NextKept {
 
 impl Kept {
     ghost use Rattle.std.specs.Prelude.{◌≡◌, ◌≤◌, ℕ, length, IfOk, IfErr, OnOk, Ok};
-    ghost use Rattle.std.specs.Prelude.{List, [], ◌∷◌, ◌++◌, OnErr};
+    ghost use Rattle.std.specs.Prelude.{List, [], ◌∷◌, ◌++◌, Some};
     ghost use Rattle.fts_types.specs.Rules.{rules_of};
     ghost use Rattle.fts_commits.specs.Commit.{Commit, Rows as RowList, after_commit, no_rows};
     ghost use Rattle.fts_commits.specs.Turn.{turns_from, births_of};
     ghost use Rattle.fts_entries.specs.Entry.{IndexState, no_entries, unflushed};
+    ghost use Rattle.fts_entries.specs.Batch.{after_batch};
+    ghost use Rattle.fts_entries.specs.Exact.{IsExact};
     ghost use Rattle.fts_entries.specs.Words.{rows_size};
     ghost use Rattle.fts_listing.specs.Listing.{IsListed};
     ghost use Rattle.fts_commits.specs.Fits.{IsCommit};
@@ -52,7 +54,7 @@ impl Kept {
     ghost use Rattle.fts_query.specs.Seen.{leaves_seen, view_seen};
     ghost use Rattle.fts_rows.specs.Refusal.{IsNoPlan};
     ghost use Rattle.fts_engine.specs.Kept.{kept_settings, kept_rows, kept_limits, WillKeep};
-    ghost use Rattle.fts_engine.specs.Kept.{IsIndexed, StaysIndexed, IsSynced};
+    ghost use Rattle.fts_engine.specs.Kept.{IsIndexed, StaysIndexed, IsNextBatch, IsPlanned, CanSync};
 
     /// No row is kept yet.
     pub fn new(alloc: Global, settings: Settings, limits: Limits) -> Self
@@ -155,10 +157,13 @@ impl Kept {
         }
     }
 
-    /// What the rows have for these leaves, as the view of so many commits.
+    /// What the rows have for these leaves, as the view of so many commits, where the index is
+    /// right.
     pub fn view(&self, alloc: Global, number: u64, leaves: Vec<Leaf>) -> Result<View, AllocError>
         ensures { IfOk result (λ view. (commits : List Commit) (s : IndexState)
-            → IsIndexed self.now commits s → view_seen view
+            → IsIndexed self.now commits s
+            → IsExact (rules_of (kept_settings self.now)) (kept_rows self.now).list
+            (turns_from no_rows commits) s → view_seen view
             ≡ view_of (rules_of (kept_settings self.now)) (kept_rows self.now).list number
             (leaves_seen leaves.items)) }
     {
@@ -171,24 +176,32 @@ impl Kept {
         })
     }
 
-    /// Makes the next batch of the index, and tells through which commit this is flushed then; None
-    /// where all commits are flushed. Where there is no memory, nothing changes.
-    pub fn sync(&mut self) -> Result<Option<u64>, AllocError>
-        ensures synced { IfOk result (λ through. (commits : List Commit) (s : IndexState)
-            → IsIndexed self.old commits s → IsSynced self.old self.new commits s through) }
-        ensures failed { OnErr result (StaysIndexed self.old self.new) }
+    /// The next batch of the index, with the room for it; None where all commits are flushed. Where
+    /// there is no memory, nothing changes.
+    pub fn plan_sync(&mut self) -> Result<Option<SyncPlan>, AllocError>
+        ensures planned { IfOk result (λ plan. (commits : List Commit) (s : IndexState)
+            → IsIndexed self.old commits s → IsPlanned self.new commits s plan) }
+        ensures room { (plan : SyncPlan) → result ≡ Ok (Some plan) → CanSync self.new plan }
+        ensures index { StaysIndexed self.old self.new }
         ensures rows { kept_rows self.new ≡ kept_rows self.old }
         ensures settings { kept_settings self.new ≡ kept_settings self.old }
         ensures limits { kept_limits self.new ≡ kept_limits self.old }
     {
-        let plan = match self.index.plan_sync(self.settings.batch_docs) {
-            Ok(Some(plan)) => plan,
-            Ok(None) => return Ok(None),
-            Err(AllocError) => return Err(AllocError),
-        };
-        let through = plan.through();
+        self.index.plan_sync(self.settings.batch_docs)
+    }
+
+    /// Makes the batch. It takes no memory.
+    pub fn install_sync(&mut self, plan: SyncPlan)
+        requires { CanSync self.old plan }
+        ensures index { (commits : List Commit) (s : IndexState) → IsIndexed self.old commits s
+            → IsNextBatch self.old plan commits s
+            → IsIndexed self.new commits (after_batch (rules_of (kept_settings self.old))
+            (kept_settings self.old).batch_docs (turns_from no_rows commits) s) }
+        ensures rows { kept_rows self.new ≡ kept_rows self.old }
+        ensures settings { kept_settings self.new ≡ kept_settings self.old }
+        ensures limits { kept_limits self.new ≡ kept_limits self.old }
+    {
         self.index.install_sync(plan);
-        Ok(Some(through))
     }
 
     /// What a view of the index lists.

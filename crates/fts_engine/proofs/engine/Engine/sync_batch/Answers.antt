@@ -19,12 +19,12 @@ returns-in-Ok-Some-clause-steps g c =
     batches old _ c.in-Ok-Some.ensures.settings c.in-Ok-Some.ensures.rows c.in-Ok-Some.ensures.limits refl refl refl c.in-Ok-Some.through count
     (λ running stands.
     let synced = subst (IsSynced old.kept new running.state.commits running.index) c.in-Ok-Some.field-0-is
-    (c.in-Ok-Some.ensures.synced running.state.commits running.index stands.indexed) in
-    is_flushed (engine_limits old) running (sym stands.stopped ∙ c.in-None.is) c.in-Ok-Some.through count (c.commits-commits.ensures running.state stands.keeps) synced.0
-    (same_through running old.kept new stands.keeps.settings c.in-Ok-Some.through synced.1))
-    (λ running stands. same_next running old.kept new stands.keeps.settings
+    (c.in-Ok-Some.ensures.synced running.state.commits running.index stands.holds.has.indexed) in
+    is_flushed (engine_limits old) running (sym stands.holds.has.stopped ∙ c.in-None.is) c.in-Ok-Some.through count (c.commits-commits.ensures running.state stands.holds.has.keeps) synced.0
+    (same_through running old.kept new stands.holds.has.keeps.settings c.in-Ok-Some.through synced.1))
+    (λ running stands. same_next running old.kept new stands.holds.has.keeps.settings
     (subst (IsSynced old.kept new running.state.commits running.index) c.in-Ok-Some.field-0-is
-    (c.in-Ok-Some.ensures.synced running.state.commits running.index stands.indexed)).2)
+    (c.in-Ok-Some.ensures.synced running.state.commits running.index stands.holds.has.indexed)).2)
 
 pub returns-in-Ok-None-clause-steps : goal.returns-in-Ok-None-clause-steps
 returns-in-Ok-None-clause-steps g c =
@@ -33,9 +33,9 @@ returns-in-Ok-None-clause-steps g c =
     let count = c.commits-commits.result in
     refuses old _ c.in-Ok-None.ensures.settings c.in-Ok-None.ensures.rows c.in-Ok-None.ensures.limits refl refl refl
     (λ commits s is. (subst (IsSynced old.kept new commits s) c.in-Ok-None.field-0-is (c.in-Ok-None.ensures.synced commits s is)).1) to_sync (all_flushed count) refl refl
-    (λ running stands. is_nothing (engine_limits old) running (sym stands.stopped ∙ c.in-None.is) count (c.commits-commits.ensures running.state stands.keeps)
+    (λ running stands. is_nothing (engine_limits old) running (sym stands.holds.has.stopped ∙ c.in-None.is) count (c.commits-commits.ensures running.state stands.holds.has.keeps)
     (subst (IsSynced old.kept new running.state.commits running.index) c.in-Ok-None.field-0-is
-    (c.in-Ok-None.ensures.synced running.state.commits running.index stands.indexed)).0)
+    (c.in-Ok-None.ensures.synced running.state.commits running.index stands.holds.has.indexed)).0)
 
 pub returns-in-Err-clause-steps : goal.returns-in-Err-clause-steps
 returns-in-Err-clause-steps g c =

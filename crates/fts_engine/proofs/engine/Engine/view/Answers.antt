@@ -10,8 +10,8 @@ returns-in-Ok g c =
     let asked = leaves_seen c.args.leaves.items in
     let view = view_seen c.in-Ok.view in
     refuses c.args.self.now c.args.self.now refl refl refl refl refl refl (λ commits s is. is) (to_view asked) (viewed view) refl refl
-    (λ running stands. is_viewed running c.args.self.now stands.keeps asked c.commits.result view
-    (c.commits.ensures running.state stands.keeps) (c.in-Ok.ensures running.state.commits running.index stands.indexed))
+    (λ running stands. is_viewed running c.args.self.now stands.holds.has.keeps asked c.commits.result view
+    (c.commits.ensures running.state stands.holds.has.keeps) (c.in-Ok.ensures running.state.commits running.index stands.holds.has.indexed))
 
 pub returns-in-Err : goal.returns-in-Err
 returns-in-Err g c =
