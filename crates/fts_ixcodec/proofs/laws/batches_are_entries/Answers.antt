@@ -1,5 +1,5 @@
 use Rattle.fts_ixcodec.proofs.Batches.{batch_is_entry}
 use Rattle.fts_ixcodec.proofs.laws.batches_are_entries.Goals as goal
 
-pub returns-clause : goal.returns-clause
-returns-clause c = λ rules rows low high through synced batch most ids can. batch_is_entry rules rows low high most ids can through synced batch
+pub returns : goal.returns
+returns c = λ rules rows low high through synced batch most ids can. batch_is_entry rules rows low high most ids can through synced batch
