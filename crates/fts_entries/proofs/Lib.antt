@@ -9,4 +9,5 @@ pub mod Passes
 pub mod Groups
 pub mod Places
 pub mod Spelled
+pub mod Alive
 mod WorkedRows

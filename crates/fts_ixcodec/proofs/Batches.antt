@@ -1,5 +1,5 @@
 -- The entry of a batch of rows' words can be written.
-use Rattle.std.proofs.Common.{◌≡◌, ◌≢◌, ℕ, ◌+◌, ◌<◌, ◌≤◌, ◌^◌, List, [], ◌∷◌, ◌++◌, length, length-append, sym, ap, subst, ◌∙◌, arith}
+use Rattle.std.proofs.Common.{◌≡◌, ◌≢◌, ℕ, ◌+◌, ◌-◌, ◌<◌, ◌≤◌, ◌^◌, List, [], ◌∷◌, ◌++◌, length, length-append, take, sym, ap, subst, ◌∙◌, arith}
 use Rattle.std.specs.Prelude.{All}
 use Rattle.std.specs.List.{flat_map, AllByRecursion}
 use Rattle.std.specs.List.Sorted.{IsStrictlySortedBy}
@@ -10,15 +10,17 @@ use Rattle.fts_codec.proofs.Puts.{piece_short}
 use Rattle.fts_words.specs.Indexed.{Rules}
 use Rattle.fts_words.specs.Order.{byte_order}
 use Rattle.fts_types.specs.Row.{Row}
-use Rattle.fts_commits.specs.Turn.{RowsAscend}
+use Rattle.fts_commits.specs.Turn.{Turn, RowsAscend, AreTurns, births_of}
 use Rattle.fts_ilist.specs.Spelling.{Posting}
 use Rattle.fts_ilist.specs.Node.{Docs, NodesAfter, nodes_for}
 use Rattle.fts_ilist.specs.Packing.{packed}
-use Rattle.fts_entries.specs.Entry.{Batch, sealed}
+use Rattle.fts_entries.specs.Entry.{Batch, IndexState, sealed, unflushed_through}
+use Rattle.fts_entries.specs.Batch.{IsBatch, alive_of, largest_after}
 use Rattle.fts_entries.specs.Words.{rows_postings}
 use Rattle.fts_entries.specs.Rows.{CanIndex}
 use Rattle.fts_entries.proofs.Packing.{packed_ascend, nodes_lower}
 use Rattle.fts_entries.proofs.Postings.{rows_after}
+use Rattle.fts_entries.proofs.Alive.{alive_ascend, alive_each}
 use Rattle.fts_entries.proofs.Groups.{own_nodes}
 use Rattle.fts_entries.proofs.Spelled.{spelled_lower, rows_spelled, IsPackedNode, packed_each, of_word}
 use Rattle.fts_ixcodec.specs.Payload.{node_payload, nodes_payload, node_count, IsWord, IsNode, AreNodes, IsGroup, IsEntry, FitsRecord}
@@ -68,3 +70,14 @@ module _ (rules : Rules) (rows : List Row) (low high : ℕ) (most : rules.max �
         ascend = up;
         each = λ k d less. group_is _ _ (own k d less) (filled k d less) (piece_short nodes_payload batch k d (2 ^ 32) less short);
       })
+
+-- so can that of the next batch of an index
+pub next_is_entry : (rules : Rules) (limit : ℕ) (turns : List Turn) (s : IndexState) (through synced : ℕ) (batch : Batch) → IsBatch rules limit turns s through synced batch
+    → rules.max ≤ 84 → AreTurns 0 turns → All CanIndex (births_of turns) → through < 2 ^ 64 → synced < 2 ^ 64
+    → FitsRecord (sealed through synced batch) → IsEntry (sealed through synced batch)
+next_is_entry rules limit turns s through synced batch is most are can =
+    let covered = unflushed_through through turns s in
+    let low = largest_after 0 (take s.flushed turns) in
+    batch_is_entry rules (alive_of turns covered) low (largest_after low covered) most
+    (alive_ascend turns s.flushed (through - s.flushed) are) (alive_each turns s.flushed (through - s.flushed) CanIndex can)
+    through synced batch is.words is.filled is.nodes
