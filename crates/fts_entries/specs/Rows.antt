@@ -1,5 +1,5 @@
 -- Rows that an index can take.
-use Rattle.std.specs.Prelude.{ℕ, ◌<◌, ◌^◌}
+use Rattle.std.specs.Prelude.{◌<◌, ◌^◌}
 use Rattle.fts_types.specs.Row.{IsRow, Row}
 
 -- the row can be indexed

@@ -1,7 +1,7 @@
 -- The entry of a batch of rows' words can be written.
-use Rattle.std.proofs.Common.{◌≡◌, ◌≢◌, ℕ, ◌+◌, ◌-◌, ◌<◌, ◌≤◌, ◌^◌, List, [], ◌∷◌, ◌++◌, length, length-append, take, sym, ap, subst, ◌∙◌, arith}
+use Rattle.std.proofs.Common.{◌≡◌, ◌≢◌, ℕ, ◌-◌, ◌<◌, ◌≤◌, ◌^◌, List, [], ◌++◌, length, length-append, take, sym, ap, subst, ◌∙◌, arith}
 use Rattle.std.specs.Prelude.{All}
-use Rattle.std.specs.List.{flat_map, AllByRecursion}
+use Rattle.std.specs.List.{flat_map}
 use Rattle.std.specs.List.Sorted.{IsStrictlySortedBy}
 use Rattle.std.specs.Map.{keys_of}
 use Rattle.std.specs.Int.{w32, w64, to_be_bytes}
@@ -11,7 +11,6 @@ use Rattle.fts_words.specs.Indexed.{Rules}
 use Rattle.fts_words.specs.Order.{byte_order}
 use Rattle.fts_types.specs.Row.{Row}
 use Rattle.fts_commits.specs.Turn.{Turn, RowsAscend, AreTurns, births_of}
-use Rattle.fts_ilist.specs.Spelling.{Posting}
 use Rattle.fts_ilist.specs.Node.{Docs, NodesAfter, nodes_for}
 use Rattle.fts_ilist.specs.Packing.{packed}
 use Rattle.fts_entries.specs.Entry.{Batch, IndexState, sealed, unflushed_through}
@@ -23,7 +22,7 @@ use Rattle.fts_entries.proofs.Postings.{rows_after}
 use Rattle.fts_entries.proofs.Alive.{alive_ascend, alive_each}
 use Rattle.fts_entries.proofs.Groups.{own_nodes}
 use Rattle.fts_entries.proofs.Spelled.{spelled_lower, rows_spelled, IsPackedNode, packed_each, of_word}
-use Rattle.fts_ixcodec.specs.Payload.{node_payload, nodes_payload, node_count, IsWord, IsNode, AreNodes, IsGroup, IsEntry, FitsRecord}
+use Rattle.fts_ixcodec.specs.Payload.{node_payload, nodes_payload, node_count, IsWord, IsNode, IsGroup, IsEntry, FitsRecord}
 use Rattle.fts_ixcodec.proofs.Walks.{node_length, count_within}
 use Rattle.fts_ixcodec.proofs.Forms.{indexed_is_word}
 

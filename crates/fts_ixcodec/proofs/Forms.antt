@@ -1,9 +1,9 @@
 -- Indexed words have the form that words of payloads have.
-use Rattle.std.proofs.Common.{◌≡◌, ℕ, zero, suc, ◌+◌, ◌-◌, ◌<◌, ◌≤◌, Bool, true, false, not, ◌&&◌, ◌||◌, List, ◌∷◌, length, map, take, drop, get_or, Option, Some, sym, refl, ap, subst, ◌∙◌, arith, ⊎_elim, eqb-true, nat_le}
+use Rattle.std.proofs.Common.{◌≡◌, ℕ, zero, suc, ◌+◌, ◌-◌, ◌<◌, ◌≤◌, Bool, true, false, not, ◌&&◌, List, ◌∷◌, length, map, take, drop, get_or, Option, Some, sym, refl, ap, subst, ◌∙◌, arith, ⊎_elim, eqb-true, nat_le}
 use Rattle.std.specs.Char.{to_ascii_lowercase}
 use Rattle.std.proofs.lemmas.Bool.{cases_Bool, or_cases, and_parts, and_from, leb-true, true≢false, true_from_ne_false}
 use Rattle.std.proofs.lemmas.Bool.Decides.{nat_tests}
-use Rattle.std.proofs.lemmas.List.{drop_more, length-map}
+use Rattle.std.proofs.lemmas.List.{drop_more}
 use Rattle.fts_words.specs.declared.placed.PlacedWord.{PlacedWord}
 use Rattle.fts_words.specs.Byte.{is_word_byte, word_at, apostrophe_at, lowered}
 use Rattle.fts_words.specs.Word.{IsRawWord}
