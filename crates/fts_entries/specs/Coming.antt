@@ -1,5 +1,5 @@
 -- Which entries can come one behind another in an index log.
-use Rattle.std.specs.Prelude.{◌≡◌, ℕ, ◌<◌, ◌≤◌, Bool, true, List, [], ◌∷◌, length, take, map}
+use Rattle.std.specs.Prelude.{◌≡◌, ℕ, ◌<◌, ◌≤◌, true, List, [], ◌∷◌, length, take, map}
 use Rattle.std.specs.List.{All}
 use Rattle.fts_commits.specs.Turn.{Turn, births_of}
 use Rattle.fts_ids.specs.Ids.{has}

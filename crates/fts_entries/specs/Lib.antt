@@ -1,5 +1,6 @@
 pub mod Words
 pub mod Entry
+pub mod Rows
 pub mod Batch
 pub mod Coming
 pub mod Exact

@@ -10,7 +10,8 @@ use Rattle.fts_cache.specs.Cache.{CachedDocument, cached}
 use Rattle.fts_types.specs.Row.{Row, row_of}
 use Rattle.fts_types.specs.declared.row.Row.{Row as Kept}
 use Rattle.fts_commits.specs.Turn.{RowsAscend}
-use Rattle.fts_index.specs.Births.{CanIndex, AreBirths}
+use Rattle.fts_entries.specs.Rows.{CanIndex}
+use Rattle.fts_index.specs.Births.{AreBirths}
 use Rattle.fts_entries.specs.Words.{row_postings, rows_postings}
 use Rattle.fts_index.specs.Document.{HasWordsOf, HaveWordsOf}
 use Rattle.fts_index.specs.Index.{IdsAscendFrom, cached_row}

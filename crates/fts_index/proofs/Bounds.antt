@@ -18,30 +18,11 @@ use Rattle.fts_words.proofs.WordLemmas.{raw_words_within}
 use Rattle.fts_words.proofs.PlacedLemmas.{column_offset_next, indexed_words_each, indexed_words_ascend}
 use Rattle.fts_index.specs.declared.keyed.Occurrence.{Occurrence}
 use Rattle.fts_entries.specs.Words.{positions_of}
+use Rattle.fts_entries.proofs.Places.{all_low}
 use Rattle.fts_index.specs.Occurrences.{Spot, spot_of, spot_in, AreListed, stands_before, positions_among, AreSorted}
 use Rattle.fts_index.proofs.Sorting.{by_words, same_positions}
 
 -- ---- where the words stand
-
--- the texts of a row, and a byte behind each
-with_joints : (columns : List (List ℕ)) → sum_by (λ text. length text + 1) columns ≡ sum_by length columns + length columns
-with_joints [] = refl
-with_joints (text ∷ texts) =
-    omega (arith, with_joints texts, sum_by-cons (λ (t : List ℕ). length t + 1) text texts, sum_by-cons (λ (t : List ℕ). length t) text texts)
-
--- an indexed word starts in its row
-low : (rules : Rules) (columns : List (List ℕ)) → IsRow columns → (w : PlacedWord) → IsIndexedWord rules columns w → w.position < 65543
-low rules columns row w word =
-    let raw = word.placed.raw_word in
-    let some = raw.nonempty in
-    let within = raw_words_within (column_text columns w.column) w.span.from w.span.to raw in
-    let next = column_offset_next columns w.column word.placed.column in
-    let all : column_offset columns (w.column + 1) ≤ sum_by (λ text. length text + 1) columns = sum_by-take-le (λ (t : List ℕ). length t + 1) columns (w.column + 1) in
-    omega (arith, word.placed.position, with_joints columns, row.few, row.short)
-
-all_low : (rules : Rules) (columns : List (List ℕ)) → IsRow columns → All (λ w. w.position < 65543) (indexed_words rules columns)
-all_low rules columns row =
-    All-weaker (IsIndexedWord rules columns) (λ (w : PlacedWord). w.position < 65543) (low rules columns row) (indexed_words rules columns) (indexed_words_each columns rules)
 
 -- as many words as stand before a word start below its position
 place_below : (xs : List PlacedWord) → PositionsAscend xs → (k : ℕ) (d : PlacedWord) → k < length xs → k ≤ (get_or xs k d).position
@@ -58,30 +39,6 @@ few_words (x ∷ xs) up below =
     let place = place_below (x ∷ xs) up (length xs) x last in
     let position : (get_or (x ∷ xs) (length xs) x).position < 65543 = below (length xs) x last in
     omega arith
-
--- words in ascending order have positions as a document has them
-spelled : (next : ℕ) (xs : List PlacedWord) → PositionsAscend xs → All (λ w. w.position < 65543) xs → All (λ w. next ≤ w.position) xs → PositionsFrom next (map (λ w. w.position) xs)
-spelled next [] up below above = tt
-spelled next (x ∷ xs) up below above =
-    let R : PlacedWord → PlacedWord → Type 0 = λ v w. v.position < w.position in
-    let B : PlacedWord → Type 0 = λ w. w.position < 65543 in
-    let A : PlacedWord → Type 0 = λ w. next ≤ w.position in
-    let N : PlacedWord → Type 0 = λ w. x.position + 1 ≤ w.position in
-    let first : x.position < 65543 = All-head B x xs below in (
-      All-head A x xs above,
-      omega arith,
-      spelled (x.position + 1) xs (AllPairs-tail R x xs up) (All-tail B x xs below)
-          (All-weaker (R x) N (λ (w : PlacedWord) less. omega (arith, less)) xs (AllPairs-head R x xs up)),
-    )
-
--- the positions of a word of a row are as a document has them
-pub positions_spelled : (rules : Rules) (columns : List (List ℕ)) (word : List ℕ) → IsRow columns → PositionsFrom 0 (positions_of rules columns word)
-positions_spelled rules columns word row =
-    let p : PlacedWord → Bool = λ found. bytes_eq word (word_of columns found) in
-    let R : PlacedWord → PlacedWord → Type 0 = λ v w. v.position < w.position in
-    let B : PlacedWord → Type 0 = λ w. w.position < 65543 in
-    let all = indexed_words rules columns in
-    spelled 0 (filter p all) (AllPairs-filter R p all (indexed_words_ascend columns rules)) (All-filter p B all (all_low rules columns row)) (λ k d less. omega arith)
 
 -- ---- what is listed
 

@@ -21,9 +21,9 @@ use Rattle.fts_cache.proofs.Queues.{which_word, is_same}
 use Rattle.fts_cache.proofs.Documents.{size_push, found_here, found_later}
 use Rattle.fts_index.specs.declared.keyed.Occurrence.{Occurrence}
 use Rattle.fts_entries.specs.Words.{posting_at, row_postings, row_size}
+use Rattle.fts_entries.proofs.Places.{positions_spelled}
 use Rattle.fts_index.specs.Occurrences.{comes_before, is_of, positions_among, AreSorted}
 use Rattle.fts_index.proofs.Sorting.{ranks}
-use Rattle.fts_index.proofs.Bounds.{positions_spelled}
 
 -- ---- the front of a list that passes a test, and what stands behind it
 

@@ -1,12 +1,8 @@
 -- New rows that can be indexed.
-use Rattle.std.specs.Prelude.{ℕ, ◌<◌, ◌^◌, List, All}
-use Rattle.fts_types.specs.Row.{IsRow, Row}
+use Rattle.std.specs.Prelude.{ℕ, List, All}
+use Rattle.fts_types.specs.Row.{Row}
 use Rattle.fts_commits.specs.Turn.{RowsAscend, Turn}
-
--- the row can be indexed
-pub record CanIndex (row : Row) : Type 0 where
-  pub limit : row.doc < 2 ^ 63
-  pub texts : IsRow row.texts
+use Rattle.fts_entries.specs.Rows.{CanIndex}
 
 -- the rows can be indexed behind those up to the id `last`, one after another, and none has an id above `largest`
 pub record AreBirths (last largest : ℕ) (births : List Row) : Type 0 where

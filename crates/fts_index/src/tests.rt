@@ -1,7 +1,8 @@
 ghost use Rattle.std.specs.Prelude.{◌≡◌, ◌<◌, ◌^◌, ◌∷◌, [], ℕ, List, map, IfOk, OnOk};
 ghost use Rattle.fts_types.specs.Rules.{rules_of};
 ghost use Rattle.fts_types.specs.Row.{row_of};
-ghost use Rattle.fts_index.specs.Births.{CanIndex, AreBirths};
+ghost use Rattle.fts_entries.specs.Rows.{CanIndex};
+ghost use Rattle.fts_index.specs.Births.{AreBirths};
 ghost use Rattle.fts_index.specs.Made.{IsMade};
 
 use crate::Index;

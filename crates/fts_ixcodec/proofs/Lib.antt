@@ -6,4 +6,6 @@ pub mod Walks
 pub mod Nodes
 pub mod Within
 pub mod Entries
+pub mod Forms
+pub mod Batches
 mod WorkedRows

@@ -26,7 +26,9 @@ fn put_marks(buf: &mut [u8], through: u64, synced: DocId, count: u32) -> usize
 }
 
 /// Writes the payload of a batch at the head of a buffer: through which commit and up to which id
-/// it flushes, and its nodes. It returns how many bytes that are, and takes no memory.
+/// it flushes, and its nodes. It returns how many bytes that are, and takes no memory. The batch
+/// can be written, and needs so many bytes, where `sealed_size(nodes)` gives their count: that is
+/// `None` where the payload has 2^32 bytes or more, or one of the words has more than 255.
 pub fn encode_sealed_into(through: u64, synced: DocId, nodes: &[WordNodes], buf: &mut [u8]) -> usize
     requires fits { FitsRecord (sealed through synced nodes.now) }
     requires room { length (entry_payload (sealed through synced nodes.now)) ≤ length buf.old }

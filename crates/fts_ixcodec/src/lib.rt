@@ -13,6 +13,7 @@ mod decoding;
 mod encoding;
 mod entry;
 mod error;
+mod laws;
 mod lists;
 mod measure;
 mod words;
@@ -24,6 +25,7 @@ pub use encoding::{
 };
 pub use entry::Entry;
 pub use error::DecodeError;
+pub use laws::batches_are_entries;
 pub use measure::{entry_size, sealed_size, worked_size};
 
 #[cfg(test)]

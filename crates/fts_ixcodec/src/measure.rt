@@ -53,8 +53,9 @@ fn nodes_size(start: usize, group: &WordNodes) -> Option<usize>
     Some(size)
 }
 
-/// How many bytes the payload of a batch has with these nodes, where a record of the log can hold
-/// it: where it has less than 2^32 bytes, and each word at most 255.
+/// How many bytes the payload of a batch has with these nodes. `None` exactly where no record of
+/// the log can hold it: where it has 2^32 bytes or more, or one of the words has more than 255.
+/// An indexed word has at most 84, so of a batch of such words it is `None` for its length alone.
 pub fn sealed_size(nodes: &[WordNodes]) -> Option<usize>
     ensures some { IfSome result (λ size. (through : ℕ) → (synced : ℕ)
         → HasSize (sealed through synced nodes.now) size) }
@@ -102,8 +103,8 @@ fn lists_size(start: usize, nodes: NodeSlice<'_>) -> Option<usize>
     Some(size)
 }
 
-/// How many bytes the payload of a word of a pass has with these nodes, where a record of the log
-/// can hold it, as for a batch.
+/// How many bytes the payload of a word of a pass has with these nodes. `None` exactly where no
+/// record of the log can hold it, as for a batch.
 pub fn worked_size(word: &[u8], nodes: NodeSlice<'_>) -> Option<usize>
     ensures some { IfSome result (HasSize (worked word.now nodes.entry)) }
     ensures none { IfNone result (FitsRecord (worked word.now nodes.entry) → ⊥) }
@@ -114,7 +115,8 @@ pub fn worked_size(word: &[u8], nodes: NodeSlice<'_>) -> Option<usize>
     lists_size(WORKED + word.len(), nodes)
 }
 
-/// How many bytes the payload of an entry has, where a record of the log can hold it.
+/// How many bytes the payload of an entry has. `None` exactly where no record of the log can hold
+/// it.
 pub fn entry_size(entry: &Entry) -> Option<usize>
     ensures some { IfSome result (HasSize (seen entry.now)) }
     ensures none { IfNone result (FitsRecord (seen entry.now) → ⊥) }
