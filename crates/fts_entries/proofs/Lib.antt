@@ -3,7 +3,11 @@ pub mod Postings
 pub mod Turns
 pub mod Packing
 pub mod Batches
-pub mod Kept
 pub mod Commits
+pub mod Coming
+pub mod Kept
+pub mod One
+pub mod Next
+pub mod Alive
 pub mod Passes
 mod WorkedRows

@@ -1,6 +1,6 @@
 pub mod Words
 pub mod Entry
 pub mod Batch
-pub mod Coming
 pub mod Exact
+pub mod Coming
 pub mod Pass
