@@ -159,7 +159,7 @@ none_exact rules word = refl
 
 -- ---- the state of entries does not change with a commit behind those that they cover
 
-taken_before : (turns more : List Turn) (flushed through : ℕ) → through ≤ length turns → take (through - flushed) (drop flushed (turns ++ more)) ≡ take (through - flushed) (drop flushed turns)
+pub taken_before : (turns more : List Turn) (flushed through : ℕ) → through ≤ length turns → take (through - flushed) (drop flushed (turns ++ more)) ≡ take (through - flushed) (drop flushed turns)
 taken_before turns more flushed through less =
     ⊎_elim
     (λ (past : length turns < flushed). (let none : through - flushed ≡ 0 = omega (arith, less, past) in
@@ -168,7 +168,7 @@ taken_before turns more flushed through less =
     ∙ take-append-le (through - flushed) (drop flushed turns) more (let long = length-drop flushed turns in omega (arith, less, within, long)))
     (cases_lt (length turns) flushed)
 
-abbrev sealed_with : IndexState → ℕ → ℕ → Batch → List Turn → IndexState
+abbrev pub sealed_with : IndexState → ℕ → ℕ → Batch → List Turn → IndexState
 sealed_with s through synced batch covered = record s {
   flushed = through;
   synced = synced;

@@ -3,8 +3,12 @@ pub mod Postings
 pub mod Turns
 pub mod Packing
 pub mod Batches
-pub mod Kept
 pub mod Commits
+pub mod Coming
+pub mod Kept
+pub mod One
+pub mod Next
+pub mod BatchRows
 pub mod Passes
 pub mod Groups
 pub mod Places

@@ -1,5 +1,5 @@
 //! What steps keep of an index.
-ghost use Rattle.std.specs.Prelude.{◌≡◌, ◌<◌, ℕ, List, [], ◌∷◌, ◌++◌, length, fold};
+ghost use Rattle.std.specs.Prelude.{◌≡◌, ◌<◌, ◌≤◌, ℕ, List, [], ◌∷◌, ◌++◌, length, take, fold};
 ghost use Rattle.fts_ilist.specs.Node.{NodesAfter, last_of, nodes_for};
 ghost use Rattle.fts_words.specs.Indexed.{Rules};
 ghost use Rattle.fts_types.specs.Row.{Row};
@@ -8,13 +8,15 @@ ghost use Rattle.fts_commits.specs.Turn.{Turn, AreTurns, rows_by};
 ghost use Rattle.fts_entries.specs.Entry.{Batch, IndexEntry, IndexState, sealed, after_entry};
 ghost use Rattle.fts_entries.specs.Entry.{begun, worked, finished};
 ghost use Rattle.fts_entries.specs.Pass.{IsWord, CanFinish};
+ghost use Rattle.fts_entries.specs.Coming.{CanSeal, AreEntries};
 ghost use Rattle.fts_ids.specs.Ids.{has};
 ghost use Rattle.fts_ilist.specs.Node.{Docs};
 ghost use Rattle.fts_ilist.specs.Packing.{joined};
-ghost use Rattle.std.specs.List.{All};
+ghost use Rattle.std.specs.List.{All, Contains};
 ghost use Rattle.std.specs.Prelude.{false};
-ghost use Rattle.fts_entries.specs.Entry.{no_entries, index_of, AreThrough};
-ghost use Rattle.fts_entries.specs.Batch.{IsBatch, after_batch};
+ghost use Rattle.fts_entries.specs.Entry.{no_entries, index_of, unflushed_through, AreThrough};
+ghost use Rattle.fts_entries.specs.Batch.{IsBatch, after_batch, next_through, next_entry};
+ghost use Rattle.fts_entries.specs.Batch.{largest_after, packed_words, alive_of};
 ghost use Rattle.fts_entries.specs.Exact.{FitsTurns, IsExact};
 
 /// A batch keeps an index right. It does nothing: its contract is the theorem.
@@ -81,4 +83,41 @@ pub fn passes_keep()
         → CanFinish s → FitsTurns turns (after_entry turns s finished) }
     ensures gone { (turns : List Turn) (s : IndexState) → FitsTurns turns s → CanFinish s
         → (word : List ℕ) → All (λ p. has s.being_deleted p.id ≡ false) (joined (s.nodes word)) }
+{}
+
+/// Where some commit is not flushed there is a next batch, and it is one. It does nothing: its
+/// contract is the theorem.
+pub fn one_batch_is_next()
+    ensures is { (rules : Rules) (limit : ℕ) (turns : List Turn) (s : IndexState)
+        → s.flushed < length turns → IsBatch rules limit turns s (next_through limit turns s)
+        (largest_after 0 (take (next_through limit turns s) turns)) (packed_words rules
+        (alive_of turns (unflushed_through (next_through limit turns s) turns s))) }
+    ensures one { (rules : Rules) (limit : ℕ) (turns : List Turn) (s : IndexState)
+        (through synced : ℕ) (batch : Batch) → IsBatch rules limit turns s through synced batch
+        → sealed through synced batch ≡ next_entry rules limit turns s }
+{}
+
+/// The next batch can come as an entry; entries that could come can over more commits too; and
+/// the state that they leave fits the commits. It does nothing: its contract is the theorem.
+pub fn entries_can_come()
+    ensures batch { (rules : Rules) (limit : ℕ) (turns : List Turn) (s : IndexState)
+        (through synced : ℕ) (batch : Batch) → IsBatch rules limit turns s through synced batch
+        → 0 < rules.min → AreTurns 0 turns → FitsTurns turns s
+        → CanSeal turns s through synced batch }
+    ensures more { (turns more : List Turn) (entries : List IndexEntry)
+        → AreEntries turns entries → AreEntries (turns ++ more) entries }
+    ensures less { (turns more : List Turn) (s : IndexState) (through synced : ℕ)
+        (batch : Batch) → through ≤ length turns
+        → CanSeal (turns ++ more) s through synced batch → CanSeal turns s through synced batch }
+    ensures through { (turns : List Turn) (entries : List IndexEntry)
+        → AreEntries turns entries → AreThrough (length turns) entries }
+    ensures fits { (turns : List Turn) (entries : List IndexEntry) → AreTurns 0 turns
+        → AreEntries turns entries → FitsTurns turns (index_of turns entries) }
+{}
+
+/// Each row of a batch is a row of the table. It does nothing: its contract is the theorem.
+pub fn alive_are_rows()
+    ensures { (turns : List Turn) (s : IndexState) (through : ℕ)
+        → All (Contains (fold rows_by no_rows turns).list)
+        (alive_of turns (unflushed_through through turns s)) }
 {}

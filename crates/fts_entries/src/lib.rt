@@ -14,4 +14,5 @@
 
 mod laws;
 
-pub use laws::{batches_keep, commits_keep, no_entries_are_right, passes_keep};
+pub use laws::{alive_are_rows, batches_keep, commits_keep, entries_can_come};
+pub use laws::{no_entries_are_right, one_batch_is_next, passes_keep};
