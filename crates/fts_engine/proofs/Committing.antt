@@ -24,9 +24,10 @@ use Rattle.fts_log.specs.declared.frame.Framed.{Framed}
 use Rattle.fts_log.specs.declared.log.Log.{Log}
 use Rattle.fts_log.proofs.Bytes.{length-front-push}
 use Rattle.fts_rowcodec.specs.Payload.{commit_payload, settings_payload, IsWritten}
-use Rattle.fts_entries.specs.Entry.{IndexEntry}
+use Rattle.fts_entries.specs.Entry.{IndexEntry, IndexState}
+use Rattle.fts_entries.specs.Exact.{IsExact}
 use Rattle.fts_ixcodec.specs.Payload.{entry_payload}
-use Rattle.fts_steps.specs.State.{State, payloads, index_payloads, rows_magic, index_magic, end_after, with_commits, IsSound, HasEntries}
+use Rattle.fts_steps.specs.State.{State, payloads, index_payloads, rows_magic, index_magic, end_after, with_commits, turns_of, IsSound, HasEntries}
 use Rattle.fts_steps.specs.Running.{Running}
 use Rattle.fts_steps.proofs.Growing.{entries_stay}
 use Rattle.fts_steps.specs.Crash.{MayHold}
@@ -39,7 +40,7 @@ use Rattle.fts_engine.specs.Refusing.{refusal_answer}
 use Rattle.fts_engine.specs.declared.engine.Engine.{Engine}
 use Rattle.fts_engine.specs.Bounds.{AreWithin}
 use Rattle.fts_engine.specs.Kept.{kept_settings, kept_rows, kept_limits}
-use Rattle.fts_engine.specs.Stands.{Keeps, KeepsLog, OnRows, OnIndex, engine_limits}
+use Rattle.fts_engine.specs.Stands.{Keeps, KeepsLog, Stands, OnRows, OnIndex, engine_limits}
 use Rattle.fts_engine.proofs.Accepting.{accepted_more, replay_accepted, AreAccepted-push}
 use Rattle.fts_engine.proofs.Fitting.{accepted_fits, replay_fits}
 
@@ -227,6 +228,15 @@ module _ {D E : Type 0} {disk : Ghosts D} {disk' : Ghosts E} (running : Running)
       ∙ ap (λ (rows : Rows). viewed (view_of (rules_of (kept_settings engine.kept)) rows.list (length running.state.commits) asked)) (sym keeps.rows)
       ∙ ap (λ (n : ℕ). viewed (view_of (rules_of (kept_settings engine.kept)) (kept_rows engine.kept).list n asked)) (sym numbered)
       ∙ ap viewed (sym same)
+
+-- what is kept of an engine that stands for what runs is right
+pub exact_kept : {D E : Type 0} {disk : Ghosts D} {disk' : Ghosts E} (running : Running) (engine : Engine D E disk disk') → Stands running engine
+    → IsExact (rules_of (kept_settings engine.kept)) (kept_rows engine.kept).list (turns_of running.state) running.index
+exact_kept running engine stands =
+    let has = stands.holds.has in
+    subst (λ (s : Settings). IsExact (rules_of s) (kept_rows engine.kept).list (turns_of running.state) running.index) has.keeps.settings
+    (subst (λ (rows : Rows). IsExact (rules_of running.state.settings) rows.list (turns_of running.state) running.index) (sym has.keeps.rows)
+    (subst (λ (s : IndexState). IsExact (rules_of running.state.settings) (replay running.state.commits).list (turns_of running.state) s) (sym has.left) stands.right))
 
 -- the number of the next commit is one more than there are
 pub numbered : (running : Running) → {n : ℕ} → n ≡ length (payloads running.state) → n ≡ length running.state.commits + 1

@@ -17,7 +17,8 @@ use Rattle.fts_rowcodec.specs.Payload.{FitsText, FitsNewText, FitsBytes, IsWritt
 use Rattle.fts_rowcodec.proofs.Sizes.{IsShort, short_commit_size}
 use Rattle.fts_rows.specs.Rows.{Held}
 use Rattle.fts_rows.specs.Plan.{PlanFor}
-use Rattle.fts_index.specs.Births.{CanIndex, AreBirths}
+use Rattle.fts_entries.specs.Rows.{CanIndex}
+use Rattle.fts_index.specs.Births.{AreBirths}
 use Rattle.fts_engine.specs.Bounds.{AreWithin}
 use Rattle.fts_engine.specs.Fitting.{IsTableRow}
 use Rattle.fts_engine.proofs.Accepting.{went}
@@ -138,7 +139,7 @@ module _ (columns : ℕ) where
   replay_fits commits written accepted = replayed no_rows commits (All-nil (IsTableRow columns)) written accepted
 
   -- what is born can be indexed
-  can_index : 1 ≤ columns → columns ≤ 8 → (row : Row) → IsTableRow columns row → CanIndex row
+  pub can_index : 1 ≤ columns → columns ≤ 8 → (row : Row) → IsTableRow columns row → CanIndex row
   can_index some few row is = (let count = is.count in record {
     limit = is.doc;
     texts = record { some = omega (arith, count, some); few = omega (arith, count, few); short = is.short };

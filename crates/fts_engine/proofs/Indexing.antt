@@ -32,7 +32,7 @@ use Rattle.fts_engine.specs.Next.{WillHold}
 use Rattle.fts_engine.specs.declared.kept.Kept.{Kept}
 use Rattle.fts_engine.specs.Kept.{IsPlanned, CanSync}
 use Rattle.fts_engine.proofs.Props.{fits_prop}
-use Rattle.fts_steps.proofs.Growing.{turns_more}
+use Rattle.fts_steps.proofs.Growing.{AreKnown, turns_more}
 use Rattle.fts_engine.proofs.Accepting.{replay_accepted}
 
 ids_order : (low high : ℕ) (rows : List Row) → RowsAscend low high rows → low ≤ high
@@ -79,6 +79,7 @@ none_right settings rows index is stands laws = record {
   same = is;
   stands = stands;
   are = record { ascend = tt; once = laws.once [] };
+  lead = laws.rows [];
   fits = none_fits [];
   ascend = omega arith;
 }
@@ -133,6 +134,7 @@ module _ (settings : Settings) (held : Held) (old new : Index) (next : NextKept)
     same = sym replayed;
     stands = subst (λ (turns : List Turn). StandsFor (rules_of settings) turns s new) (sym grown) stands;
     are = record { ascend = laws.ascend (commits ++ commit ∷ []); once = laws.once (commits ++ commit ∷ []) };
+    lead = laws.rows (commits ++ commit ∷ []);
     fits = subst (λ (turns : List Turn). FitsTurns turns s) (sym grown) (one_fits turns turn s is.fits);
     ascend = rows_ascend;
   }
@@ -153,6 +155,7 @@ same_right settings rows rows' old new same stays commits s is = record {
   same = same ∙ is.same;
   stands = stays (rules_of settings) (turns_from no_rows commits) s is.stands;
   are = is.are;
+  lead = is.lead;
   fits = is.fits;
   ascend = is.ascend;
 }
@@ -162,12 +165,21 @@ chosen : (is : Bool) (field : Field) (later : Option Field) → (if is then late
 chosen true field later e = (refl, e)
 chosen false field later e = absurd cc
 
-min_some : (settings : Settings) → AreSettings settings → 0 < settings.min
+pub min_some : (settings : Settings) → AreSettings settings → 0 < settings.min
 min_some settings right =
     let columns = chosen (is_right Columns settings) Columns (first_wrong_of (Min ∷ Max ∷ OptimizeWords ∷ CacheBytes ∷ BatchDocs ∷ []) settings) right in
     let min = chosen (is_right Min settings) Min (first_wrong_of (Max ∷ OptimizeWords ∷ CacheBytes ∷ BatchDocs ∷ []) settings) columns.1 in
     let least = leb-true 1 settings.min (and_parts (nat_le 1 settings.min) (nat_le settings.min 16) min.0).0 in
     omega (arith, least)
+
+-- and a greatest one of at most 84
+pub max_short : (settings : Settings) → AreSettings settings → settings.max ≤ 84
+max_short settings right =
+    let columns = chosen (is_right Columns settings) Columns (first_wrong_of (Min ∷ Max ∷ OptimizeWords ∷ CacheBytes ∷ BatchDocs ∷ []) settings) right in
+    let min = chosen (is_right Min settings) Min (first_wrong_of (Max ∷ OptimizeWords ∷ CacheBytes ∷ BatchDocs ∷ []) settings) columns.1 in
+    let max = chosen (is_right Max settings) Max (first_wrong_of (OptimizeWords ∷ CacheBytes ∷ BatchDocs ∷ []) settings) min.1 in
+    let most = leb-true settings.max 84 (and_parts (nat_le 10 settings.max) (nat_le settings.max 84) max.0).1 in
+    omega (arith, most)
 
 -- an index that made the next batch is right for the state behind it
 pub batch_right : (settings : Settings) (right : AreSettings settings) (rows : Rows) (old new : Index) (commits : List Commit) (s : IndexState) (limit through synced : ℕ) (batch : Batch)
@@ -183,9 +195,14 @@ batch_right settings right rows old new commits s limit through synced batch is 
       same = is.same;
       stands = stands;
       are = is.are;
+      lead = is.lead;
       fits = subst (λ (after : IndexState). FitsTurns turns after) same fits;
       ascend = is.ascend;
     }
+
+-- the turns of the commits for which an index stands are known
+pub turns_known : (settings : Settings) (rows : Rows) (index : Index) (commits : List Commit) (s : IndexState) → IsIndexOf settings rows index commits s → AreKnown commits
+turns_known settings rows index commits s is = record { ascend = is.are.ascend; lead = is.lead }
 
 -- what a plan of a batch says of an index, for each that stands for commits
 abbrev Plans : Kept → Index → Option SyncPlan → Type 0

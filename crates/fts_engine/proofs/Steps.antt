@@ -22,6 +22,7 @@ use Rattle.fts_engine.specs.declared.engine.Engine.{Engine}
 use Rattle.fts_engine.specs.Kept.{kept_settings, kept_rows, kept_limits, IsIndexed, StaysIndexed}
 use Rattle.fts_engine.specs.Stands.{Keeps, Has, Holds, Stands, OnRows, OnIndex, engine_sight, engine_limits, engine_faults, rows_device, index_device, stopped_at}
 use Rattle.fts_engine.proofs.Committing.{keeps_in, on_rows, on_index}
+use Rattle.fts_engine.proofs.Indexing.{turns_known}
 
 -- ---- what a log still is
 
@@ -197,7 +198,8 @@ module _ {D E : Type 0} {disk : Ghosts D} {disk' : Ghosts E} (old new : Engine D
         let holds = stands.holds in
         let before = holds.has.keeps in
         record {
-          right = right_stays running.state commit before.entries stands.right;
+          right = right_stays running.state commit (turns_known _ _ _ running.state.commits running.index holds.has.indexed)
+              (turns_known _ _ _ (running.state.commits ++ commit ∷ []) running.index (indexed running stands)) before.entries stands.right;
           holds = record {
             has = record {
               keeps = keeps running stands;

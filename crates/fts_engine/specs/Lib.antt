@@ -7,5 +7,7 @@ pub mod Bounds
 pub mod Refusing
 pub mod Stands
 pub mod Opening
+pub mod Restoring
 pub mod Loading
+pub mod Reading
 pub mod Looking

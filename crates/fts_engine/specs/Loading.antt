@@ -1,38 +1,90 @@
-use Rattle.std.specs.Prelude.{◌≡◌, ℕ, ◌+◌, ◌<◌, List, [], ◌∷◌, length, take}
+-- What was read of the two logs of a database.
+use Rattle.std.specs.Prelude.{◌≡◌, ◌≢◌, ◌⊎◌, ℕ, ◌+◌, ◌<◌, List, [], ◌∷◌, length, take}
 use Rattle.fts_log.specs.Record.{gate_at}
 use Rattle.fts_types.specs.declared.settings.Settings.{Settings}
 use Rattle.fts_types.specs.Settings.{AreSettings}
 use Rattle.fts_types.specs.Limits.{standard_limits}
-use Rattle.fts_commits.specs.Commit.{replay}
-use Rattle.fts_entries.specs.Entry.{no_entries}
-use Rattle.fts_rowcodec.specs.Payload.{settings_payload}
-use Rattle.fts_steps.specs.State.{State, payloads, IsSound}
-use Rattle.fts_steps.specs.Fault.{AreNoState, AreOfState}
+use Rattle.fts_commits.specs.Commit.{Commit, Rows, replay}
+use Rattle.fts_entries.specs.Entry.{Batch, IndexState}
+use Rattle.fts_entries.specs.Coming.{CanSeal}
+use Rattle.fts_rowcodec.specs.Payload.{settings_payload, commit_payload, IsWritten}
+use Rattle.fts_steps.specs.State.{State, payloads, index_payloads, turns_of, index_state, IsSound, HasEntries}
+use Rattle.fts_steps.specs.Fault.{AreOfRows}
+use Rattle.fts_engine.specs.Reading.{IsWrongPayload}
 use Rattle.fts_engine.specs.declared.kept.Kept.{Kept}
+use Rattle.fts_engine.specs.declared.restoring.Restoring.{Restoring}
 use Rattle.fts_engine.specs.Kept.{kept_settings, kept_rows, kept_limits, IsIndexed}
+use Rattle.fts_engine.specs.Restoring.{restoring_settings, restoring_rows, restoring_commits, IsCovering}
 
--- the first entry of a log is the payload of these settings
+-- the first payload of a log is that of these settings
 pub record BeginsWith (settings : Settings) (all : List (List ℕ)) : Type 0 where
   pub right : AreSettings settings
   pub first : settings_payload settings ∷ [] ≡ take 1 all
 
--- the first k entries of a log were loaded: they are a sound state's, and its settings, its rows and their index are
--- kept
-pub record IsLoaded (all : List (List ℕ)) (k : ℕ) (kept : Kept) : Type 0 where
+-- the first k payloads of a rows log are those of a sound database, with these settings and these rows
+pub record AreLoaded (all : List (List ℕ)) (k : ℕ) (settings : Settings) (rows : Rows) : Type 0 where
   pub state : State
   pub sound : IsSound state
-  pub same : state.settings ≡ kept_settings kept
+  pub same : state.settings ≡ settings
   pub loaded : payloads state ≡ take k all
   pub count : length state.commits + 1 ≡ k
-  pub rows : kept_rows kept ≡ replay state.commits
-  pub limits : kept_limits kept ≡ standard_limits
-  pub index : IsIndexed kept state.commits no_entries
+  pub kept : rows ≡ replay state.commits
 
--- entry k, whose gate stands at this place, is the first at fault: it is no sound state's, and those before it are
+-- the commits that were read stand in the rows log behind the settings, and the first j payloads of the index log are
+-- those of entries over them
+pub record IsRestored (all read : List (List ℕ)) (j : ℕ) (r : Restoring) : Type 0 where
+  pub of_rows : AreLoaded all (restoring_commits r + 1) (restoring_settings r) (restoring_rows r)
+  pub entries : HasEntries of_rows.state
+  pub taken : index_payloads of_rows.state ≡ take j read
+  pub covers : IsCovering r of_rows.state.commits (index_state of_rows.state)
+
+-- the same entries were read, and perhaps more commits
+pub record StillRestored (all read : List (List ℕ)) (j : ℕ) {old : Restoring} (was : IsRestored all read j old) (r : Restoring)
+    : Type 0 where
+  pub is : IsRestored all read j r
+  pub state : index_state is.of_rows.state ≡ index_state was.of_rows.state
+
+-- the payload is no commit's, or longer than one can be
+abbrev pub IsNoCommit : ℕ → List ℕ → Type 0
+IsNoCommit columns payload = (70000000 < length payload)
+    ⊎ ((commit : Commit) → IsWritten columns commit → payload ≢ commit_payload commit)
+
+-- the first k payloads of the rows log and all of the index log were read: what is kept is a database's
+pub record IsLoaded (all : List (List ℕ)) (k : ℕ) (read : List (List ℕ)) (kept : Kept) : Type 0 where
+  pub of_rows : AreLoaded all k (kept_settings kept) (kept_rows kept)
+  pub limits : kept_limits kept ≡ standard_limits
+  pub entries : HasEntries of_rows.state
+  pub taken : index_payloads of_rows.state ≡ read
+  pub index : IsIndexed kept of_rows.state.commits (index_state of_rows.state)
+
+-- no sound database has these payloads in its rows log
+abbrev pub AreNoRows : List (List ℕ) → Type 0
+AreNoRows all = (state : State) → IsSound state → payloads state ≡ all → ⊥
+
+-- payload k of the rows log, whose gate stands at this place, is the first at fault: it is no sound database's, and
+-- those before it are
 pub record IsWrongEntry (magic : List ℕ) (all : List (List ℕ)) (at : ℕ) : Type 0 where
   pub k : ℕ
   pub within : k < length all
   pub place : at ≡ gate_at magic all k
-  pub before : AreOfState (take k all)
-  pub wrong : AreNoState (take (k + 1) all)
-  pub none : AreNoState all
+  pub before : AreOfRows (take k all)
+  pub wrong : AreNoRows (take (k + 1) all)
+  pub none : AreNoRows all
+
+-- the payloads are those of a sound database's rows log
+pub record AreSound (all : List (List ℕ)) : Type 0 where
+  pub state : State
+  pub sound : IsSound state
+  pub same : payloads state ≡ all
+
+-- a batch can't come over the commits of a database with these payloads
+abbrev pub NoneCanSeal : List (List ℕ) → IndexState → ℕ → ℕ → Batch → Type 0
+NoneCanSeal all s through synced batch = (state : State) → IsSound state → payloads state ≡ all
+    → CanSeal (turns_of state) s through synced batch → ⊥
+
+-- payload j of the index log, whose gate stands at this place, is the first at fault
+pub record IsWrongAmong (magic : List ℕ) (all read : List (List ℕ)) (at : ℕ) : Type 0 where
+  pub j : ℕ
+  pub within : j < length read
+  pub place : at ≡ gate_at magic read j
+  pub is : IsWrongPayload all read j

@@ -10,7 +10,7 @@ ghost use Rattle.fts_steps.specs.State.{State};
 ghost use Rattle.fts_steps.specs.Step.{to_commit, to_sync, to_view, to_list, to_measure, measured};
 ghost use Rattle.fts_steps.specs.Step.{flushed};
 ghost use Rattle.fts_ixcodec.specs.Payload.{entry_payload, FitsRecord};
-ghost use Rattle.fts_engine.specs.Batch.{batch_of};
+ghost use Rattle.fts_engine.specs.Batch.{batch_of, IsFramed};
 ghost use Rattle.fts_steps.specs.Step.{is_disk_fault, Steps};
 ghost use Rattle.fts_steps.specs.Answers.{commit_answer_of, sync_answer_of, view_answer_of};
 ghost use Rattle.fts_steps.specs.Answers.{listing_answer_of};
@@ -256,8 +256,7 @@ fn framed_commit(alloc: Global, changes: &[Change]) -> Result<Framed, AllocError
 
 // A batch, framed for the log.
 fn framed_batch(alloc: Global, plan: &SyncPlan) -> Result<Framed, AllocError>
-    ensures payload { IfOk result (λ framed. payload_of framed ≡ entry_payload (batch_of plan.now)) }
-    ensures fits { IfOk result (λ _. FitsRecord (batch_of plan.now)) }
+    ensures { IfOk result (λ framed. IsFramed plan.now (payload_of framed)) }
 {
     let size = match sealed_size(plan.nodes()) {
         Some(size) => size,

@@ -22,9 +22,9 @@ use std::alloc::{AllocError, Global};
 /// What is kept in memory of a database: its settings, its rows, and the index of their words.
 #[derive(Drop)]
 pub struct Kept {
-    settings: Settings,
-    rows: Rows,
-    index: Index,
+    pub(crate) settings: Settings,
+    pub(crate) rows: Rows,
+    pub(crate) index: Index,
     ghost right: { AreSettings settings },
     ghost within: { AreWithin standard_limits (limits_of rows) },
     ghost fit: { AreTableRows settings (rows_of rows) },
@@ -44,7 +44,7 @@ impl Kept {
     ghost use Rattle.fts_types.specs.Rules.{rules_of};
     ghost use Rattle.fts_commits.specs.Commit.{Commit, Rows as RowList, after_commit, no_rows};
     ghost use Rattle.fts_commits.specs.Turn.{turns_from, births_of};
-    ghost use Rattle.fts_entries.specs.Entry.{IndexState, no_entries, unflushed};
+    ghost use Rattle.fts_entries.specs.Entry.{IndexState, unflushed};
     ghost use Rattle.fts_entries.specs.Batch.{after_batch};
     ghost use Rattle.fts_entries.specs.Exact.{IsExact};
     ghost use Rattle.fts_entries.specs.Words.{rows_size};
@@ -55,23 +55,6 @@ impl Kept {
     ghost use Rattle.fts_rows.specs.Refusal.{IsNoPlan};
     ghost use Rattle.fts_engine.specs.Kept.{kept_settings, kept_rows, kept_limits, WillKeep};
     ghost use Rattle.fts_engine.specs.Kept.{IsIndexed, StaysIndexed, IsNextBatch, IsPlanned, CanSync};
-
-    /// No row is kept yet.
-    pub fn new(alloc: Global, settings: Settings, limits: Limits) -> Self
-        requires right { AreSettings settings }
-        requires within { AreWithin standard_limits limits }
-        ensures rows { kept_rows result ≡ no_rows }
-        ensures settings { kept_settings result ≡ settings }
-        ensures limits { kept_limits result ≡ limits }
-        ensures index { IsIndexed result [] no_entries }
-    {
-        are_turns();
-        Kept {
-            settings,
-            rows: Rows::new(alloc, limits),
-            index: Index::new(alloc),
-        }
-    }
 
     /// The settings of the database.
     pub fn settings(&self) -> &Settings

@@ -1,17 +1,35 @@
-ghost use Rattle.std.specs.Prelude.{◌≡◌, ◌+◌, ◌<◌, ℕ, List, length, IsTrue, IsErrOf, IfOk, OnOk};
+ghost use Rattle.std.specs.Prelude.{◌≡◌, ◌≢◌, ◌+◌, ◌<◌, ◌≤◌, ◌++◌, ℕ, List, [], ◌∷◌, length, take};
+ghost use Rattle.std.specs.Prelude.{IsTrue, IsErrOf, IfOk, OnOk, Ok, None, Some, true, false};
+ghost use Rattle.std.specs.Prelude.{slice_index_or};
 ghost use Rattle.fts_faults.specs.Count.{CountsFault};
 ghost use Rattle.fts_log.specs.Records.{Hold, AreRead, AreAsMany, records_device, records_magic};
 ghost use Rattle.fts_log.specs.Records.{record_count};
+ghost use Rattle.fts_log.specs.Record.{gate_at};
+ghost use Rattle.fts_rowcodec.specs.Payload.{IsWritten, commit_payload};
 ghost use Rattle.fts_types.specs.Settings.{AreSettings};
-ghost use Rattle.fts_engine.specs.Loading.{BeginsWith, IsLoaded, IsWrongEntry};
+ghost use Rattle.fts_index.specs.Restore as restore;
+ghost use Rattle.fts_ixcodec.specs.Payload.{IsEntry, entry_payload};
+ghost use Rattle.fts_entries.specs.Entry.{sealed};
+ghost use Rattle.fts_steps.specs.State.{index_state};
+ghost use Rattle.fts_engine.specs.Loading.{BeginsWith, IsRestored, StillRestored, IsLoaded};
+ghost use Rattle.fts_engine.specs.Loading.{IsWrongEntry, AreSound, IsNoCommit};
+ghost use Rattle.fts_engine.specs.Loading.{NoneCanSeal, IsWrongAmong};
+ghost use Rattle.fts_engine.specs.Reading.{ReadsBoth, IsWrongPayload};
+ghost use Rattle.fts_engine.specs.Restoring.{restoring_commits, IsFlushed};
 
 use crate::error::LogError;
 use crate::kept::Kept;
+use crate::restoring::Restoring;
+use crate::{Device, OpenError};
+use fts_commits::Changes;
 use fts_disk::Disk;
+use fts_ilist::WordNodes;
+use fts_index::RestoreError;
+use fts_ixcodec::{Entry, decode};
 use fts_log::Records;
 use fts_rowcodec::{DecodeError, decode_commit, decode_settings};
 use fts_rows::PlanError;
-use fts_types::{Limits, Settings};
+use fts_types::{DocId, Settings};
 use std::alloc::Global;
 
 // A payload that is longer is no settings.
@@ -20,58 +38,317 @@ const MOST_OF_SETTINGS: u64 = 300;
 // A payload that is longer is no commit.
 const MOST_OF_A_COMMIT: u64 = 70_000_000;
 
-/// Reads records, of which there are some: the settings, and what is kept of the rows.
-pub fn load<D: Disk>(alloc: Global, records: &mut Records<D>) -> Result<Kept, LogError>
-    requires { 0 < record_count records.old }
-    ensures loaded { IfOk result (λ kept. IsTrue D.tells → (all : List (List ℕ))
-        → Hold all records.old
-        → IsLoaded all (length all) kept) }
-    ensures damaged { (at : ℕ) → IsErrOf result (LogError.Damaged at) → IsTrue D.tells
-        → (all : List (List ℕ)) → Hold all records.old
-        → IsWrongEntry (records_magic records.old) all at }
-    ensures created { IsErrOf result LogError.NotCreated → ⊥ }
-    ensures read { IsTrue D.tells → AreRead records.old records.new }
-    ensures same { AreAsMany records.old records.new }
-    ensures faults { CountsFault (IsErrOf result LogError.DiskFault)
-        (D.faults (records_device records.old)) (D.faults (records_device records.new)) }
+/// Reads the records of both logs, of which the rows log has some: the settings, the commits, and
+/// the entries of the index, each when the commits that it covers were read. So words are made of
+/// the commits behind the last entry alone. A fault of the index log is told where the rows log has
+/// none.
+pub fn load<D: Disk, E: Disk>(
+    alloc: Global,
+    rows: &mut Records<D>,
+    entries: &mut Records<E>,
+) -> Result<Kept, OpenError>
+    requires { 0 < record_count rows.old }
+    ensures loaded { IfOk result (λ kept. IsTrue D.tells → IsTrue E.tells
+        → (all read : List (List ℕ)) → Hold all rows.old → Hold read entries.old
+        → IsLoaded all (length all) read kept) }
+    ensures damaged_rows { (file at : ℕ) → IsErrOf result (OpenError.Damaged Device.Rows file at)
+        → (file ≡ 0) × (IsTrue D.tells → (all : List (List ℕ)) → Hold all rows.old
+        → IsWrongEntry (records_magic rows.old) all at) }
+    ensures damaged_index { (file at : ℕ) → IsErrOf result (OpenError.Damaged Device.Index file at)
+        → (file ≡ 0) × (IsTrue D.tells → IsTrue E.tells → (all read : List (List ℕ))
+        → Hold all rows.old → Hold read entries.old
+        → AreSound all × IsWrongAmong (records_magic entries.old) all read at) }
+    ensures created { IsErrOf result OpenError.NotCreated → ⊥ }
+    ensures reads { ReadsBoth (IsErrOf result OpenError.DiskFault)
+        rows.old entries.old rows.new entries.new }
 {
-    let settings = match load_settings(alloc, records) {
+    let settings = match load_settings(alloc, rows) {
         Ok(settings) => settings,
-        Err(error) => return Err(error),
+        Err(error) => return Err(error.on(Device::Rows)),
     };
-    let mut kept = Kept::new(alloc, settings, Limits::standard());
-    match load_commits(alloc, records, &mut kept) {
-        Ok(()) => Ok(kept),
+    let mut restoring = Restoring::new(alloc, settings);
+    match restore_entries(alloc, rows, entries, &mut restoring) {
+        Ok(None) => load_rest(alloc, rows, restoring),
+        Ok(Some(at)) => Err(held_back(alloc, rows, &mut restoring, at)),
         Err(error) => Err(error),
     }
 }
 
-// Reads all records behind the first, and keeps the rows that they leave.
-fn load_commits<D: Disk>(
+// Reads the commits behind the last entry, and keeps their words too.
+fn load_rest<D: Disk>(
     alloc: Global,
-    records: &mut Records<D>,
-    kept: &mut Kept,
-) -> Result<(), LogError>
-    requires { 0 < record_count records.old }
-    ensures loaded { OnOk result (IsTrue D.tells → (all : List (List ℕ)) → Hold all records.old
-        → IsLoaded all 1 kept.old → IsLoaded all (length all) kept.new) }
-    ensures damaged { (at : ℕ) → IsErrOf result (LogError.Damaged at) → IsTrue D.tells
-        → (all : List (List ℕ)) → Hold all records.old → IsLoaded all 1 kept.old
-        → IsWrongEntry (records_magic records.old) all at }
-    ensures created { IsErrOf result LogError.NotCreated → ⊥ }
-    ensures read { IsTrue D.tells → AreRead records.old records.new }
-    ensures same { AreAsMany records.old records.new }
-    ensures faults { CountsFault (IsErrOf result LogError.DiskFault)
-        (D.faults (records_device records.old)) (D.faults (records_device records.new)) }
+    rows: &mut Records<D>,
+    restoring: Restoring,
+) -> Result<Kept, OpenError>
+    requires { IsFlushed restoring }
+    ensures loaded { IfOk result (λ kept. IsTrue D.tells → (all read : List (List ℕ))
+        → Hold all rows.old → IsRestored all read (length read) restoring
+        → IsLoaded all (length all) read kept) }
+    ensures damaged { (device : Device) (file at : ℕ)
+        → IsErrOf result (OpenError.Damaged device file at)
+        → (device ≡ Device.Rows) × (file ≡ 0) × (IsTrue D.tells → (all read : List (List ℕ))
+        → Hold all rows.old → IsRestored all read (length read) restoring
+        → IsWrongEntry (records_magic rows.old) all at) }
+    ensures created { IsErrOf result OpenError.NotCreated → ⊥ }
+    ensures read { IsTrue D.tells → AreRead rows.old rows.new }
+    ensures same { AreAsMany rows.old rows.new }
+    ensures faults { CountsFault (IsErrOf result OpenError.DiskFault)
+        (D.faults (records_device rows.old)) (D.faults (records_device rows.new)) }
 {
-    let count = records.count();
-    for k in 1..count {
-        match load_commit(alloc, records, k, kept) {
+    let next = restoring.commits().saturating_add(1);
+    let mut kept = restoring.keep();
+    match load_commits(alloc, rows, next, &mut kept) {
+        Ok(()) => Ok(kept),
+        Err(error) => Err(error.on(Device::Rows)),
+    }
+}
+
+// The index log is at fault at this place: so it is told, unless the rows log is at fault behind the
+// commits that were read.
+fn held_back<D: Disk>(
+    alloc: Global,
+    rows: &mut Records<D>,
+    restoring: &mut Restoring,
+    at: u64,
+) -> OpenError
+    requires { 0 < record_count rows.old }
+    ensures rows { (file place : ℕ) → result ≡ OpenError.Damaged Device.Rows file place
+        → (file ≡ 0) × (IsTrue D.tells → (all read : List (List ℕ)) (j : ℕ) → Hold all rows.old
+        → IsRestored all read j restoring.old
+        → IsWrongEntry (records_magic rows.old) all place) }
+    ensures index { (file place : ℕ) → result ≡ OpenError.Damaged Device.Index file place
+        → (file ≡ 0) × (place ≡ at) × (IsTrue D.tells → (all read : List (List ℕ)) (j : ℕ)
+        → Hold all rows.old → IsRestored all read j restoring.old → AreSound all) }
+    ensures created { result ≢ OpenError.NotCreated }
+    ensures read { IsTrue D.tells → AreRead rows.old rows.new }
+    ensures same { AreAsMany rows.old rows.new }
+    ensures faults { CountsFault (result ≡ OpenError.DiskFault)
+        (D.faults (records_device rows.old)) (D.faults (records_device rows.new)) }
+{
+    let last = rows.count() - 1;
+    match cover_commits(alloc, rows, last, restoring) {
+        Ok(()) => OpenError::Damaged {
+            device: Device::Index,
+            file: 0,
+            at,
+        },
+        Err(error) => error.on(Device::Rows),
+    }
+}
+
+// Reads the entries in their order, each when the commits that it covers were read. It tells the
+// place of the first that is at fault, if one is.
+fn restore_entries<D: Disk, E: Disk>(
+    alloc: Global,
+    rows: &mut Records<D>,
+    entries: &mut Records<E>,
+    restoring: &mut Restoring,
+) -> Result<Option<u64>, OpenError>
+    requires { IsFlushed restoring.old }
+    ensures restored { result ≡ Ok None → IsTrue D.tells → IsTrue E.tells
+        → (all read : List (List ℕ)) → Hold all rows.old → Hold read entries.old
+        → IsRestored all read 0 restoring.old → IsRestored all read (length read) restoring.new }
+    ensures flushed { result ≡ Ok None → IsFlushed restoring.new }
+    ensures refused { (at : ℕ) → result ≡ Ok (Some at) → IsTrue D.tells → IsTrue E.tells
+        → (all read : List (List ℕ)) → Hold all rows.old → Hold read entries.old
+        → IsRestored all read 0 restoring.old
+        → ((j : ℕ) × IsRestored all read j restoring.new)
+        × IsWrongAmong (records_magic entries.old) all read at }
+    ensures damaged { (device : Device) (file at : ℕ)
+        → IsErrOf result (OpenError.Damaged device file at)
+        → (device ≡ Device.Rows) × (file ≡ 0) × (IsTrue D.tells → IsTrue E.tells
+        → (all read : List (List ℕ)) → Hold all rows.old → Hold read entries.old
+        → IsRestored all read 0 restoring.old
+        → IsWrongEntry (records_magic rows.old) all at) }
+    ensures created { IsErrOf result OpenError.NotCreated → ⊥ }
+    ensures reads { ReadsBoth (IsErrOf result OpenError.DiskFault)
+        rows.old entries.old rows.new entries.new }
+{
+    let count = entries.count();
+    for j in 0..count {
+        match restore_entry(alloc, rows, entries, j, restoring) {
+            Ok(true) => {}
+            Ok(false) => return Ok(Some(entries.place_of(j))),
+            Err(error) => return Err(error),
+        }
+    }
+    Ok(None)
+}
+
+// Reads entry `j`, the commits that it covers, and installs it; or tells that it is no entry that
+// can stand there.
+fn restore_entry<D: Disk, E: Disk>(
+    alloc: Global,
+    rows: &mut Records<D>,
+    entries: &mut Records<E>,
+    j: u64,
+    restoring: &mut Restoring,
+) -> Result<bool, OpenError>
+    requires within { j < record_count entries.old }
+    requires flushed { IsFlushed restoring.old }
+    ensures restored { result ≡ Ok true → IsTrue D.tells → IsTrue E.tells
+        → (all read : List (List ℕ)) → Hold all rows.old → Hold read entries.old
+        → IsRestored all read j restoring.old → IsRestored all read (j + 1) restoring.new }
+    ensures flushed { result ≡ Ok true → IsFlushed restoring.new }
+    ensures refused { result ≡ Ok false → IsTrue D.tells → IsTrue E.tells
+        → (all read : List (List ℕ)) → Hold all rows.old → Hold read entries.old
+        → IsRestored all read j restoring.old
+        → IsRestored all read j restoring.new × IsWrongPayload all read j }
+    ensures damaged { (device : Device) (file at : ℕ)
+        → IsErrOf result (OpenError.Damaged device file at)
+        → (device ≡ Device.Rows) × (file ≡ 0) × (IsTrue D.tells → (all read : List (List ℕ))
+        → Hold all rows.old → IsRestored all read j restoring.old
+        → IsWrongEntry (records_magic rows.old) all at) }
+    ensures created { IsErrOf result OpenError.NotCreated → ⊥ }
+    ensures reads { ReadsBoth (IsErrOf result OpenError.DiskFault)
+        rows.old entries.old rows.new entries.new }
+{
+    let payload = match read_entry(entries, j) {
+        Ok(payload) => payload,
+        Err(error) => return Err(error.on(Device::Index)),
+    };
+    match decode(alloc, &payload) {
+        Ok(Entry::Sealed {
+            through,
+            synced,
+            nodes,
+        }) => match restore_batch(alloc, rows, restoring, through, synced, &nodes) {
+            Ok(restored) => Ok(restored),
+            Err(error) => Err(error.on(Device::Rows)),
+        },
+        Ok(_) => Ok(false),
+        Err(fts_ixcodec::DecodeError::NoMemory) => Err(OpenError::NoMemory),
+        Err(fts_ixcodec::DecodeError::Bad { .. }) => Ok(false),
+    }
+}
+
+// The payload of entry `j`.
+fn read_entry<E: Disk>(entries: &mut Records<E>, j: u64) -> Result<Vec<u8>, LogError>
+    requires { j < record_count entries.old }
+    ensures entry { IfOk result (λ payload. IsTrue E.tells → (read : List (List ℕ))
+        → Hold read entries.old → payload.items ≡ slice_index_or read j []) }
+    ensures damaged { (at : ℕ) → IsErrOf result (LogError.Damaged at) → ⊥ }
+    ensures created { IsErrOf result LogError.NotCreated → ⊥ }
+    ensures read { IsTrue E.tells → AreRead entries.old entries.new }
+    ensures same { AreAsMany entries.old entries.new }
+    ensures faults { CountsFault (IsErrOf result LogError.DiskFault)
+        (E.faults (records_device entries.old)) (E.faults (records_device entries.new)) }
+{
+    Ok(entries.entry_at(j)?)
+}
+
+// Reads the commits that a batch covers, and installs it; or tells that it can't come behind those
+// before it.
+fn restore_batch<D: Disk>(
+    alloc: Global,
+    rows: &mut Records<D>,
+    restoring: &mut Restoring,
+    through: u64,
+    synced: DocId,
+    nodes: &[WordNodes],
+) -> Result<bool, LogError>
+    requires words { restore.AreRead nodes.now }
+    requires flushed { IsFlushed restoring.old }
+    ensures restored { result ≡ Ok true → IsTrue D.tells → (all read : List (List ℕ)) (j : ℕ)
+        → Hold all rows.old → IsRestored all read j restoring.old
+        → IsEntry (sealed through synced nodes.now)
+        → take (j + 1) read
+        ≡ take j read ++ entry_payload (sealed through synced nodes.now) ∷ []
+        → IsRestored all read (j + 1) restoring.new }
+    ensures flushed { result ≡ Ok true → IsFlushed restoring.new }
+    ensures refused { result ≡ Ok false → IsTrue D.tells → (all read : List (List ℕ)) (j : ℕ)
+        → Hold all rows.old → (old : IsRestored all read j restoring.old)
+        → IsRestored all read j restoring.new
+        × NoneCanSeal all (index_state old.of_rows.state) through synced nodes.now }
+    ensures damaged { (at : ℕ) → IsErrOf result (LogError.Damaged at) → IsTrue D.tells
+        → (all read : List (List ℕ)) (j : ℕ) → Hold all rows.old
+        → IsRestored all read j restoring.old → IsWrongEntry (records_magic rows.old) all at }
+    ensures created { IsErrOf result LogError.NotCreated → ⊥ }
+    ensures read { IsTrue D.tells → AreRead rows.old rows.new }
+    ensures same { AreAsMany rows.old rows.new }
+    ensures faults { CountsFault (IsErrOf result LogError.DiskFault)
+        (D.faults (records_device rows.old)) (D.faults (records_device rows.new)) }
+{
+    if through <= restoring.flushed() || through >= rows.count() {
+        return Ok(false);
+    }
+    match cover_commits(alloc, rows, through, restoring) {
+        Ok(()) => {}
+        Err(error) => return Err(error),
+    }
+    match restoring.restore(through, synced, nodes) {
+        Ok(()) => Ok(true),
+        Err(RestoreError::NoMemory) => Err(LogError::NoMemory),
+        Err(RestoreError::Bad) => Ok(false),
+    }
+}
+
+// Reads the commits up to one, of whose words none are made.
+fn cover_commits<D: Disk>(
+    alloc: Global,
+    rows: &mut Records<D>,
+    through: u64,
+    restoring: &mut Restoring,
+) -> Result<(), LogError>
+    requires { through < record_count rows.old }
+    ensures covered { OnOk result (IsTrue D.tells → (all read : List (List ℕ)) (j : ℕ)
+        → Hold all rows.old → (old : IsRestored all read j restoring.old)
+        → StillRestored all read j old restoring.new) }
+    ensures commits { OnOk result (restoring_commits restoring.old ≤ through
+        → restoring_commits restoring.new ≡ through) }
+    ensures damaged { (at : ℕ) → IsErrOf result (LogError.Damaged at) → IsTrue D.tells
+        → (all read : List (List ℕ)) (j : ℕ) → Hold all rows.old
+        → IsRestored all read j restoring.old → IsWrongEntry (records_magic rows.old) all at }
+    ensures created { IsErrOf result LogError.NotCreated → ⊥ }
+    ensures read { IsTrue D.tells → AreRead rows.old rows.new }
+    ensures same { AreAsMany rows.old rows.new }
+    ensures faults { CountsFault (IsErrOf result LogError.DiskFault)
+        (D.faults (records_device rows.old)) (D.faults (records_device rows.new)) }
+{
+    for k in restoring.commits()..through {
+        match cover_commit(alloc, rows, k + 1, restoring) {
             Ok(()) => {}
             Err(error) => return Err(error),
         }
     }
     Ok(())
+}
+
+// Reads record `k`, the next commit, of whose words none are made.
+fn cover_commit<D: Disk>(
+    alloc: Global,
+    rows: &mut Records<D>,
+    k: u64,
+    restoring: &mut Restoring,
+) -> Result<(), LogError>
+    requires within { k < record_count rows.old }
+    requires next { k ≡ restoring_commits restoring.old + 1 }
+    ensures covered { OnOk result (IsTrue D.tells → (all read : List (List ℕ)) (j : ℕ)
+        → Hold all rows.old → (old : IsRestored all read j restoring.old)
+        → StillRestored all read j old restoring.new) }
+    ensures commits { OnOk result (restoring_commits restoring.new
+        ≡ restoring_commits restoring.old + 1) }
+    ensures damaged { (at : ℕ) → IsErrOf result (LogError.Damaged at) → IsTrue D.tells
+        → (all read : List (List ℕ)) (j : ℕ) → Hold all rows.old
+        → IsRestored all read j restoring.old → IsWrongEntry (records_magic rows.old) all at }
+    ensures created { IsErrOf result LogError.NotCreated → ⊥ }
+    ensures read { IsTrue D.tells → AreRead rows.old rows.new }
+    ensures same { AreAsMany rows.old rows.new }
+    ensures faults { CountsFault (IsErrOf result LogError.DiskFault)
+        (D.faults (records_device rows.old)) (D.faults (records_device rows.new)) }
+{
+    let columns = restoring.settings().columns.len();
+    let changes = match read_commit(alloc, rows, k, columns) {
+        Ok(changes) => changes,
+        Err(error) => return Err(error),
+    };
+    match restoring.replay(changes.as_slice()) {
+        Ok(()) => Ok(()),
+        Err(PlanError::NoMemory) => Err(LogError::NoMemory),
+        Err(PlanError::Refused { .. }) => Err(LogError::Damaged {
+            at: rows.place_of(k),
+        }),
+    }
 }
 
 // Reads the settings, the first record.
@@ -104,7 +381,35 @@ fn load_settings<D: Disk>(alloc: Global, records: &mut Records<D>) -> Result<Set
     }
 }
 
-// Reads record `k`, a commit.
+// Reads all records from this one on, and keeps the rows that they leave.
+fn load_commits<D: Disk>(
+    alloc: Global,
+    records: &mut Records<D>,
+    next: u64,
+    kept: &mut Kept,
+) -> Result<(), LogError>
+    ensures loaded { OnOk result (IsTrue D.tells → (all read : List (List ℕ)) → Hold all records.old
+        → IsLoaded all next read kept.old → IsLoaded all (length all) read kept.new) }
+    ensures damaged { (at : ℕ) → IsErrOf result (LogError.Damaged at) → IsTrue D.tells
+        → (all read : List (List ℕ)) → Hold all records.old → IsLoaded all next read kept.old
+        → IsWrongEntry (records_magic records.old) all at }
+    ensures created { IsErrOf result LogError.NotCreated → ⊥ }
+    ensures read { IsTrue D.tells → AreRead records.old records.new }
+    ensures same { AreAsMany records.old records.new }
+    ensures faults { CountsFault (IsErrOf result LogError.DiskFault)
+        (D.faults (records_device records.old)) (D.faults (records_device records.new)) }
+{
+    let count = records.count();
+    for k in next..count {
+        match load_commit(alloc, records, k, kept) {
+            Ok(()) => {}
+            Err(error) => return Err(error),
+        }
+    }
+    Ok(())
+}
+
+// Reads record `k`, a commit, and keeps its rows and words.
 fn load_commit<D: Disk>(
     alloc: Global,
     records: &mut Records<D>,
@@ -112,11 +417,46 @@ fn load_commit<D: Disk>(
     kept: &mut Kept,
 ) -> Result<(), LogError>
     requires { k < record_count records.old }
-    ensures loaded { OnOk result (IsTrue D.tells → (all : List (List ℕ)) → Hold all records.old
-        → IsLoaded all k kept.old → IsLoaded all (k + 1) kept.new) }
+    ensures loaded { OnOk result (IsTrue D.tells → (all read : List (List ℕ)) → Hold all records.old
+        → IsLoaded all k read kept.old → IsLoaded all (k + 1) read kept.new) }
     ensures damaged { (at : ℕ) → IsErrOf result (LogError.Damaged at) → IsTrue D.tells
-        → (all : List (List ℕ)) → Hold all records.old → IsLoaded all k kept.old
+        → (all read : List (List ℕ)) → Hold all records.old → IsLoaded all k read kept.old
         → IsWrongEntry (records_magic records.old) all at }
+    ensures created { IsErrOf result LogError.NotCreated → ⊥ }
+    ensures read { IsTrue D.tells → AreRead records.old records.new }
+    ensures same { AreAsMany records.old records.new }
+    ensures faults { CountsFault (IsErrOf result LogError.DiskFault)
+        (D.faults (records_device records.old)) (D.faults (records_device records.new)) }
+{
+    let columns = kept.settings().columns.len();
+    let changes = match read_commit(alloc, records, k, columns) {
+        Ok(changes) => changes,
+        Err(error) => return Err(error),
+    };
+    match kept.replay(changes.as_slice()) {
+        Ok(()) => Ok(()),
+        Err(PlanError::NoMemory) => Err(LogError::NoMemory),
+        Err(PlanError::Refused { .. }) => Err(LogError::Damaged {
+            at: records.place_of(k),
+        }),
+    }
+}
+
+// The commit that record `k` has, of a table with so many columns.
+fn read_commit<D: Disk>(
+    alloc: Global,
+    records: &mut Records<D>,
+    k: u64,
+    columns: usize,
+) -> Result<Changes, LogError>
+    requires { k < record_count records.old }
+    ensures commit { IfOk result (λ changes. IsWritten columns changes) }
+    ensures payload { IfOk result (λ changes. IsTrue D.tells → (all : List (List ℕ))
+        → Hold all records.old → commit_payload changes ≡ slice_index_or all k []) }
+    ensures damaged { (at : ℕ) → IsErrOf result (LogError.Damaged at) → IsTrue D.tells
+        → (all : List (List ℕ)) → Hold all records.old
+        → (at ≡ gate_at (records_magic records.old) all k)
+        × IsNoCommit columns (slice_index_or all k []) }
     ensures created { IsErrOf result LogError.NotCreated → ⊥ }
     ensures read { IsTrue D.tells → AreRead records.old records.new }
     ensures same { AreAsMany records.old records.new }
@@ -128,20 +468,10 @@ fn load_commit<D: Disk>(
         return Err(LogError::Damaged { at });
     }
     let payload = records.entry_at(k)?;
-    let columns = kept.settings().columns.len();
-    let changes = match decode_commit(alloc, columns, &payload) {
-        Ok(changes) => changes,
-        Err(DecodeError::NoMemory) => return Err(LogError::NoMemory),
-        Err(DecodeError::Bad) => {
-            return Err(LogError::Damaged {
-                at: records.place_of(k),
-            });
-        }
-    };
-    match kept.replay(changes.as_slice()) {
-        Ok(()) => Ok(()),
-        Err(PlanError::NoMemory) => Err(LogError::NoMemory),
-        Err(PlanError::Refused { .. }) => Err(LogError::Damaged {
+    match decode_commit(alloc, columns, &payload) {
+        Ok(changes) => Ok(changes),
+        Err(DecodeError::NoMemory) => Err(LogError::NoMemory),
+        Err(DecodeError::Bad) => Err(LogError::Damaged {
             at: records.place_of(k),
         }),
     }

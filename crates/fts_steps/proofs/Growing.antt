@@ -1,21 +1,20 @@
 -- What a commit more, and a batch more, leave of a database's index.
-use Rattle.std.proofs.Common.{◌≡◌, ℕ, ◌<◌, List, [], ◌∷◌, ◌++◌, refl, ap, subst, sym, ◌∙◌, length}
+use Rattle.std.proofs.Common.{◌≡◌, ℕ, ◌<◌, List, [], ◌∷◌, ◌++◌, refl, ap, subst, sym, ◌∙◌, arith}
 use Rattle.std.proofs.lemmas.List.Sums.{fold-append}
 use Rattle.std.proofs.lemmas.List.Elements.{All-push}
 use Rattle.std.specs.Prelude.{fold}
 use Rattle.fts_types.specs.declared.settings.Settings.{Settings}
 use Rattle.fts_types.specs.Rules.{rules_of}
+use Rattle.fts_words.specs.Indexed.{Rules}
 use Rattle.fts_commits.specs.Commit.{Commit, Rows, no_rows, rows_after, replay}
 use Rattle.fts_commits.specs.Turn.{Turn, AreTurns, rows_by, turn_between, turns_from}
-use Rattle.fts_commits.proofs.Turns.{turns_are}
-use Rattle.fts_commits.proofs.Leads.{turns_lead}
 use Rattle.fts_entries.specs.Entry.{Batch, IndexEntry, IndexState, sealed, index_of, after_entry}
 use Rattle.fts_entries.specs.Batch.{IsBatch, after_batch}
 use Rattle.fts_entries.specs.Coming.{AreEntries}
 use Rattle.fts_entries.specs.Exact.{FitsTurns, IsExact}
 use Rattle.fts_entries.proofs.Commits.{one_exact, same_index, commits_exact}
-use Rattle.fts_entries.proofs.Kept.{still_exact, same_state}
-use Rattle.fts_entries.proofs.Coming.{entries_more, entries_through, entries_fit, batch_comes, come_behind, index_behind}
+use Rattle.fts_entries.proofs.Kept.{still_exact, same_state, can_seal}
+use Rattle.fts_entries.proofs.Coming.{entries_more, entries_through, entries_fit, come_behind, index_behind}
 use Rattle.fts_ixcodec.specs.Payload.{IsEntry}
 use Rattle.fts_steps.specs.State.{State, HasEntries, IsRight, turns_of, index_state, with_commits, with_entries, created_with}
 
@@ -41,19 +40,27 @@ index_stays state more has =
     ap (λ (turns : List Turn). index_of turns state.entries) (turns_more no_rows state.commits more)
     ∙ same_index (turns_of state) (turns_from (replay state.commits) more) state.entries (entries_through (turns_of state) state.entries has.come)
 
+-- what is known of the turns of commits
+pub record AreKnown (commits : List Commit) : Type 0 where
+  pub ascend : AreTurns 0 (turns_from no_rows commits)
+  pub lead : fold rows_by no_rows (turns_from no_rows commits) ≡ replay commits
+
 -- the state that the entries leave fits the commits
-pub state_fits : (state : State) → HasEntries state → FitsTurns (turns_of state) (index_state state)
-state_fits state has = entries_fit (turns_of state) state.entries (turns_are state.commits) has.come
+pub state_fits : (state : State) → AreTurns 0 (turns_of state) → HasEntries state → FitsTurns (turns_of state) (index_state state)
+state_fits state are has = entries_fit (turns_of state) state.entries are has.come
 
 -- an index that is right is right behind one commit more
-pub right_stays : (state : State) (commit : Commit) → HasEntries state → IsRight state → IsRight (with_commits state (commit ∷ []))
-right_stays state commit has right =
+pub right_stays : (state : State) (commit : Commit) → AreKnown state.commits → AreKnown (state.commits ++ commit ∷ []) → HasEntries state → IsRight state
+    → IsRight (with_commits state (commit ∷ []))
+right_stays state commit known knows has right =
     subst (λ (s : IndexState). IsExact rules (replay commits).list (turns_from no_rows commits) s) (sym (index_stays state (commit ∷ []) has))
     (subst (λ (turns : List Turn). IsExact rules (replay commits).list turns s) (sym grown)
     (subst (λ (rows : Rows). IsExact rules rows.list (turns ++ turn ∷ []) s) led
-    (one_exact turns turn s (state_fits state has) are rules (replay state.commits) right)))
+    (one_exact turns turn s (state_fits state known.ascend has) are rules (replay state.commits) right)))
   where
+    rules : Rules
     rules = rules_of state.settings
+    s : IndexState
     s = index_state state
     turns : List Turn
     turns = turns_of state
@@ -66,22 +73,22 @@ right_stays state commit has right =
     grown = turns_more no_rows state.commits (commit ∷ [])
 
     are : AreTurns 0 (turns ++ turn ∷ [])
-    are = subst (AreTurns 0) grown (turns_are commits)
+    are = subst (AreTurns 0) grown knows.ascend
 
     led : rows_by (replay state.commits) turn ≡ replay commits
-    led = ap (λ (rows : Rows). rows_by rows turn) (sym (turns_lead state.commits)) ∙ sym (fold-append rows_by no_rows turns (turn ∷ []))
-        ∙ ap (fold rows_by no_rows) (sym grown) ∙ turns_lead commits
+    led = ap (λ (rows : Rows). rows_by rows turn) (sym known.lead) ∙ sym (fold-append rows_by no_rows turns (turn ∷ []))
+        ∙ ap (fold rows_by no_rows) (sym grown) ∙ knows.lead
 
 -- ---- a batch more
 
-module _ (state : State) (limit through synced : ℕ) (batch : Batch) (has : HasEntries state)
+module _ (state : State) (limit through synced : ℕ) (batch : Batch) (has : HasEntries state) (are : AreTurns 0 (turns_of state))
     (made : IsBatch (rules_of state.settings) limit (turns_of state) (index_state state) through synced batch) where
   -- its entry can stand behind those of the state
   pub batch_stands : 0 < (rules_of state.settings).min → IsEntry (sealed through synced batch) → HasEntries (with_entries state (sealed through synced batch ∷ []))
   batch_stands min written = record {
     written = All-push IsEntry state.entries (sealed through synced batch) has.written written;
     come = come_behind (turns_of state) state.entries (sealed through synced batch) has.come
-        (batch_comes (rules_of state.settings) limit (turns_of state) (index_state state) through synced batch made min (turns_are state.commits) (state_fits state has));
+        (can_seal (rules_of state.settings) limit (turns_of state) (index_state state) through synced batch made min are (state_fits state are has));
   }
 
   pub batch_leaves : index_state (with_entries state (sealed through synced batch ∷ [])) ≡ after_batch (rules_of state.settings) limit (turns_of state) (index_state state)
@@ -92,7 +99,7 @@ module _ (state : State) (limit through synced : ℕ) (batch : Batch) (has : Has
   batch_right right =
       subst (λ (s : IndexState). IsExact (rules_of state.settings) (replay state.commits).list (turns_of state) s)
       (sym (index_behind (turns_of state) state.entries (sealed through synced batch)))
-      (still_exact (rules_of state.settings) limit (turns_of state) (index_state state) through synced batch made (replay state.commits).list (turns_are state.commits) (state_fits state has) right)
+      (still_exact (rules_of state.settings) limit (turns_of state) (index_state state) through synced batch made (replay state.commits).list are (state_fits state are has) right)
 
 -- ---- no entries
 
@@ -100,7 +107,7 @@ pub none_stand : (settings : Settings) (commits : List Commit) → HasEntries (r
 none_stand settings commits = record { written = λ k d less. absurd (omega arith); come = tt }
 
 -- an index without entries is right
-pub none_right : (settings : Settings) (commits : List Commit) → IsRight (record { settings = settings; commits = commits; entries = [] })
-none_right settings commits =
-    subst (λ (rows : Rows). IsExact (rules_of settings) rows.list (turns_from no_rows commits) (index_of (turns_from no_rows commits) [])) (turns_lead commits)
-    (commits_exact (rules_of settings) (turns_from no_rows commits) (turns_are commits))
+pub none_right : (settings : Settings) (commits : List Commit) → AreKnown commits → IsRight (record { settings = settings; commits = commits; entries = [] })
+none_right settings commits known =
+    subst (λ (rows : Rows). IsExact (rules_of settings) rows.list (turns_from no_rows commits) (index_of (turns_from no_rows commits) [])) known.lead
+    (commits_exact (rules_of settings) (turns_from no_rows commits) known.ascend)

@@ -1,7 +1,7 @@
 use Rattle.std.proofs.Common.{refl}
 use Rattle.fts_steps.specs.Step.{to_view, viewed, no_memory}
 use Rattle.fts_query.specs.Seen.{leaves_seen, view_seen}
-use Rattle.fts_engine.proofs.Committing.{is_viewed}
+use Rattle.fts_engine.proofs.Committing.{is_viewed, exact_kept}
 use Rattle.fts_engine.proofs.Steps.{refuses}
 use Rattle.fts_engine.proofs.engine.Engine.view.Goals as goal
 
@@ -10,8 +10,10 @@ returns-in-Ok g c =
     let asked = leaves_seen c.args.leaves.items in
     let view = view_seen c.in-Ok.view in
     refuses c.args.self.now c.args.self.now refl refl refl refl refl refl (λ commits s is. is) (to_view asked) (viewed view) refl refl
-    (λ running stands. is_viewed running c.args.self.now stands.holds.has.keeps asked c.commits.result view
-    (c.commits.ensures running.state stands.holds.has.keeps) (c.in-Ok.ensures running.state.commits running.index stands.holds.has.indexed))
+    (λ running stands.
+    let has = stands.holds.has in
+    is_viewed running c.args.self.now has.keeps asked c.commits.result view (c.commits.ensures running.state has.keeps)
+    (c.in-Ok.ensures running.state.commits running.index has.indexed (exact_kept running c.args.self.now stands)))
 
 pub returns-in-Err : goal.returns-in-Err
 returns-in-Err g c =
