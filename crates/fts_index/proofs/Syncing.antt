@@ -271,19 +271,19 @@ left_of false b apart = refl
 
 -- ---- a batch's words
 
-word_apart : (v w : List ℕ) → byte_order v w ≡ Less → bytes_eq v w ≡ false
+pub word_apart : (v w : List ℕ) → byte_order v w ≡ Less → bytes_eq v w ≡ false
 word_apart v w less = sym (is_eq-slice_cmp v w) ∙ ap is_eq less
 
 word_apart_back : (v w : List ℕ) → byte_order v w ≡ Less → bytes_eq w v ≡ false
 word_apart_back v w less = fails (bytes_eq w v) (λ e. (let same : w ≡ v = (bytes_eq-Decides w v).0 e in
     false≢true (sym (word_apart v w less) ∙ ap (bytes_eq v) same ∙ is_same v)))
 
-no_nodes_for : (word : List ℕ) (batch : Batch) → AllByRecursion (λ w. bytes_eq word w ≡ false) (keys_of batch) → nodes_for word batch ≡ []
+pub no_nodes_for : (word : List ℕ) (batch : Batch) → AllByRecursion (λ w. bytes_eq word w ≡ false) (keys_of batch) → nodes_for word batch ≡ []
 no_nodes_for word [] h = refl
 no_nodes_for word (g ∷ batch) h = ap₂ (λ (b : Bool) (ns : List Docs). cond b g.1 [] ++ ns) h.0 (no_nodes_for word batch h.1)
 
 -- each word of a batch has its own nodes there
-own_nodes : (P : List ℕ → List Docs → Type 0) (batch : Batch) → IsStrictlySortedBy byte_order (keys_of batch) → ((word : List ℕ) → P word (nodes_for word batch))
+pub own_nodes : (P : List ℕ → List Docs → Type 0) (batch : Batch) → IsStrictlySortedBy byte_order (keys_of batch) → ((word : List ℕ) → P word (nodes_for word batch))
     → AllByRecursion (λ g. P g.0 g.1) batch
 own_nodes P [] up h = tt
 own_nodes P (g ∷ batch) up h =
