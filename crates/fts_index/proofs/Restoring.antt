@@ -157,12 +157,16 @@ module _ (held : tables.Held) (born : ℕ → Bool) where
   after_all [] fit after = tt
   after_all (g ∷ batch) fit after = (begins_then (last_of 0 (tables.nodes held g.0)) g.1 after.0 (fit_begins g fit.0), after_all batch fit.1 after.1)
 
--- nodes that fit come behind those of the tables
-pub comes : (index : Index) (covered : Covered) (through synced : ℕ) (batch : Batch) → AreRead batch → can_restore index covered through synced batch ≡ true → tables.ComesAfter index.tables batch
-comes index covered through synced batch read can =
+-- nodes that fit come behind those of the tables, also where these have other room
+pub comes : (index middle : Index) (covered : Covered) (through synced : ℕ) (batch : Batch) → HasSame index middle → AreRead batch → can_restore index covered through synced batch ≡ true
+    → tables.ComesAfter middle.tables batch
+comes index middle covered through synced batch same read can =
     let born = has covered.births.items in
     let fit = (and_parts (is_next index covered through synced) (list_all (is_fit index.tables born) batch) can).1 in
-    All-from_recursion _ batch (after_all index.tables born batch (passes (is_fit index.tables born) batch fit) (recursion_from_All (λ (g : List ℕ × List Docs). NodesAfter 0 g.1) batch read.nodes))
+    All-from_recursion _ batch
+    (leads (λ (g : List ℕ × List Docs). NodesAfter (last_of 0 (tables.nodes index.tables g.0)) g.1) (λ g. NodesAfter (last_of 0 (tables.nodes middle.tables g.0)) g.1) batch
+    (λ g h. subst (λ (ns : List Docs). NodesAfter (last_of 0 ns) g.1) (sym (same.nodes g.0)) h)
+    (after_all index.tables born batch (passes (is_fit index.tables born) batch fit) (recursion_from_All (λ (g : List ℕ × List Docs). NodesAfter 0 g.1) batch read.nodes)))
 
 -- ---- commits behind those that are flushed
 

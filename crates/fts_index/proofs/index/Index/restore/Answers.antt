@@ -11,7 +11,9 @@ returns-then-not-branch-clause-bad c = λ err rules turns more s restores here s
     cannot rules turns more s c.args.self.now c.args.covered.now restores c.args.through c.args.synced c.args.nodes.now c.requires fails here seal
 
 pub add_batch-requires-clause-after : goal.add_batch-requires-clause-after
-add_batch-requires-clause-after c = ?
+add_batch-requires-clause-after c =
+    let can : can_restore c.args.self.now c.args.covered.now c.args.through c.args.synced c.args.nodes.now ≡ true = sym c.in_ok-can_restore.ensures ∙ c.if-not-branch.false in
+    comes c.args.self.now c.make_batch_room.new.index c.args.covered.now c.args.through c.args.synced c.args.nodes.now c.make_batch_room.ensures.same c.requires can
 
 pub returns-clause-restored : goal.returns-clause-restored
 returns-clause-restored c = λ rules turns more s restores.
