@@ -15,14 +15,14 @@ use Rattle.fts_entries.proofs.Batches.{fails}
 itself : (word : List ℕ) → bytes_eq word word ≡ true
 itself word = (bytes_eq-Decides word word).1 refl
 
-word_apart : (v w : List ℕ) → byte_order v w ≡ Less → bytes_eq v w ≡ false
+pub word_apart : (v w : List ℕ) → byte_order v w ≡ Less → bytes_eq v w ≡ false
 word_apart v w less = sym (is_eq-slice_cmp v w) ∙ ap is_eq less
 
 word_apart_back : (v w : List ℕ) → byte_order v w ≡ Less → bytes_eq w v ≡ false
 word_apart_back v w less = fails (bytes_eq w v) (λ e. (let same : w ≡ v = (bytes_eq-Decides w v).0 e in
     false≢true (sym (word_apart v w less) ∙ ap (bytes_eq v) same ∙ itself v)))
 
-no_nodes_for : (word : List ℕ) (batch : Batch) → AllByRecursion (λ w. bytes_eq word w ≡ false) (keys_of batch) → nodes_for word batch ≡ []
+pub no_nodes_for : (word : List ℕ) (batch : Batch) → AllByRecursion (λ w. bytes_eq word w ≡ false) (keys_of batch) → nodes_for word batch ≡ []
 no_nodes_for word [] h = refl
 no_nodes_for word (g ∷ batch) h = ap₂ (λ (b : Bool) (ns : List Docs). cond b g.1 [] ++ ns) h.0 (no_nodes_for word batch h.1)
 

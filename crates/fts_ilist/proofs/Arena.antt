@@ -1,11 +1,12 @@
 -- Nodes that lie in one run of bytes.
-use Rattle.std.proofs.Common.{◌≡◌, ℕ, ◌+◌, ◌-◌, ◌≤◌, List, [], ◌∷◌, ◌++◌, Some, slice_get, length, take, drop, length-drop, refl, sym, ap, subst, ◌∙◌, arith}
+use Rattle.std.proofs.Common.{◌≡◌, ℕ, suc, ◌+◌, ◌-◌, ◌≤◌, List, [], ◌∷◌, ◌++◌, Some, slice_get, length, take, drop, length-drop, refl, sym, ap, subst, ◌∙◌, arith}
 use Rattle.std.specs.List.{slice_range}
 use Rattle.std.specs.Option.{option_map}
 use Rattle.std.proofs.lemmas.List.{take-append-le, drop-append-le, length-append, length-map, map-append}
 use Rattle.std.proofs.lemmas.Option.{slice_get-map}
 use Rattle.std.proofs.Math.Seq.{drop-append_seam, take-length}
-use Rattle.fts_ilist.specs.Node.{Docs}
+use Rattle.fts_ilist.specs.Node.{Docs, last_of}
+use Rattle.fts_ilist.specs.Spelling.{id_at_end}
 use Rattle.fts_ilist.specs.Reading.{postings_in}
 use Rattle.fts_ilist.specs.NodeList.{IsNode, IsRow, AreRows, row_docs, nodes_at}
 use Rattle.fts_ilist.specs.declared.node_list.NodeRow.{NodeRow}
@@ -74,3 +75,24 @@ last_node bytes rows row e =
     ap (λ n. slice_get (nodes_at bytes rows) (n - 1)) (length-map rows (row_docs bytes))
     ∙ slice_get-map (row_docs bytes) rows (length rows - 1)
     ∙ ap (option_map (row_docs bytes)) e
+
+-- and its last id is the last one of the nodes
+pub last_id_of : (before : ℕ) (bytes : List ℕ) (rows : List NodeRow) (row : NodeRow) → AreRows bytes rows → slice_get rows (length rows - 1) ≡ Some row
+    → row.last ≡ last_of before (nodes_at bytes rows)
+last_id_of before bytes [] row are e = absurd (no_row e)
+  where
+    none : List NodeRow
+    none = []
+
+    no_row : slice_get none 0 ≡ Some row → ⊥
+    no_row same = (cc)
+last_id_of before bytes (r ∷ []) row are e =
+    let same : r ≡ row = (cc) in
+    ap (λ (q : NodeRow). q.last) (sym same) ∙ are.0.node.kept.list.last_is
+last_id_of before bytes (r ∷ (q ∷ rows)) row are e =
+    last_id_of (id_at_end 0 (row_docs bytes r)) bytes (q ∷ rows) row are.1
+    (sym (ap (slice_get (r ∷ (q ∷ rows))) (let k : suc (suc (length rows)) - 1 ≡ suc (length (q ∷ rows) - 1) = omega arith in k)) ∙ e)
+
+pub no_last : (bytes : List ℕ) (rows : List NodeRow) → length rows ≤ 0 → 0 ≡ last_of 0 (nodes_at bytes rows)
+no_last bytes [] none = refl
+no_last bytes (row ∷ rows) none = absurd (omega (arith, none))

@@ -139,7 +139,8 @@ keeps_behind n ((p ∷ ps) ∷ ms) e =
     ∙ ap (λ w. n ∷ w) (packs_sound p ps (joined ms) sound)
     ∙ ap (λ w. n ∷ w) (keeps_behind (p ∷ ps) ms (or_right (has_place 8192 n p || not (is_sound (p ∷ ps))) (loose_behind (p ∷ ps) ms) e))
 
-keeps : (ns : List Docs) → are_loose ns ≡ false → packed (joined ns) ≡ ns
+-- nodes of which none is loose are those that packing makes
+pub keeps : (ns : List Docs) → are_loose ns ≡ false → packed (joined ns) ≡ ns
 keeps [] e = refl
 keeps ([] ∷ ns) e = absurd (true≢false e)
 keeps ((p ∷ ps) ∷ ns) e =

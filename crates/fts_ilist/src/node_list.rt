@@ -4,8 +4,10 @@ ghost use Rattle.std.specs.Prelude.{OnErr};
 ghost use Rattle.std.specs.Prelude.{◌^◌, ◌-◌, IfSome, IfNone, vec_len, vec_capacity};
 ghost use Rattle.std.specs.Iterator.{YieldsFirst, item_count};
 ghost use Rattle.fts_ilist.specs.Spelling.{ArePostings, HasFirstId, last_id, list_bytes};
-ghost use Rattle.fts_ilist.specs.Node.{head_size};
+ghost use Rattle.fts_ilist.specs.Node.{head_size, last_of};
 ghost use Rattle.fts_ilist.specs.Packing.{node_size, is_sound, takes_first, are_loose, AreLoose};
+ghost use Rattle.fts_ilist.specs.Packing.{loose_behind};
+ghost use Rattle.std.specs.Prelude.{◌||◌, not};
 ghost use Rattle.fts_ilist.specs.NodeList.{nodes_size, Takes, IsRow, row_docs, with_nodes};
 
 use crate::cursor::Cursor;
@@ -161,6 +163,16 @@ impl<'a> NodeSlice<'a> {
         ensures { IsTrue result ↔ (self.now ≡ []) }
     {
         self.rows.is_empty()
+    }
+
+    /// The last id of the nodes, and 0 where there are none. It takes constant time.
+    pub fn last_id(&self) -> DocId
+        ensures { result ≡ last_of 0 self.now }
+    {
+        match self.rows.last() {
+            Some(row) => row.last,
+            None => 0,
+        }
     }
 }
 
@@ -398,6 +410,50 @@ pub fn bytes_of(nodes: &[Node]) -> Option<usize>
     Some(bytes)
 }
 
+/// Whether the first document of a node has a place in the one before it, or the node is not as
+/// packing makes them.
+fn is_loose_next(last: &Node, next: &Node) -> bool
+    ensures { result ≡ (takes_first last.now next.now || not (is_sound next.now)) }
+{
+    let next = next.as_ref();
+    if last.as_ref().takes_first(&next) {
+        return true;
+    }
+    !next.is_sound()
+}
+
+/// Whether one of these nodes, which stand behind another, is not as packing makes them there.
+fn loose_behind(node: &Node, nodes: &[Node]) -> bool
+    ensures { result ≡ loose_behind node.now nodes.now }
+{
+    let mut last = node;
+    let mut rest = nodes;
+    while let [next, behind @ ..] = rest {
+        if is_loose_next(last, next) {
+            return true;
+        }
+        last = next;
+        rest = behind;
+    }
+    false
+}
+
+/// Whether packing the documents of nodes would give other nodes than these. It takes a step for
+/// each node.
+pub fn are_loose(nodes: &[Node]) -> bool
+    ensures { result ≡ are_loose nodes.now }
+{
+    match nodes {
+        [] => false,
+        [first, behind @ ..] => {
+            if !first.as_ref().is_sound() {
+                return true;
+            }
+            loose_behind(first, behind)
+        }
+    }
+}
+
 #[cfg(test)]
 mod tests {
     use super::*;
@@ -426,6 +482,8 @@ mod tests {
         let list = NodeList::of(alloc, &nodes)?;
         assert_eq!(rt; list.as_slice().len(), 3);
         assert!(rt; list.is_loose());
+        assert!(rt; are_loose(&nodes));
+        assert_eq!(rt; list.as_slice().last_id(), 70_000);
         for (found, node) in list.as_slice().zip(nodes.iter()) {
             assert_eq!(rt;
                 (found.first(), found.last(), found.count()),

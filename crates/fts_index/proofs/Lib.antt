@@ -10,6 +10,7 @@ pub mod Adding
 pub mod Gathering
 pub mod Commits
 pub mod Syncing
+pub mod Restoring
 pub mod Walks
 pub mod Listings
 pub mod Sizes

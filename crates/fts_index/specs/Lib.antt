@@ -6,3 +6,4 @@ pub mod Index
 pub mod Gathered
 pub mod Parts
 pub mod Made
+pub mod Restore

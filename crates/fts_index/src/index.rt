@@ -90,7 +90,11 @@ fn make_room(index: &mut Index, documents: &[DocWords], deaths: usize) -> Result
 }
 
 /// Makes room for a batch of these nodes, in whose commits so many died.
-fn make_batch_room(index: &mut Index, nodes: &[WordNodes], dead: usize) -> Result<(), AllocError>
+pub(crate) fn make_batch_room(
+    index: &mut Index,
+    nodes: &[WordNodes],
+    dead: usize,
+) -> Result<(), AllocError>
     ensures same { HasSame index.old index.new }
     ensures nodes { OnOk result (tables.HasRoomOf index.new.tables nodes.now) }
     ensures dead { OnOk result (dead ≤ room_of Deleted index.new.lists) }
@@ -263,6 +267,14 @@ impl Index {
             → IsListed settings.now turns s kind listing) }
     {
         listed(self, settings, kind)
+    }
+
+    /// How many commits are flushed, from the first on.
+    pub fn flushed(&self) -> u64
+        ensures { (rules : Rules) (turns : List Turn) (s : IndexState)
+            → StandsFor rules turns s self.now → result ≡ s.flushed }
+    {
+        self.lists.flushed()
     }
 
     /// The size of the cache in the bytes that `cache_bytes` counts. Constant time.

@@ -21,11 +21,13 @@ mod keyed;
 mod listing;
 mod occurrence;
 mod pending;
+mod restore;
 mod sync;
 mod walk;
 
 pub use gather::Gathered;
 pub use index::{CommitPlan, Index};
+pub use restore::{Covered, RestoreError};
 pub use sync::SyncPlan;
 
 #[cfg(test)]

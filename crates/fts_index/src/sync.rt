@@ -9,7 +9,7 @@ ghost use Rattle.fts_index.specs.Index.{pending_seen};
 ghost use Rattle.fts_index.specs.Parts.{counted_within, deaths_through, MovesDead};
 
 use crate::pending::Pending;
-use fts_ilist::Nodes;
+use fts_ilist::{Nodes, WordNodes};
 use fts_lists::{DeleteList, Lists};
 use fts_types::DocId;
 use std::alloc::{AllocError, Global};
@@ -34,6 +34,20 @@ impl SyncPlan {
         ensures { result ≡ self.now.through }
     {
         self.through
+    }
+
+    /// Up to which id the index is flushed with it.
+    pub fn synced(&self) -> DocId
+        ensures { result ≡ self.now.synced }
+    {
+        self.synced
+    }
+
+    /// Its words, each with its nodes.
+    pub fn nodes(&self) -> &[WordNodes]
+        ensures { result.now ≡ self.now.nodes.items }
+    {
+        &self.nodes
     }
 }
 
