@@ -4,18 +4,14 @@ use Rattle.std.specs.Prelude.{All}
 use Rattle.std.specs.List.{AllPairs}
 use Rattle.std.proofs.lemmas.Bool.{and_parts}
 use Rattle.std.proofs.lemmas.List.{length-map, get_or-map}
-use Rattle.std.proofs.lemmas.List.Elements.{All-head, All-tail, All-weaker, All-filter, All-map}
-use Rattle.std.proofs.lemmas.List.Kept.{AllPairs-filter}
+use Rattle.std.proofs.lemmas.List.Elements.{All-weaker, All-map}
 use Rattle.std.proofs.lemmas.List.Sorted.{All-permutation, length_permutation, sum_by-IsPermutation}
-use Rattle.std.proofs.lemmas.List.Sums.{sum_by-cons, sum_by-take-le}
+use Rattle.std.proofs.lemmas.List.Sums.{sum_by-cons}
 use Rattle.fts_types.specs.Row.{IsRow}
-use Rattle.fts_ilist.specs.Spelling.{PositionsFrom}
 use Rattle.fts_words.specs.declared.placed.PlacedWord.{PlacedWord}
 use Rattle.fts_words.specs.Order.{is_among}
-use Rattle.fts_words.specs.Indexed.{Rules, column_text, column_offset, word_of, IsIndexedWord, indexed_words, PositionsAscend}
-use Rattle.fts_words.proofs.RunLemmas.{AllPairs-head, AllPairs-tail}
-use Rattle.fts_words.proofs.WordLemmas.{raw_words_within}
-use Rattle.fts_words.proofs.PlacedLemmas.{column_offset_next, indexed_words_each, indexed_words_ascend}
+use Rattle.fts_words.specs.Indexed.{Rules, word_of, IsIndexedWord, indexed_words, PositionsAscend}
+use Rattle.fts_words.proofs.PlacedLemmas.{indexed_words_each, indexed_words_ascend}
 use Rattle.fts_index.specs.declared.keyed.Occurrence.{Occurrence}
 use Rattle.fts_entries.specs.Words.{positions_of}
 use Rattle.fts_entries.proofs.Places.{all_low}

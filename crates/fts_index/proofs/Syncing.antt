@@ -1,5 +1,5 @@
 -- What an index stands for behind a batch, and that a batch which was planned is the next one.
-use Rattle.std.proofs.Common.{◌≡◌, ◌≢◌, ℕ, zero, suc, ◌+◌, ◌-◌, ◌<◌, ◌≤◌, Bool, true, false, cond, not, ◌&&◌, ◌||◌, if◌then◌else◌, List, [], ◌∷◌, ◌++◌, map, filter, length, take, drop, get_or, slice_index_or, max, append-nil, nat_lt, nat_le, nat_eq, bytes_eq, is_eq, Less, refl, sym, ap, ap₂, subst, ◌∙◌, arith, ⊎_elim}
+use Rattle.std.proofs.Common.{◌≡◌, ◌≢◌, ℕ, zero, suc, ◌+◌, ◌-◌, ◌<◌, ◌≤◌, Bool, true, false, cond, not, ◌&&◌, ◌||◌, if◌then◌else◌, List, [], ◌∷◌, ◌++◌, map, filter, length, take, drop, get_or, slice_index_or, max, append-nil, nat_lt, nat_le, nat_eq, refl, sym, ap, ap₂, subst, ◌∙◌, arith, ⊎_elim}
 use Rattle.std.specs.List.{All, AllByRecursion, AllPairs, Contains, dedup, flat_map, prefix_len, take_while, list_any, IsDistinct}
 use Rattle.std.specs.List.Sorted.{IsStrictlySortedBy, IsStrictlyIncreasing}
 use Rattle.std.proofs.lemmas.List.Kept.{AllPairs-from_increasing, Contains-dedup_nat, Contains-from_dedup}
@@ -11,29 +11,24 @@ use Rattle.std.proofs.lemmas.Grind.{flat_map-append}
 use Rattle.std.proofs.lemmas.List.{take-append-drop, drop-drop, drop-map, length-map, length-drop}
 use Rattle.std.proofs.lemmas.List.Elements.{filter-append, All-from_recursion}
 use Rattle.std.proofs.lemmas.List.Folds.{list_any-append}
-use Rattle.std.proofs.lemmas.Map.Keys.{sorted_head, sorted_tail}
-use Rattle.std.proofs.lemmas.Map.Text.{is_eq-slice_cmp}
-use Rattle.std.proofs.lemmas.Slice.Eq.{bytes_eq-Decides}
 use Rattle.fts_words.specs.Indexed.{Rules}
 use Rattle.fts_words.specs.Order.{byte_order}
 use Rattle.fts_types.specs.Row.{Row}
 use Rattle.fts_ids.specs.Ids.{has, Ascend, AscendFrom}
 use Rattle.fts_ids.proofs.Ascending.{same_ids, has-filter, has_below}
 use Rattle.fts_lists.specs.Ids.{with_ids}
-use Rattle.fts_lists.specs.State.{State, ids_of, room_of}
-use Rattle.fts_lists.specs.declared.lists.DeleteList.TheVariants.{Deleted, BeingDeleted, DeletedCache}
+use Rattle.fts_lists.specs.State.{ids_of, room_of}
+use Rattle.fts_lists.specs.declared.lists.DeleteList.TheVariants.{Deleted, DeletedCache}
 use Rattle.fts_lists.proofs.Merging.{has-with_ids, AscendFrom-with_ids}
 use Rattle.fts_ilist.specs.Spelling.{Posting}
 use Rattle.fts_ilist.specs.Node.{Docs, nodes_for, NodesAfter, last_of}
 use Rattle.fts_ilist.specs.Packing.{packed}
 use Rattle.fts_ilist.specs.Queue.{postings_behind}
-use Rattle.fts_cache.specs.Cache.{CachedDocument, postings_of, cached_behind}
-use Rattle.fts_cache.specs.Words.{postings_until}
-use Rattle.fts_cache.proofs.Queues.{is_same}
+use Rattle.fts_cache.specs.Cache.{CachedDocument, cached_behind}
 use Rattle.fts_aux.specs.Table.{Room, needs, IsWithin}
 use Rattle.fts_aux.specs.Tables as tables
-use Rattle.fts_commits.specs.Turn.{Turn, RowsAscend, AreTurns, births_of, deaths_of, rows_but}
-use Rattle.fts_entries.specs.Entry.{Batch, IndexState, sealed, after_entry, unflushed, unflushed_through, flushed_deaths}
+use Rattle.fts_commits.specs.Turn.{Turn, RowsAscend, AreTurns, births_of, deaths_of}
+use Rattle.fts_entries.specs.Entry.{IndexState, sealed, after_entry, unflushed, unflushed_through, flushed_deaths}
 use Rattle.fts_entries.specs.Batch.{IsBatch, covers, covered_within, alive_of, largest_after, after_batch}
 use Rattle.fts_entries.specs.Exact.{FitsTurns}
 use Rattle.fts_entries.specs.Words.{rows_postings}
@@ -48,7 +43,7 @@ use Rattle.fts_index.specs.declared.index.Index.{Index}
 use Rattle.fts_index.specs.declared.pending.Pending.{Pending}
 use Rattle.fts_index.specs.declared.sync.SyncPlan.{SyncPlan}
 use Rattle.fts_index.specs.Index.{StandsFor, AreCommits, FitsSync, PendingSeen, pending_seen, pending_of, cached_row}
-use Rattle.fts_index.specs.Parts.{counted_within, deaths_through, MovesDead, IsFlushed, HasSame}
+use Rattle.fts_index.specs.Parts.{counted_within, deaths_through, IsFlushed, HasSame}
 
 -- ---- rows up to an id and behind it
 

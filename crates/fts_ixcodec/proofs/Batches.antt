@@ -64,11 +64,15 @@ module _ (rules : Rules) (rows : List Row) (low high : ℕ) (most : rules.max �
   batch_is_entry through synced batch up filled nodes through_fits synced_fits fits =
       let short = nodes_short through synced batch fits in
       let own = All-from_recursion (λ g. g.1 ≡ packed (rows_postings rules g.0 rows)) batch (own_nodes (λ word ns. ns ≡ packed (rows_postings rules word rows)) batch up nodes) in
-      let few : node_count batch < 2 ^ 32 = omega (arith, count_within batch, short) in
-      (through_fits, synced_fits, few, record {
-        ascend = up;
-        each = λ k d less. group_is _ _ (own k d less) (filled k d less) (piece_short nodes_payload batch k d (2 ^ 32) less short);
-      })
+      let few : node_count batch < 2 ^ 32 = omega (arith, count_within batch, short) in (
+        through_fits,
+        synced_fits,
+        few,
+        record {
+          ascend = up;
+          each = λ k d less. group_is _ _ (own k d less) (filled k d less) (piece_short nodes_payload batch k d (2 ^ 32) less short);
+        },
+      )
 
 -- so can that of the next batch of an index
 pub next_is_entry : (rules : Rules) (limit : ℕ) (turns : List Turn) (s : IndexState) (through synced : ℕ) (batch : Batch) → IsBatch rules limit turns s through synced batch

@@ -101,6 +101,11 @@ node_at b bytes = do
   word ← word_at b.word bytes
   more_at (turned_to b word.0) word.1
 
+-- one node more, behind its word or, of the last word, without it
+abbrev pub one_at : Bool → Building → List ℕ → Result (Building × List ℕ) ℕ
+one_at true = node_at
+one_at false = more_at
+
 -- so many nodes more
 unfoldable pub many_at : (Building → List ℕ → Result (Building × List ℕ) ℕ) → ℕ → Building → List ℕ
     → Result (Building × List ℕ) ℕ

@@ -2,7 +2,7 @@
 ghost use Rattle.std.specs.Prelude.{◌≡◌, ◌++◌, OnOk, IfOk};
 ghost use Rattle.fts_ixcodec.specs.Building.{nothing, group_of, batch_of, turned_to, with_node};
 ghost use Rattle.fts_ixcodec.specs.Fault.{Gives};
-ghost use Rattle.fts_ixcodec.specs.Reading.{more_at, node_at, many_at, batch_at, lists_at};
+ghost use Rattle.fts_ixcodec.specs.Reading.{more_at, node_at, one_at, many_at, batch_at, lists_at};
 
 use crate::error::Fault;
 use crate::lists::list_at;
@@ -102,6 +102,16 @@ impl Building {
         self.take_list(alloc, rest)
     }
 
+    /// Takes a node behind its word or, of the last word, without it.
+    fn take<'a>(&mut self, alloc: Global, worded: bool, bytes: &'a [u8]) -> Result<&'a [u8], Fault>
+        ensures { Gives (λ rest. (self.new, rest.now)) result (one_at worded self.old bytes.now) }
+    {
+        if worded {
+            return self.take_node(alloc, bytes);
+        }
+        self.take_list(alloc, bytes)
+    }
+
     /// All nodes.
     fn into_batch(self) -> Result<Nodes, AllocError>
         ensures { IfOk result (λ nodes. nodes.items ≡ batch_of self) }
@@ -125,26 +135,20 @@ impl Building {
     }
 }
 
-/// So many nodes, each behind its word.
-fn nodes_at(alloc: Global, count: u32, bytes: &[u8]) -> Result<(Building, &[u8]), Fault>
-    ensures { Gives (λ x. (x.0, x.1.now)) result (many_at node_at count nothing bytes.now) }
+/// So many nodes, each behind its word or all of one word.
+fn many_at(
+    alloc: Global,
+    worded: bool,
+    count: u32,
+    bytes: &[u8],
+) -> Result<(Building, &[u8]), Fault>
+    ensures { Gives (λ x. (x.0, x.1.now)) result
+        (many_at (one_at worded) count nothing bytes.now) }
 {
     let mut building = Building::new(alloc);
     let mut rest = bytes;
     for _ in 0..count {
-        rest = building.take_node(alloc, rest)?;
-    }
-    Ok((building, rest))
-}
-
-/// So many nodes of one word.
-fn more_at(alloc: Global, count: u32, bytes: &[u8]) -> Result<(Building, &[u8]), Fault>
-    ensures { Gives (λ x. (x.0, x.1.now)) result (many_at more_at count nothing bytes.now) }
-{
-    let mut building = Building::new(alloc);
-    let mut rest = bytes;
-    for _ in 0..count {
-        rest = building.take_list(alloc, rest)?;
+        rest = building.take(alloc, worded, rest)?;
     }
     Ok((building, rest))
 }
@@ -154,7 +158,7 @@ fn more_at(alloc: Global, count: u32, bytes: &[u8]) -> Result<(Building, &[u8]),
 pub(crate) fn batch_at(alloc: Global, count: u32, bytes: &[u8]) -> Result<(Nodes, &[u8]), Fault>
     ensures { Gives (λ x. (x.0.items, x.1.now)) result (batch_at count bytes.now) }
 {
-    let (building, rest) = nodes_at(alloc, count, bytes)?;
+    let (building, rest) = many_at(alloc, true, count, bytes)?;
     Ok((building.into_batch()?, rest))
 }
 
@@ -163,6 +167,6 @@ pub(crate) fn batch_at(alloc: Global, count: u32, bytes: &[u8]) -> Result<(Nodes
 pub(crate) fn lists_at(alloc: Global, count: u32, bytes: &[u8]) -> Result<(Vec<Node>, &[u8]), Fault>
     ensures { Gives (λ x. (x.0.items, x.1.now)) result (lists_at count bytes.now) }
 {
-    let (building, rest) = more_at(alloc, count, bytes)?;
+    let (building, rest) = many_at(alloc, false, count, bytes)?;
     Ok((building.into_nodes(), rest))
 }

@@ -1,7 +1,0 @@
-use Rattle.std.proofs.Common.{◌≡◌, ◌-◌}
-use Rattle.fts_ixcodec.specs.Building.{nothing}
-use Rattle.fts_ixcodec.specs.Reading.{more_at, many_at}
-use Rattle.fts_ixcodec.proofs.building.more_at.Given as goal
-
-abbrev pub invariant-loop : goal.invariant-loop
-invariant-loop l = many_at more_at (l.count - l.counter) l.building l.rest ≡ many_at more_at l.count nothing l.bytes
