@@ -5,7 +5,6 @@ use Rattle.std.proofs.lemmas.List.Elements.{All-push}
 use Rattle.std.specs.Prelude.{fold}
 use Rattle.fts_types.specs.declared.settings.Settings.{Settings}
 use Rattle.fts_types.specs.Rules.{rules_of}
-use Rattle.fts_words.specs.Indexed.{Rules}
 use Rattle.fts_commits.specs.Commit.{Commit, Rows, no_rows, rows_after, replay}
 use Rattle.fts_commits.specs.Turn.{Turn, AreTurns, rows_by, turn_between, turns_from}
 use Rattle.fts_entries.specs.Entry.{Batch, IndexEntry, IndexState, sealed, index_of, after_entry}
@@ -53,13 +52,11 @@ state_fits state are has = entries_fit (turns_of state) state.entries are has.co
 pub right_stays : (state : State) (commit : Commit) → AreKnown state.commits → AreKnown (state.commits ++ commit ∷ []) → HasEntries state → IsRight state
     → IsRight (with_commits state (commit ∷ []))
 right_stays state commit known knows has right =
-    subst (λ (s : IndexState). IsExact rules (replay commits).list (turns_from no_rows commits) s) (sym (index_stays state (commit ∷ []) has))
-    (subst (λ (turns : List Turn). IsExact rules (replay commits).list turns s) (sym grown)
-    (subst (λ (rows : Rows). IsExact rules rows.list (turns ++ turn ∷ []) s) led
-    (one_exact turns turn s (state_fits state known.ascend has) are rules (replay state.commits) right)))
+    subst (λ (s : IndexState). IsExact (rules_of state.settings) (replay commits).list (turns_from no_rows commits) s) (sym (index_stays state (commit ∷ []) has))
+    (subst (λ (turns : List Turn). IsExact (rules_of state.settings) (replay commits).list turns s) (sym grown)
+    (subst (λ (rows : Rows). IsExact (rules_of state.settings) rows.list (turns ++ turn ∷ []) s) led
+    (one_exact turns turn s (state_fits state known.ascend has) are (rules_of state.settings) (replay state.commits) right)))
   where
-    rules : Rules
-    rules = rules_of state.settings
     s : IndexState
     s = index_state state
     turns : List Turn

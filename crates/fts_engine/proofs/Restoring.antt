@@ -1,0 +1,303 @@
+-- What is known of the two logs when some commits and some entries were read.
+use Rattle.std.proofs.Common.{◌≡◌, ℕ, ◌+◌, ◌<◌, ◌≤◌, List, [], ◌∷◌, ◌++◌, refl, ap, subst, sym, ◌∙◌, length, arith, map, take, drop, get_or, append_assoc, append-nil, length-append}
+use Rattle.std.proofs.lemmas.List.{take_all, take_more, take-append-le, take-append-drop, drop-append-le, drop_all, length-take, length-take-le, length-drop, length-map, get_or-take, map-append}
+use Rattle.std.proofs.lemmas.List.Elements.{All-head, All-tail, All-push}
+use Rattle.std.specs.Prelude.{All, Ok, fold}
+use Rattle.fts_types.specs.declared.settings.Settings.{Settings}
+use Rattle.fts_types.specs.Rules.{rules_of}
+use Rattle.fts_types.specs.Limits.{standard_limits}
+use Rattle.fts_commits.specs.Commit.{Commit, Rows, no_rows, after_commit, rows_after, replay}
+use Rattle.fts_commits.specs.Turn.{Turn, turns_from}
+use Rattle.fts_rowcodec.specs.Payload.{commit_payload, IsWritten}
+use Rattle.fts_ixcodec.specs.Payload.{entry_payload, IsEntry}
+use Rattle.fts_ixcodec.proofs.Entries.{payload_has_one_entry}
+use Rattle.fts_entries.specs.Entry.{Batch, IndexEntry, IndexState, sealed, begun, worked, finished, index_of, after_entry}
+use Rattle.fts_entries.specs.Coming.{CanSeal, CanCome, AreEntries}
+use Rattle.fts_entries.proofs.Commits.{same_index}
+use Rattle.fts_entries.proofs.Coming.{entries_more, entries_through, come_behind, come_last, index_behind, seal_less}
+use Rattle.fts_steps.specs.State.{State, payloads, index_payloads, turns_of, index_state, with_commits, with_entries, IsSound, HasEntries}
+use Rattle.fts_steps.specs.Fault.{AreOfIndex}
+use Rattle.fts_steps.proofs.Growing.{turns_more, entries_stay, index_stays, none_stand}
+use Rattle.fts_engine.specs.declared.restoring.Restoring.{Restoring}
+use Rattle.fts_engine.specs.declared.kept.Kept.{Kept}
+use Rattle.fts_engine.specs.Kept.{kept_settings, kept_rows, kept_limits, IsIndexed}
+use Rattle.fts_engine.specs.Restoring.{restoring_settings, restoring_rows, restoring_commits, IsCovering, IsInstalled}
+use Rattle.fts_engine.specs.Reading.{IsWrongPayload}
+use Rattle.fts_engine.specs.Loading.{AreLoaded, IsRestored, StillRestored, IsLoaded, NoneCanSeal, AreSound}
+use Rattle.fts_engine.proofs.Loading.{one_more, front_of, within_all}
+use Rattle.fts_engine.proofs.Indexing.{turns_count}
+
+-- entries with the same payloads are the same
+one_entries : (a b : List IndexEntry) → All IsEntry a → All IsEntry b → map entry_payload a ≡ map entry_payload b → a ≡ b
+one_entries [] [] is is' same = refl
+one_entries [] (entry ∷ b) is is' same = absurd (let e = same in cc)
+one_entries (entry ∷ a) [] is is' same = absurd (let e = same in cc)
+one_entries (entry ∷ a) (other ∷ b) is is' same =
+    let head : entry ≡ other = payload_has_one_entry entry other (All-head IsEntry entry a is) (All-head IsEntry other b is') (ap (λ (l : List (List ℕ)). get_or l 0 []) same) in
+    let tail : a ≡ b = one_entries a b (All-tail IsEntry entry a is) (All-tail IsEntry other b is') (ap (drop 1) same) in
+    ap (λ (e : IndexEntry). e ∷ a) head ∙ ap (λ (l : List IndexEntry). other ∷ l) tail
+
+-- a list whose payloads are some and one more is a list and one more
+record IsPushed (whole : List IndexEntry) (front : List IndexEntry) (payload : List ℕ) : Type 0 where
+  entry : IndexEntry
+  is : whole ≡ front ++ entry ∷ []
+  written : IsEntry entry
+  spelled : entry_payload entry ≡ payload
+
+pushed : (whole front : List IndexEntry) (payload : List ℕ) → All IsEntry whole → All IsEntry front → map entry_payload whole ≡ map entry_payload front ++ payload ∷ []
+    → IsPushed whole front payload
+pushed [] front payload is is' same = absurd (omega (arith, ap length same, length-append (map entry_payload front) (payload ∷ [])))
+pushed (entry ∷ []) [] payload is is' same =
+    record { entry = entry; is = refl; written = All-head IsEntry entry [] is; spelled = ap (λ (l : List (List ℕ)). get_or l 0 []) same }
+pushed (entry ∷ (more ∷ whole)) [] payload is is' same = absurd (let e = same in cc)
+pushed (entry ∷ whole) (other ∷ front) payload is is' same =
+    let tail = pushed whole front payload (All-tail IsEntry entry whole is) (All-tail IsEntry other front is') (ap (drop 1) same) in
+    let head : entry ≡ other = payload_has_one_entry entry other (All-head IsEntry entry whole is) (All-head IsEntry other front is') (ap (λ (l : List (List ℕ)). get_or l 0 []) same) in
+    record {
+      entry = tail.entry;
+      is = ap (λ (e : IndexEntry). e ∷ whole) head ∙ ap (λ (l : List IndexEntry). other ∷ l) tail.is;
+      written = tail.written;
+      spelled = tail.spelled;
+    }
+
+-- nothing but the settings was read
+pub first_restored : (all read : List (List ℕ)) (r : Restoring) (loaded : AreLoaded all (restoring_commits r + 1) (restoring_settings r) (restoring_rows r))
+    → loaded.state.commits ≡ [] → loaded.state.entries ≡ [] → IsCovering r [] (index_state (record { settings = loaded.state.settings; commits = []; entries = [] }))
+    → IsRestored all read 0 r
+first_restored all read r loaded commits entries covers = record {
+  of_rows = record { state = none; sound = again; same = loaded.same; loaded = same ∙ loaded.loaded; count = count; kept = loaded.kept ∙ ap replay commits };
+  entries = none_stand loaded.state.settings [];
+  taken = refl;
+  covers = covers;
+}
+  where
+    none : State
+    none = record { settings = loaded.state.settings; commits = []; entries = [] }
+    same : payloads none ≡ payloads loaded.state
+    same = ap (λ (cs : List Commit). payloads (record { settings = loaded.state.settings; commits = cs; entries = [] })) (sym commits)
+    count : 0 + 1 ≡ restoring_commits r + 1
+    count = let n = loaded.count in omega (arith, n, ap length commits)
+    again : IsSound none
+    again = record { settings = loaded.sound.settings; written = λ k d less. absurd (omega arith); accepted = tt }
+
+module _ (all read : List (List ℕ)) (j : ℕ) (old new : Restoring) (was : IsRestored all read j old) where
+  state : State
+  state = was.of_rows.state
+
+  -- one commit more was read
+  pub covered_more : restoring_commits old + 1 < length all → (commit : Commit) → IsWritten (length (restoring_settings old).columns) commit
+      → commit_payload commit ≡ get_or all (restoring_commits old + 1) [] → after_commit standard_limits commit (restoring_rows old) ≡ Ok (restoring_rows new)
+      → restoring_settings new ≡ restoring_settings old → restoring_commits new ≡ restoring_commits old + 1
+      → ((commits : List Commit) (s : IndexState) → IsCovering old commits s → IsCovering new (commits ++ commit ∷ []) s) → StillRestored all read j was new
+  covered_more within commit written spelled ok settings count covers =
+      let more = one_more all (restoring_commits old + 1) (restoring_settings old) (restoring_rows old) was.of_rows within commit (restoring_rows new) written spelled ok in
+      let grown = index_stays state (commit ∷ []) was.entries in
+      record {
+        is = record {
+          of_rows = record {
+            state = with_commits state (commit ∷ []);
+            sound = more.sound;
+            same = more.same ∙ sym settings;
+            loaded = more.loaded ∙ ap (λ (n : ℕ). take (n + 1) all) (sym count);
+            count = more.count ∙ ap (λ (n : ℕ). n + 1) (sym count);
+            kept = more.kept;
+          };
+          entries = entries_stay state (commit ∷ []) was.entries;
+          taken = was.taken;
+          covers = subst (λ (s : IndexState). IsCovering new (state.commits ++ commit ∷ []) s) (sym grown) (covers state.commits (index_state state) was.covers);
+        };
+        state = grown;
+      }
+
+  -- one entry more was installed
+  pub installed_more : (through synced : ℕ) (batch : Batch) → restoring_rows new ≡ restoring_rows old → restoring_settings new ≡ restoring_settings old
+      → restoring_commits new ≡ restoring_commits old → IsEntry (sealed through synced batch)
+      → take (j + 1) read ≡ take j read ++ entry_payload (sealed through synced batch) ∷ []
+      → IsInstalled state.commits (index_state state) through synced batch new → IsRestored all read (j + 1) new
+  installed_more through synced batch rows settings count written taken installed =
+      let entry = sealed through synced batch in
+      record {
+        of_rows = record {
+          state = with_entries state (entry ∷ []);
+          sound = record { settings = was.of_rows.sound.settings; written = was.of_rows.sound.written; accepted = was.of_rows.sound.accepted };
+          same = was.of_rows.same ∙ sym settings;
+          loaded = was.of_rows.loaded ∙ ap (λ (n : ℕ). take (n + 1) all) (sym count);
+          count = was.of_rows.count ∙ ap (λ (n : ℕ). n + 1) (sym count);
+          kept = rows ∙ was.of_rows.kept;
+        };
+        entries = record {
+          written = All-push IsEntry state.entries entry was.entries.written written;
+          come = come_behind (turns_of state) state.entries entry was.entries.come installed.can;
+        };
+        taken = map-append entry_payload state.entries (entry ∷ []) ∙ ap (λ (front : List (List ℕ)). front ++ entry_payload entry ∷ []) was.taken ∙ sym taken;
+        covers = subst (λ (s : IndexState). IsCovering new state.commits s) (sym (index_behind (turns_of state) state.entries entry)) installed.covers;
+      }
+
+  -- it holds what it held
+  pub restored_still : restoring_rows new ≡ restoring_rows old → restoring_settings new ≡ restoring_settings old → restoring_commits new ≡ restoring_commits old
+      → ((commits : List Commit) (s : IndexState) → IsCovering old commits s → IsCovering new commits s) → IsRestored all read j new
+  restored_still rows settings count covers = record {
+    of_rows = record {
+      state = state;
+      sound = was.of_rows.sound;
+      same = was.of_rows.same ∙ sym settings;
+      loaded = was.of_rows.loaded ∙ ap (λ (n : ℕ). take (n + 1) all) (sym count);
+      count = was.of_rows.count ∙ ap (λ (n : ℕ). n + 1) (sym count);
+      kept = rows ∙ was.of_rows.kept;
+    };
+    entries = was.entries;
+    taken = was.taken;
+    covers = covers state.commits (index_state state) was.covers;
+  }
+
+-- restored and still so is still so
+pub still_more : (all read : List (List ℕ)) (j : ℕ) (old mid new : Restoring) (was : IsRestored all read j old) (first : StillRestored all read j was mid)
+    → StillRestored all read j first.is new → StillRestored all read j was new
+still_more all read j old mid new was first then_ = record { is = then_.is; state = then_.state ∙ first.state }
+
+pub still_itself : (all read : List (List ℕ)) (j : ℕ) (old : Restoring) (was : IsRestored all read j old) → StillRestored all read j was old
+still_itself all read j old was = record { is = was; state = refl }
+
+module _ (all read : List (List ℕ)) (j : ℕ) (r : Restoring) (l : IsRestored all read j r) where
+  here : State
+  here = l.of_rows.state
+
+  turns_here : List Turn
+  turns_here = turns_of here
+
+  -- over the commits of a whole database those that were read are the first
+  record IsFront (whole : State) : Type 0 where
+    more : List Turn
+    turns : turns_of whole ≡ turns_here ++ more
+    left : index_of (turns_of whole) here.entries ≡ index_state here
+    entries : HasEntries (record whole { entries = here.entries })
+
+  front_turns : (whole : State) → IsSound whole → payloads whole ≡ all → IsFront whole
+  front_turns whole sound is =
+      let front = front_of all (restoring_commits r + 1) (restoring_settings r) (restoring_rows r) l.of_rows whole sound is in
+      let more = turns_from (replay here.commits) front.0 in
+      let grown : turns_of whole ≡ turns_here ++ more = ap (turns_from no_rows) front.1 ∙ turns_more no_rows here.commits front.0 in
+      record {
+        more = more;
+        turns = grown;
+        left = ap (λ (turns : List Turn). index_of turns here.entries) grown ∙ same_index turns_here more here.entries (entries_through turns_here here.entries l.entries.come);
+        entries = record {
+          written = l.entries.written;
+          come = subst (λ (turns : List Turn). AreEntries turns here.entries) (sym grown) (entries_more turns_here more here.entries l.entries.come);
+        };
+      }
+
+  -- what was read of the index log is a database's, whatever comes
+  pub before_is : (whole : State) → IsSound whole → payloads whole ≡ all → AreOfIndex whole (take j read)
+  before_is whole sound is = record { index = here.entries; sound = (front_turns whole sound is).entries; same = l.taken }
+
+  module _ (within : j < length read) where
+    -- the next entry of such a database, if it has one there
+    record ComesNext (whole : State) : Type 0 where
+      entry : IndexEntry
+      written : IsEntry entry
+      spelled : entry_payload entry ≡ get_or read j []
+      come : CanCome (turns_of whole) (index_state here) entry
+
+    comes_next : (whole : State) → IsSound whole → payloads whole ≡ all → AreOfIndex whole (take (j + 1) read) → ComesNext whole
+    comes_next whole sound is of_index =
+        let front = front_turns whole sound is in
+        let parted : map entry_payload of_index.index ≡ map entry_payload here.entries ++ get_or read j [] ∷ [] =
+        of_index.same ∙ take_more read j [] within ∙ ap (λ (front : List (List ℕ)). front ++ get_or read j [] ∷ []) (sym l.taken) in
+        let last = pushed of_index.index here.entries (get_or read j []) of_index.sound.written l.entries.written parted in
+        let come = (come_last (turns_of whole) here.entries last.entry (subst (AreEntries (turns_of whole)) last.is of_index.sound.come)).1 in
+        record {
+          entry = last.entry;
+          written = last.written;
+          spelled = last.spelled;
+          come = subst (λ (s : IndexState). CanCome (turns_of whole) s last.entry) front.left come;
+        }
+
+    -- a payload that is no entry's
+    pub wrong_payload : ((entry : IndexEntry) → IsEntry entry → get_or read j [] ≡ entry_payload entry → ⊥) → IsWrongPayload all read j
+    wrong_payload none = record {
+      before = before_is;
+      wrong = λ whole sound is of_index.
+          let next = comes_next whole sound is of_index in
+          none next.entry next.written (sym next.spelled);
+    }
+
+    -- an entry that can't come
+    pub wrong_entry : (entry : IndexEntry) → IsEntry entry → get_or read j [] ≡ entry_payload entry
+        → ((whole : State) → IsSound whole → payloads whole ≡ all → CanCome (turns_of whole) (index_state here) entry → ⊥) → IsWrongPayload all read j
+    wrong_entry entry written spelled none = record {
+      before = before_is;
+      wrong = λ whole sound is of_index.
+          let next = comes_next whole sound is of_index in
+          let same : next.entry ≡ entry = payload_has_one_entry next.entry entry next.written written (next.spelled ∙ spelled) in
+          none whole sound is (subst (λ (e : IndexEntry). CanCome (turns_of whole) (index_state here) e) same next.come);
+    }
+
+  -- a batch that flushes no commit more, or more than there are
+  pub none_later : (through synced : ℕ) (batch : Batch) → through ≤ (index_state here).flushed → NoneCanSeal all (index_state here) through synced batch
+  none_later through synced batch most whole sound is can = let later = can.later in omega (arith, later, most)
+
+  pub none_made : (through synced : ℕ) (batch : Batch) → length all ≤ through → NoneCanSeal all (index_state here) through synced batch
+  none_made through synced batch many whole sound is can =
+      let made = can.made in
+      omega (arith, made, many, turns_count no_rows whole.commits, ap length is, length-map whole.commits commit_payload)
+
+  -- one that can't come over the commits that were read, of which it covers no more
+  pub none_here : (through synced : ℕ) (batch : Batch) → through ≤ length here.commits → (CanSeal turns_here (index_state here) through synced batch → ⊥)
+      → NoneCanSeal all (index_state here) through synced batch
+  none_here through synced batch most none whole sound is can =
+      let front = front_turns whole sound is in
+      none (seal_less turns_here front.more (index_state here) through synced batch (omega (arith, most, turns_count no_rows here.commits))
+      (subst (λ (turns : List Turn). CanSeal turns (index_state here) through synced batch) front.turns can))
+
+-- all entries were read
+pub to_kept : (all read : List (List ℕ)) (r : Restoring) (l : IsRestored all read (length read) r) (kept : Kept) → kept_rows kept ≡ restoring_rows r → kept_settings kept ≡ restoring_settings r
+    → kept_limits kept ≡ standard_limits → ((commits : List Commit) (s : IndexState) → IsCovering r commits s → IsIndexed kept commits s)
+    → IsLoaded all (restoring_commits r + 1) read kept
+to_kept all read r l kept rows settings limits indexed = record {
+  of_rows = record {
+    state = l.of_rows.state;
+    sound = l.of_rows.sound;
+    same = l.of_rows.same ∙ sym settings;
+    loaded = l.of_rows.loaded;
+    count = l.of_rows.count;
+    kept = rows ∙ l.of_rows.kept;
+  };
+  limits = limits;
+  entries = l.entries;
+  taken = l.taken ∙ take_all (length read) read (omega arith);
+  index = indexed l.of_rows.state.commits (index_state l.of_rows.state) l.covers;
+}
+
+-- one commit more is loaded, with its words
+pub loaded_more : (all read : List (List ℕ)) (k : ℕ) (kept new : Kept) (l : IsLoaded all k read kept) → k < length all → (commit : Commit)
+    → IsWritten (length (kept_settings kept).columns) commit → commit_payload commit ≡ get_or all k [] → after_commit (kept_limits kept) commit (kept_rows kept) ≡ Ok (kept_rows new)
+    → kept_settings new ≡ kept_settings kept → kept_limits new ≡ kept_limits kept
+    → ((commits : List Commit) (s : IndexState) → IsIndexed kept commits s → IsIndexed new (commits ++ commit ∷ []) s) → IsLoaded all (k + 1) read new
+loaded_more all read k kept new l within commit written spelled ok settings limits indexed =
+    let state = l.of_rows.state in
+    let more = one_more all k (kept_settings kept) (kept_rows kept) l.of_rows within commit (kept_rows new) written spelled
+    (ap (λ limits. after_commit limits commit (kept_rows kept)) (sym l.limits) ∙ ok) in
+    record {
+      of_rows = record {
+        state = with_commits state (commit ∷ []);
+        sound = more.sound;
+        same = more.same ∙ sym settings;
+        loaded = more.loaded;
+        count = more.count;
+        kept = more.kept;
+      };
+      limits = limits ∙ l.limits;
+      entries = entries_stay state (commit ∷ []) l.entries;
+      taken = l.taken;
+      index = subst (λ (s : IndexState). IsIndexed new (state.commits ++ commit ∷ []) s) (sym (index_stays state (commit ∷ []) l.entries))
+          (indexed state.commits (index_state state) l.index);
+    }
+
+-- all commits were read
+pub all_sound : (all read : List (List ℕ)) (j : ℕ) (r : Restoring) (l : IsRestored all read j r) → restoring_commits r + 1 ≡ length all → AreSound all
+all_sound all read j r l whole = record {
+  state = l.of_rows.state;
+  sound = l.of_rows.sound;
+  same = l.of_rows.loaded ∙ ap (λ (n : ℕ). take n all) whole ∙ take_all (length all) all (omega arith);
+}
