@@ -11,6 +11,7 @@ pub mod Gathering
 pub mod Commits
 pub mod Syncing
 pub mod Restoring
+pub mod Gapless
 pub mod Walks
 pub mod Listings
 pub mod Sizes

@@ -161,7 +161,7 @@ at_has (x ∷ xs) id there =
     (λ (later : has xs id ≡ true). (let c = at_has xs id later in let more : Contains (x ∷ xs) id = (suc c.0, omega (arith, c.1), c.2) in more))
     (or_cases (nat_eq id x) (has xs id) there)
 
-same_truth : (a b : Bool) → (a ≡ true → b ≡ true) → (b ≡ true → a ≡ true) → a ≡ b
+pub same_truth : (a b : Bool) → (a ≡ true → b ≡ true) → (b ≡ true → a ≡ true) → a ≡ b
 same_truth true b f g = sym (f refl)
 same_truth false true f g = g refl
 same_truth false false f g = refl

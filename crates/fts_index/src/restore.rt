@@ -1,6 +1,6 @@
 //! Batches that are read again from an index log.
 ghost use Rattle.std.specs.Prelude.{◌≡◌, ◌≢◌, ◌+◌, ◌≤◌, ◌∷◌, ◌++◌, [], ℕ, List, length, map};
-ghost use Rattle.std.specs.Prelude.{IfOk, IsErr, IsErrOf, OnOk, OnErr};
+ghost use Rattle.std.specs.Prelude.{◌&&◌, nat_le, IfOk, IsErr, IsErrOf, OnOk, OnErr};
 ghost use Rattle.std.specs.List.{list_all};
 ghost use Rattle.std.specs.List.Sorted.{IsStrictlySortedBy};
 ghost use Rattle.std.specs.Map.{keys_of};
@@ -123,11 +123,29 @@ fn begins_above(last: DocId, nodes: &[Node]) -> bool
     }
 }
 
-/// Whether an id is among those that were born.
+/// Whether an id lies between two others, or is one of them.
+fn is_between(first: DocId, last: DocId, id: DocId) -> bool
+    ensures { result ≡ (nat_le first id && nat_le id last) }
+{
+    if id < first {
+        return false;
+    }
+    id <= last
+}
+
+/// Whether an id is among those that were born. They mostly have no gap, and then it takes constant
+/// time.
 fn is_born(births: &[DocId], id: DocId) -> bool
     requires { Ascend births.now }
     ensures { result ≡ has births.now id }
 {
+    if births.is_empty() {
+        return false;
+    }
+    let (first, last) = (births[0], births[births.len() - 1]);
+    if last.saturating_sub(first) == births.len() as u64 - 1 {
+        return is_between(first, last, id);
+    }
     births.binary_search(&id).is_ok()
 }
 
