@@ -4,7 +4,10 @@ use Rattle.std.specs.Prelude.{codes}
 use Rattle.std.specs.List.{All}
 use Rattle.std.proofs.lemmas.Bool.{false≢true}
 use Rattle.std.proofs.lemmas.List.Elements.{All-head, All-from_recursion}
-use Rattle.fts_words.specs.Indexed.{Rules}
+use Rattle.fts_words.specs.Byte.{word_at, apostrophe_at}
+use Rattle.fts_words.specs.Run.{runs_from}
+use Rattle.fts_words.specs.RawWords.{in_word}
+use Rattle.fts_words.specs.Indexed.{Rules, placed_words}
 use Rattle.fts_types.specs.Row.{Row}
 use Rattle.fts_commits.specs.Turn.{Turn}
 use Rattle.fts_ids.specs.Ids.{has}
@@ -103,10 +106,12 @@ pies = record { key = 9; doc = 9; texts = codes "Pie pie" ∷ codes "apple of" �
 
 -- each indexed word once, in byte order
 words_once : words_of rules (pies ∷ row 6 ∷ []) ≡ codes "apple" ∷ codes "pie" ∷ []
+unfolding placed_words runs_from in_word word_at apostrophe_at
 words_once = refl
 
 -- the next batch has who is alive
 next_is : next_entry rules 1 four (index_of four (first ∷ second ∷ [])) ≡ sealed 4 6 ((codes "apple", node 6 ∷ []) ∷ [])
+unfolding placed_words runs_from in_word word_at
 next_is = refl
 
 -- and none of the words whose documents died

@@ -1,5 +1,5 @@
 -- A view lists one thing.
-use Rattle.std.proofs.Common.{◌≡◌, ℕ, List, refl, sym, ap, ◌∙◌}
+use Rattle.std.proofs.Common.{◌≡◌, ℕ, List, [], refl, sym, ap, ◌∙◌}
 use Rattle.fts_types.specs.declared.settings.Settings.{Settings}
 use Rattle.fts_ids.proofs.Ascending.{same_ids}
 use Rattle.fts_commits.specs.Turn.{Turn}
