@@ -39,3 +39,11 @@ counts_behind device error a a' b b' same counts = subst (λ (n : ℕ). CountsFa
   calm = λ no. ap (λ (n : ℕ). a + n) (counts.calm (λ is. no (ap (open_error_of device) is)));
   never_falls = omega (arith, counts.never_falls);
 })
+
+-- the causes of a log's reading are those of the opening
+pub counts_on : (device : Device) (error : LogError) (a a' : ℕ) → CountsFault (error ≡ DiskFault) a a' → CountsFault (open_error_of device error ≡ opening.DiskFault) a a'
+counts_on device error a a' counts = record {
+  rose = λ is. counts.rose (of_fault device error is);
+  calm = λ no. counts.calm (λ is. no (ap (open_error_of device) is));
+  never_falls = counts.never_falls;
+}

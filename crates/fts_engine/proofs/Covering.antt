@@ -74,7 +74,7 @@ first_restored all read r loaded commits entries covers = record {
     again = record { settings = loaded.sound.settings; written = λ k d less. absurd (omega arith); accepted = tt }
 
 module _ (all read : List (List ℕ)) (j : ℕ) (old new : Restoring) (was : IsRestored all read j old) where
-  state : State
+  abbrev pub state : State
   state = was.of_rows.state
 
   -- one commit more was read
@@ -152,10 +152,10 @@ pub still_itself : (all read : List (List ℕ)) (j : ℕ) (old : Restoring) (was
 still_itself all read j old was = record { is = was; state = refl }
 
 module _ (all read : List (List ℕ)) (j : ℕ) (r : Restoring) (l : IsRestored all read j r) where
-  here : State
+  abbrev pub here : State
   here = l.of_rows.state
 
-  turns_here : List Turn
+  abbrev pub turns_here : List Turn
   turns_here = turns_of here
 
   -- over the commits of a whole database those that were read are the first

@@ -150,7 +150,7 @@ module _ (all : List (List ℕ)) (k : ℕ) (settings : Settings) (rows : Rows) (
         (subst (λ (rows : Rows). IsNoPlan (after_commit standard_limits commit rows) error) l.kept refused) ok
 
     -- one commit more is loaded
-    pub one_more : (commit : Commit) (rows' : Rows) → IsWritten (length settings.columns) commit → commit_payload commit ≡ get_or all k []
+    abbrev pub one_more : (commit : Commit) (rows' : Rows) → IsWritten (length settings.columns) commit → commit_payload commit ≡ get_or all k []
         → after_commit standard_limits commit rows ≡ Ok rows' → AreLoaded all (k + 1) settings rows'
     one_more commit rows' written spelled ok =
         let accepted : after_commit standard_limits commit (replay l.state.commits) ≡ Ok rows' = ap (λ (rows : Rows). after_commit standard_limits commit rows) (sym l.kept) ∙ ok in

@@ -95,7 +95,10 @@ fn load_rest<D: Disk>(
     ensures faults { CountsFault (IsErrOf result OpenError.DiskFault)
         (D.faults (records_device rows.old)) (D.faults (records_device rows.new)) }
 {
-    let next = restoring.commits().saturating_add(1);
+    let next = match restoring.commits().checked_add(1) {
+        Some(next) => next,
+        None => return Err(OpenError::NoMemory),
+    };
     let mut kept = restoring.keep();
     match load_commits(alloc, rows, next, &mut kept) {
         Ok(()) => Ok(kept),
@@ -271,7 +274,10 @@ fn restore_batch<D: Disk>(
     ensures faults { CountsFault (IsErrOf result LogError.DiskFault)
         (D.faults (records_device rows.old)) (D.faults (records_device rows.new)) }
 {
-    if through <= restoring.flushed() || through >= rows.count() {
+    if through <= restoring.flushed() {
+        return Ok(false);
+    }
+    if through >= rows.count() {
         return Ok(false);
     }
     match cover_commits(alloc, rows, through, restoring) {

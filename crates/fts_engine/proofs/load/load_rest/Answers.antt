@@ -1,0 +1,42 @@
+use Rattle.std.proofs.Common.{ℕ, sym, subst, ap, ◌∙◌}
+use Rattle.std.specs.Prelude.{Err}
+use Rattle.fts_faults.specs.Count.{CountsFault}
+use Rattle.fts_log.specs.Records.{records_device}
+use Rattle.fts_engine.specs.Loading.{IsLoaded}
+use Rattle.fts_engine.specs.Opening.{open_error_of}
+use Rattle.fts_engine.specs.declared.error.Device.TheVariants.{Rows}
+use Rattle.fts_engine.specs.declared.error.OpenError.{OpenError}
+use Rattle.fts_engine.specs.declared.error.OpenError.TheVariants as opening
+use Rattle.fts_engine.proofs.Causes.{of_damage, of_not_created, counts_on}
+use Rattle.fts_engine.proofs.Covering.{to_kept}
+use Rattle.fts_engine.proofs.load.load_rest.Goals as goal
+
+pub returns-in-Ok-clause-loaded : goal.returns-in-Ok-clause-loaded
+returns-in-Ok-clause-loaded g c told all read holds was =
+    let kept = c.keep-kept.result in
+    let ensured = c.keep-kept.ensures in
+    c.in-Ok.ensures.loaded told all read holds
+    (subst (λ (n : ℕ). IsLoaded all n read kept) (ap (λ (n : ℕ). n + 1) (sym c.commits.ensures) ∙ sym c.in-Some.ensures.1)
+    (to_kept all read c.args.restoring was kept ensured.rows ensured.settings ensured.limits ensured.index))
+
+pub returns-in-Ok-clause-faults : goal.returns-in-Ok-clause-faults
+returns-in-Ok-clause-faults g c = ?
+
+pub returns-in-Err-clause-damaged : goal.returns-in-Err-clause-damaged
+returns-in-Err-clause-damaged g c device file at e =
+    let damage = of_damage Rows device c.in-Err.error file at (sym c.on.ensures ∙ (let same = e in cc)) in (
+      sym damage.0,
+      damage.1,
+      λ told all read holds was.
+          let kept = c.keep-kept.result in
+          let ensured = c.keep-kept.ensures in
+          c.in-Err.ensures.damaged at (ap Err damage.2) told all read holds
+          (subst (λ (n : ℕ). IsLoaded all n read kept) (ap (λ (n : ℕ). n + 1) (sym c.commits.ensures) ∙ sym c.in-Some.ensures.1)
+          (to_kept all read c.args.restoring was kept ensured.rows ensured.settings ensured.limits ensured.index)),
+    )
+
+pub returns-in-Err-clause-created : goal.returns-in-Err-clause-created
+returns-in-Err-clause-created g c e = c.in-Err.ensures.created (ap Err (of_not_created Rows c.in-Err.error (sym c.on.ensures ∙ (let same = e in cc))))
+
+pub returns-in-Err-clause-faults : goal.returns-in-Err-clause-faults
+returns-in-Err-clause-faults g c = ?
