@@ -3,12 +3,14 @@ ghost use Rattle.fts_types.specs.Rules.{rules_of};
 ghost use Rattle.fts_types.specs.Row.{row_of};
 ghost use Rattle.fts_index.specs.Births.{CanIndex, AreBirths};
 ghost use Rattle.fts_index.specs.Made.{IsMade};
+ghost use Rattle.fts_ilist.specs.Node.{NodesAfter};
+ghost use Rattle.fts_index.specs.Restore.{AreRead};
 
-use crate::Index;
-use fts_ilist::Node;
+use crate::{Covered, Index, RestoreError, SyncPlan};
+use fts_ilist::{Ilist, Node, Nodes, WordNodes};
 use fts_listing::{Listing, ListingKind};
 use fts_query::Leaf;
-use fts_types::{Names, Row, RowTexts, Settings, Texts};
+use fts_types::{Names, Row, RowTexts, Settings, Texts, Word};
 use std::alloc::Global;
 use std::process::Abort;
 use std::sync::Arc;
@@ -406,5 +408,215 @@ fn the_cache_counts_occurrences(rt: HostRuntime) -> Result<(), Fail> {
     assert_eq!(rt; index.cache_size(), 1_000);
     sync(&mut index, &settings, 1)?;
     assert_eq!(rt; index.cache_size(), 0);
+    Ok(())
+}
+
+// The next batch of one document, to be made.
+fn planned(index: &mut Index, settings: &Settings) -> Result<SyncPlan, Fail>
+    requires { (last : ℕ) × (dead : List ℕ) × IsMade (rules_of settings.now) last dead index.old }
+    ensures read { IfOk result (λ plan. AreRead plan.nodes.items) }
+    ensures made { OnOk result ((last : ℕ) (dead : List ℕ)
+        → IsMade (rules_of settings.now) last dead index.old
+        → IsMade (rules_of settings.now) last dead index.new) }
+{
+    match index.plan_sync(1)? {
+        Some(plan) => Ok(plan),
+        None => Err(Fail::from("no batch")),
+    }
+}
+
+// Whether an index takes a batch; or else the batch is bad.
+fn takes(
+    index: &mut Index,
+    covered: &mut Covered,
+    numbers: (u64, u64),
+    nodes: &[WordNodes],
+) -> Result<bool, Fail>
+    requires { AreRead nodes.now }
+{
+    match index.restore(covered, numbers.0, numbers.1, nodes) {
+        Ok(()) => Ok(true),
+        Err(RestoreError::Bad) => Ok(false),
+        Err(RestoreError::NoMemory) => Err(Fail::from("no memory")),
+    }
+}
+
+// Makes the next batch of an index, and restores it in another one.
+fn restore_next(
+    made: &mut Index,
+    settings: &Settings,
+    index: &mut Index,
+    covered: &mut Covered,
+) -> Result<bool, Fail>
+    requires { (last : ℕ) × (dead : List ℕ) × IsMade (rules_of settings.now) last dead made.old }
+    ensures { OnOk result ((last : ℕ) (dead : List ℕ)
+        → IsMade (rules_of settings.now) last dead made.old
+        → IsMade (rules_of settings.now) last dead made.new) }
+{
+    let plan = planned(made, settings)?;
+    let taken = takes(
+        index,
+        covered,
+        (plan.through(), plan.synced()),
+        plan.nodes(),
+    )?;
+    sync(made, settings, 1)?;
+    Ok(taken)
+}
+
+// A commit with the row 1, `apple`.
+fn note_first(rt: &impl Abort, alloc: Global, covered: &mut Covered) -> Result<(), Fail> {
+    let births = one_row(rt, alloc, 0, 1, b"apple")?;
+    covered.note(&births, &[], 1)?;
+    Ok(())
+}
+
+// One with the row 2, `apple pie`, in which these die.
+fn note_second(
+    rt: &impl Abort,
+    alloc: Global,
+    covered: &mut Covered,
+    dead: &[u64],
+) -> Result<(), Fail> {
+    let births = one_row(rt, alloc, 1, 2, b"apple pie")?;
+    covered.note(&births, dead, 2)?;
+    Ok(())
+}
+
+#[test]
+fn a_restored_index_is_the_one_that_was_made(rt: HostRuntime) -> Result<(), Fail> {
+    let alloc = rt.alloc();
+    let settings = settings(alloc);
+    let mut made = with_apples(&rt, alloc, &settings)?;
+    let mut index = Index::new(alloc);
+    let mut covered = Covered::new(alloc);
+    note_first(&rt, alloc, &mut covered)?;
+    assert!(rt; restore_next(&mut made, &settings, &mut index, &mut covered)?);
+    assert_eq!(rt; (index.flushed(), covered.count()), (1, 0));
+    note_second(&rt, alloc, &mut covered, &[])?;
+    assert!(rt; restore_next(&mut made, &settings, &mut index, &mut covered)?);
+    assert_eq!(rt; (index.flushed(), covered.count()), (2, 0));
+    let nodes: [(&[u8], usize, usize); 2] = [(b"apple", 2, 2), (b"pie", 1, 1)];
+    lists(&rt, alloc, &made, ListingKind::IndexTable, &nodes)?;
+    lists(&rt, alloc, &index, ListingKind::IndexTable, &nodes)?;
+    finds_apples(&rt, alloc, &index)?;
+    Ok(())
+}
+
+#[test]
+fn a_batch_of_other_numbers_is_refused(rt: HostRuntime) -> Result<(), Fail> {
+    let alloc = rt.alloc();
+    let settings = settings(alloc);
+    let mut made = with_apples(&rt, alloc, &settings)?;
+    let plan = planned(&mut made, &settings)?;
+    let mut index = Index::new(alloc);
+    let mut covered = Covered::new(alloc);
+    // No commit is covered.
+    assert!(rt; !takes(&mut index, &mut covered, (0, 0), plan.nodes())?);
+    note_first(&rt, alloc, &mut covered)?;
+    assert!(rt; !takes(&mut index, &mut covered, (2, 1), plan.nodes())?);
+    assert!(rt; !takes(&mut index, &mut covered, (1, 2), plan.nodes())?);
+    assert_eq!(rt; (index.flushed(), covered.count()), (0, 1));
+    lists(&rt, alloc, &index, ListingKind::IndexTable, &[])?;
+    assert!(rt; takes(&mut index, &mut covered, (1, 1), plan.nodes())?);
+    Ok(())
+}
+
+#[test]
+fn a_document_that_was_not_born_is_refused(rt: HostRuntime) -> Result<(), Fail> {
+    let alloc = rt.alloc();
+    let settings = settings(alloc);
+    let mut made = with_apples(&rt, alloc, &settings)?;
+    let plan = planned(&mut made, &settings)?;
+    let mut index = Index::new(alloc);
+    let mut covered = Covered::new(alloc);
+    note_second(&rt, alloc, &mut covered, &[])?;
+    assert!(rt; !takes(&mut index, &mut covered, (1, 2), plan.nodes())?);
+    let mut covered = Covered::new(alloc);
+    covered.note(&first_rows(&rt, alloc)?, &[], 4)?;
+    covered.note(&later_rows(&rt, alloc)?, &[], 900)?;
+    assert!(rt; !takes(&mut index, &mut covered, (2, 900), plan.nodes())?);
+    Ok(())
+}
+
+// The word `apple` with these nodes.
+fn apples(alloc: Global, nodes: Vec<Node>) -> Result<Nodes, Fail>
+    requires { NodesAfter 0 nodes.items }
+    ensures { IfOk result (λ words. AreRead words.items) }
+{
+    let word = Word::copied(alloc, b"apple")?;
+    let mut words = Vec::new(alloc);
+    words.push(WordNodes::new(word, nodes))?;
+    Ok(words)
+}
+
+// The documents 1 and 2 as two nodes, which packing makes one.
+fn apart(alloc: Global) -> Result<Vec<Node>, Fail>
+    ensures { IfOk result (λ nodes. NodesAfter 0 nodes.items) }
+{
+    let mut first = Ilist::new(alloc);
+    first.push(1, &[7])?;
+    let mut second = Ilist::new(alloc);
+    second.push(2, &[7])?;
+    let mut nodes = Vec::new(alloc);
+    nodes.push(Node::new(first))?;
+    nodes.push(Node::new(second))?;
+    Ok(nodes)
+}
+
+// The same documents as one node.
+fn together(alloc: Global) -> Result<Vec<Node>, Fail>
+    ensures { IfOk result (λ nodes. NodesAfter 0 nodes.items) }
+{
+    let mut both = Ilist::new(alloc);
+    both.push(1, &[7])?;
+    both.push(2, &[7])?;
+    let mut nodes = Vec::new(alloc);
+    nodes.push(Node::new(both))?;
+    Ok(nodes)
+}
+
+#[test]
+fn loose_nodes_are_refused(rt: HostRuntime) -> Result<(), Fail> {
+    let alloc = rt.alloc();
+    let mut index = Index::new(alloc);
+    let mut covered = Covered::new(alloc);
+    note_first(&rt, alloc, &mut covered)?;
+    note_second(&rt, alloc, &mut covered, &[])?;
+    let loose = apples(alloc, apart(alloc)?)?;
+    assert!(rt; !takes(&mut index, &mut covered, (2, 2), &loose)?);
+    let packed = apples(alloc, together(alloc)?)?;
+    assert!(rt; takes(&mut index, &mut covered, (2, 2), &packed)?);
+    // It can't come behind itself.
+    note_first(&rt, alloc, &mut covered)?;
+    note_second(&rt, alloc, &mut covered, &[])?;
+    assert!(rt; !takes(&mut index, &mut covered, (4, 2), &packed)?);
+    Ok(())
+}
+
+// The ids in DELETED and DELETED_CACHE are these.
+fn deleted(rt: &impl Abort, alloc: Global, index: &Index, expected: &[u64]) -> Result<(), Fail> {
+    let Listing::Ids { ids } = index.listing(&settings(alloc), ListingKind::Deleted)? else {
+        return Err(Fail::from("no ids"));
+    };
+    assert_eq!(rt; ids.as_slice(), expected);
+    Ok(())
+}
+
+// The row 2 is not: it dies in the commits that bear it.
+#[test]
+fn a_flushed_document_that_dies_is_deleted(rt: HostRuntime) -> Result<(), Fail> {
+    let alloc = rt.alloc();
+    let settings = settings(alloc);
+    let mut made = with_apples(&rt, alloc, &settings)?;
+    let mut index = Index::new(alloc);
+    let mut covered = Covered::new(alloc);
+    note_first(&rt, alloc, &mut covered)?;
+    assert!(rt; restore_next(&mut made, &settings, &mut index, &mut covered)?);
+    note_second(&rt, alloc, &mut covered, &[1])?;
+    covered.note(&[], &[2], 2)?;
+    let plan = planned(&mut made, &settings)?;
+    assert!(rt; takes(&mut index, &mut covered, (3, 2), plan.nodes())?);
+    deleted(&rt, alloc, &index, &[1])?;
     Ok(())
 }
