@@ -454,12 +454,8 @@ fn restore_next(
         → IsMade (rules_of settings.now) last dead made.new) }
 {
     let plan = planned(made, settings)?;
-    let taken = takes(
-        index,
-        covered,
-        (plan.through(), plan.synced()),
-        plan.nodes(),
-    )?;
+    let numbers = (plan.through(), plan.synced());
+    let taken = takes(index, covered, numbers, plan.nodes())?;
     sync(made, settings, 1)?;
     Ok(taken)
 }
@@ -483,59 +479,103 @@ fn note_second(
     Ok(())
 }
 
+// That of the first one.
+fn first_covered(rt: &impl Abort, alloc: Global) -> Result<Covered, Fail> {
+    let mut covered = Covered::new(alloc);
+    note_first(rt, alloc, &mut covered)?;
+    Ok(covered)
+}
+
+// That of the second one, in which the row 1 dies, and of a third in which the row 2 does.
+fn dying_covered(rt: &impl Abort, alloc: Global) -> Result<Covered, Fail> {
+    let mut covered = Covered::new(alloc);
+    note_second(rt, alloc, &mut covered, &[1])?;
+    covered.note(&[], &[2], 2)?;
+    Ok(covered)
+}
+
+// The index of the first commit, restored.
+fn restored_first(
+    rt: &impl Abort,
+    alloc: Global,
+    made: &mut Index,
+    settings: &Settings,
+) -> Result<Index, Fail>
+    requires { (last : ℕ) × (dead : List ℕ) × IsMade (rules_of settings.now) last dead made.old }
+    ensures { OnOk result ((last : ℕ) (dead : List ℕ)
+        → IsMade (rules_of settings.now) last dead made.old
+        → IsMade (rules_of settings.now) last dead made.new) }
+{
+    let mut index = Index::new(alloc);
+    let mut covered = first_covered(rt, alloc)?;
+    assert!(rt; restore_next(made, settings, &mut index, &mut covered)?);
+    assert_eq!(rt; (index.flushed(), covered.count()), (1, 0));
+    Ok(index)
+}
+
+// The index of both commits, restored.
+fn restored(rt: &impl Abort, alloc: Global) -> Result<Index, Fail> {
+    let settings = settings(alloc);
+    let mut made = with_apples(rt, alloc, &settings)?;
+    let mut index = restored_first(rt, alloc, &mut made, &settings)?;
+    let mut covered = Covered::new(alloc);
+    note_second(rt, alloc, &mut covered, &[])?;
+    assert!(rt; restore_next(&mut made, &settings, &mut index, &mut covered)?);
+    Ok(index)
+}
+
+// As with the index that was made, in `each_batch_has_its_own_nodes`.
 #[test]
 fn a_restored_index_is_the_one_that_was_made(rt: HostRuntime) -> Result<(), Fail> {
-    let alloc = rt.alloc();
-    let settings = settings(alloc);
-    let mut made = with_apples(&rt, alloc, &settings)?;
-    let mut index = Index::new(alloc);
-    let mut covered = Covered::new(alloc);
-    note_first(&rt, alloc, &mut covered)?;
-    assert!(rt; restore_next(&mut made, &settings, &mut index, &mut covered)?);
-    assert_eq!(rt; (index.flushed(), covered.count()), (1, 0));
-    note_second(&rt, alloc, &mut covered, &[])?;
-    assert!(rt; restore_next(&mut made, &settings, &mut index, &mut covered)?);
-    assert_eq!(rt; (index.flushed(), covered.count()), (2, 0));
+    let index = restored(&rt, rt.alloc())?;
     let nodes: [(&[u8], usize, usize); 2] = [(b"apple", 2, 2), (b"pie", 1, 1)];
-    lists(&rt, alloc, &made, ListingKind::IndexTable, &nodes)?;
-    lists(&rt, alloc, &index, ListingKind::IndexTable, &nodes)?;
-    finds_apples(&rt, alloc, &index)?;
+    lists(&rt, rt.alloc(), &index, ListingKind::IndexTable, &nodes)?;
+    finds_apples(&rt, rt.alloc(), &index)?;
     Ok(())
+}
+
+// The batch of the first commit.
+fn first_plan(rt: &impl Abort, alloc: Global) -> Result<SyncPlan, Fail>
+    ensures { IfOk result (λ plan. AreRead plan.nodes.items) }
+{
+    let settings = settings(alloc);
+    let mut made = with_apples(rt, alloc, &settings)?;
+    planned(&mut made, &settings)
+}
+
+// Whether an index of no commits takes this batch under these numbers.
+fn takes_first(
+    rt: &impl Abort,
+    alloc: Global,
+    covered: &mut Covered,
+    numbers: (u64, u64),
+) -> Result<bool, Fail> {
+    let plan = first_plan(rt, alloc)?;
+    let mut index = Index::new(alloc);
+    takes(&mut index, covered, numbers, plan.nodes())
 }
 
 #[test]
 fn a_batch_of_other_numbers_is_refused(rt: HostRuntime) -> Result<(), Fail> {
     let alloc = rt.alloc();
-    let settings = settings(alloc);
-    let mut made = with_apples(&rt, alloc, &settings)?;
-    let plan = planned(&mut made, &settings)?;
-    let mut index = Index::new(alloc);
-    let mut covered = Covered::new(alloc);
-    // No commit is covered.
-    assert!(rt; !takes(&mut index, &mut covered, (0, 0), plan.nodes())?);
-    note_first(&rt, alloc, &mut covered)?;
-    assert!(rt; !takes(&mut index, &mut covered, (2, 1), plan.nodes())?);
-    assert!(rt; !takes(&mut index, &mut covered, (1, 2), plan.nodes())?);
-    assert_eq!(rt; (index.flushed(), covered.count()), (0, 1));
-    lists(&rt, alloc, &index, ListingKind::IndexTable, &[])?;
-    assert!(rt; takes(&mut index, &mut covered, (1, 1), plan.nodes())?);
+    let mut covered = first_covered(&rt, alloc)?;
+    assert!(rt; !takes_first(&rt, alloc, &mut covered, (2, 1))?);
+    assert!(rt; !takes_first(&rt, alloc, &mut covered, (1, 2))?);
+    assert!(rt; takes_first(&rt, alloc, &mut covered, (1, 1))?);
+    // No commit is covered any more.
+    assert!(rt; !takes_first(&rt, alloc, &mut covered, (0, 0))?);
     Ok(())
 }
 
 #[test]
 fn a_document_that_was_not_born_is_refused(rt: HostRuntime) -> Result<(), Fail> {
     let alloc = rt.alloc();
-    let settings = settings(alloc);
-    let mut made = with_apples(&rt, alloc, &settings)?;
-    let plan = planned(&mut made, &settings)?;
-    let mut index = Index::new(alloc);
     let mut covered = Covered::new(alloc);
     note_second(&rt, alloc, &mut covered, &[])?;
-    assert!(rt; !takes(&mut index, &mut covered, (1, 2), plan.nodes())?);
-    let mut covered = Covered::new(alloc);
-    covered.note(&first_rows(&rt, alloc)?, &[], 4)?;
+    assert!(rt; !takes_first(&rt, alloc, &mut covered, (1, 2))?);
+    // Births with a gap.
     covered.note(&later_rows(&rt, alloc)?, &[], 900)?;
-    assert!(rt; !takes(&mut index, &mut covered, (2, 900), plan.nodes())?);
+    assert!(rt; !takes_first(&rt, alloc, &mut covered, (2, 900))?);
     Ok(())
 }
 
@@ -576,21 +616,43 @@ fn together(alloc: Global) -> Result<Vec<Node>, Fail>
     Ok(nodes)
 }
 
+// What was noted of both commits.
+fn both_covered(rt: &impl Abort, alloc: Global) -> Result<Covered, Fail> {
+    let mut covered = first_covered(rt, alloc)?;
+    note_second(rt, alloc, &mut covered, &[])?;
+    Ok(covered)
+}
+
+// Whether an index takes a batch of both commits with these nodes.
+fn takes_both(
+    rt: &impl Abort,
+    alloc: Global,
+    index: &mut Index,
+    through: u64,
+    nodes: &[WordNodes],
+) -> Result<bool, Fail>
+    requires { AreRead nodes.now }
+{
+    let mut covered = both_covered(rt, alloc)?;
+    takes(index, &mut covered, (through, 2), nodes)
+}
+
 #[test]
 fn loose_nodes_are_refused(rt: HostRuntime) -> Result<(), Fail> {
     let alloc = rt.alloc();
     let mut index = Index::new(alloc);
-    let mut covered = Covered::new(alloc);
-    note_first(&rt, alloc, &mut covered)?;
-    note_second(&rt, alloc, &mut covered, &[])?;
     let loose = apples(alloc, apart(alloc)?)?;
-    assert!(rt; !takes(&mut index, &mut covered, (2, 2), &loose)?);
+    assert!(rt; !takes_both(&rt, alloc, &mut index, 2, &loose)?);
+    Ok(())
+}
+
+#[test]
+fn nodes_are_taken_once(rt: HostRuntime) -> Result<(), Fail> {
+    let alloc = rt.alloc();
+    let mut index = Index::new(alloc);
     let packed = apples(alloc, together(alloc)?)?;
-    assert!(rt; takes(&mut index, &mut covered, (2, 2), &packed)?);
-    // It can't come behind itself.
-    note_first(&rt, alloc, &mut covered)?;
-    note_second(&rt, alloc, &mut covered, &[])?;
-    assert!(rt; !takes(&mut index, &mut covered, (4, 2), &packed)?);
+    assert!(rt; takes_both(&rt, alloc, &mut index, 2, &packed)?);
+    assert!(rt; !takes_both(&rt, alloc, &mut index, 4, &packed)?);
     Ok(())
 }
 
@@ -603,20 +665,21 @@ fn deleted(rt: &impl Abort, alloc: Global, index: &Index, expected: &[u64]) -> R
     Ok(())
 }
 
+// The index of both commits and a third, restored.
+fn restored_dead(rt: &impl Abort, alloc: Global) -> Result<Index, Fail> {
+    let settings = settings(alloc);
+    let mut made = with_apples(rt, alloc, &settings)?;
+    let mut index = restored_first(rt, alloc, &mut made, &settings)?;
+    let mut covered = dying_covered(rt, alloc)?;
+    let plan = planned(&mut made, &settings)?;
+    assert!(rt; takes(&mut index, &mut covered, (3, 2), plan.nodes())?);
+    Ok(index)
+}
+
 // The row 2 is not: it dies in the commits that bear it.
 #[test]
 fn a_flushed_document_that_dies_is_deleted(rt: HostRuntime) -> Result<(), Fail> {
-    let alloc = rt.alloc();
-    let settings = settings(alloc);
-    let mut made = with_apples(&rt, alloc, &settings)?;
-    let mut index = Index::new(alloc);
-    let mut covered = Covered::new(alloc);
-    note_first(&rt, alloc, &mut covered)?;
-    assert!(rt; restore_next(&mut made, &settings, &mut index, &mut covered)?);
-    note_second(&rt, alloc, &mut covered, &[1])?;
-    covered.note(&[], &[2], 2)?;
-    let plan = planned(&mut made, &settings)?;
-    assert!(rt; takes(&mut index, &mut covered, (3, 2), plan.nodes())?);
-    deleted(&rt, alloc, &index, &[1])?;
+    let index = restored_dead(&rt, rt.alloc())?;
+    deleted(&rt, rt.alloc(), &index, &[1])?;
     Ok(())
 }
