@@ -1,5 +1,5 @@
 -- What is known of the two logs when some commits and some entries were read.
-use Rattle.std.proofs.Common.{◌≡◌, ℕ, ◌+◌, ◌<◌, ◌≤◌, List, [], ◌∷◌, ◌++◌, refl, ap, subst, sym, ◌∙◌, length, arith, map, take, drop, get_or, append_assoc, append-nil, length-append}
+use Rattle.std.proofs.Common.{◌≡◌, ◌≢◌, true, ℕ, ◌+◌, ◌<◌, ◌≤◌, List, [], ◌∷◌, ◌++◌, refl, ap, subst, sym, ◌∙◌, length, arith, map, take, drop, get_or, append_assoc, append-nil, length-append}
 use Rattle.std.proofs.lemmas.List.{take_all, take_more, take-append-le, take-append-drop, drop-append-le, drop_all, length-take, length-take-le, length-drop, length-map, get_or-take, map-append}
 use Rattle.std.proofs.lemmas.List.Elements.{All-head, All-tail, All-push}
 use Rattle.std.specs.Prelude.{All, Ok, fold}
@@ -9,7 +9,13 @@ use Rattle.fts_types.specs.Limits.{standard_limits}
 use Rattle.fts_commits.specs.Commit.{Commit, Rows, no_rows, after_commit, rows_after, replay}
 use Rattle.fts_commits.specs.Turn.{Turn, turns_from}
 use Rattle.fts_rowcodec.specs.Payload.{commit_payload, IsWritten}
-use Rattle.fts_ixcodec.specs.Payload.{entry_payload, IsEntry}
+use Rattle.std.specs.List.{AllByRecursion}
+use Rattle.fts_ilist.specs.Spelling.{Posting, PostingsAfter}
+use Rattle.fts_ilist.specs.Node.{Docs}
+use Rattle.fts_entries.specs.Exact.{IdsAfter}
+use Rattle.fts_entries.proofs.Packing.{nodes_ids}
+use Rattle.fts_index.specs.Restore.{AreRead}
+use Rattle.fts_ixcodec.specs.Payload.{entry_payload, is_form, IsWord, IsNode, IsEntry}
 use Rattle.fts_ixcodec.proofs.Entries.{payload_has_one_entry}
 use Rattle.fts_entries.specs.Entry.{Batch, IndexEntry, IndexState, sealed, begun, worked, finished, index_of, after_entry}
 use Rattle.fts_entries.specs.Coming.{CanSeal, CanCome, AreEntries}
@@ -23,7 +29,7 @@ use Rattle.fts_engine.specs.declared.kept.Kept.{Kept}
 use Rattle.fts_engine.specs.Kept.{kept_settings, kept_rows, kept_limits, IsIndexed}
 use Rattle.fts_engine.specs.Restoring.{restoring_settings, restoring_rows, restoring_commits, IsCovering, IsInstalled}
 use Rattle.fts_engine.specs.Reading.{IsWrongPayload}
-use Rattle.fts_engine.specs.Loading.{AreLoaded, IsRestored, StillRestored, IsLoaded, NoneCanSeal, AreSound}
+use Rattle.fts_engine.specs.Loading.{AreLoaded, IsRestored, StillRestored, IsLoaded, NoneCanCome, AreSound}
 use Rattle.fts_engine.proofs.Loading.{one_more, front_of, within_all}
 use Rattle.fts_engine.proofs.Indexing.{turns_count}
 
@@ -217,7 +223,7 @@ module _ (all read : List (List ℕ)) (j : ℕ) (r : Restoring) (l : IsRestored 
 
     -- an entry that can't come
     pub wrong_entry : (entry : IndexEntry) → IsEntry entry → get_or read j [] ≡ entry_payload entry
-        → ((whole : State) → IsSound whole → payloads whole ≡ all → CanCome (turns_of whole) (index_state here) entry → ⊥) → IsWrongPayload all read j
+        → NoneCanCome all (index_state here) entry → IsWrongPayload all read j
     wrong_entry entry written spelled none = record {
       before = before_is;
       wrong = λ whole sound is of_index.
@@ -227,17 +233,17 @@ module _ (all read : List (List ℕ)) (j : ℕ) (r : Restoring) (l : IsRestored 
     }
 
   -- a batch that flushes no commit more, or more than there are
-  pub none_later : (through synced : ℕ) (batch : Batch) → through ≤ (index_state here).flushed → NoneCanSeal all (index_state here) through synced batch
+  pub none_later : (through synced : ℕ) (batch : Batch) → through ≤ (index_state here).flushed → NoneCanCome all (index_state here) (sealed through synced batch)
   none_later through synced batch most whole sound is can = let later = can.later in omega (arith, later, most)
 
-  pub none_made : (through synced : ℕ) (batch : Batch) → length all ≤ through → NoneCanSeal all (index_state here) through synced batch
+  pub none_made : (through synced : ℕ) (batch : Batch) → length all ≤ through → NoneCanCome all (index_state here) (sealed through synced batch)
   none_made through synced batch many whole sound is can =
       let made = can.made in
       omega (arith, made, many, turns_count no_rows whole.commits, ap length is, length-map whole.commits commit_payload)
 
   -- one that can't come over the commits that were read, of which it covers no more
   pub none_here : (through synced : ℕ) (batch : Batch) → through ≤ length here.commits → (CanSeal turns_here (index_state here) through synced batch → ⊥)
-      → NoneCanSeal all (index_state here) through synced batch
+      → NoneCanCome all (index_state here) (sealed through synced batch)
   none_here through synced batch most none whole sound is can =
       let front = front_turns whole sound is in
       none (seal_less turns_here front.more (index_state here) through synced batch (omega (arith, most, turns_count no_rows here.commits))
@@ -294,3 +300,25 @@ all_sound all read j r l whole = record {
   sound = l.of_rows.sound;
   same = l.of_rows.loaded ∙ ap (λ (n : ℕ). take n all) whole ∙ take_all (length all) all (omega arith);
 }
+
+-- what of a batch's words is known once they are read
+pub words_read : (through synced : ℕ) (batch : Batch) → IsEntry (sealed through synced batch) → AreRead batch
+words_read through synced batch written =
+    let groups = written.3 in
+    record {
+      ascend = groups.ascend;
+      filled = λ k d less. word_filled _ (groups.each k d less).word;
+      nodes = λ k d less. (groups.each k d less).nodes.ascend;
+      ids = λ k d less. nodes_ids 0 _ (groups.each k d less).nodes.ascend (each_ids _ (groups.each k d less).nodes.each);
+    }
+  where
+    word_filled : (word : List ℕ) → IsWord word → word ≢ []
+    word_filled word is none = absurd (let form : is_form [] ≡ true = subst (λ (w : List ℕ). is_form w ≡ true) none is.form in cc)
+
+    postings_ids : (low : ℕ) (docs : List Posting) → PostingsAfter low docs → IdsAfter low docs
+    postings_ids low [] after = tt
+    postings_ids low (p ∷ ps) after = (after.0, postings_ids p.id ps after.3)
+
+    each_ids : (nodes : List Docs) → All IsNode nodes → AllByRecursion (λ docs. IdsAfter 0 docs) nodes
+    each_ids [] each = tt
+    each_ids (docs ∷ nodes) each = (postings_ids 0 docs (All-head IsNode docs nodes each).are, each_ids nodes (All-tail IsNode docs nodes each))

@@ -1,4 +1,4 @@
-use Rattle.std.proofs.Common.{ℕ, sym, subst, ap, ◌∙◌, arith}
+use Rattle.std.proofs.Common.{ℕ, ◌+◌, sym, ap, ◌∙◌, arith}
 use Rattle.std.specs.Prelude.{Err}
 use Rattle.fts_log.proofs.Reading.{as_many}
 use Rattle.fts_engine.specs.Restoring.{restoring_settings, restoring_rows, restoring_commits}
@@ -18,7 +18,7 @@ returns-in-Ok-clause-index g c file place e = (
       let most = within_all all (restoring_commits r + 1) (restoring_settings r) (restoring_rows r) was.of_rows in
       let many = as_many all c.args.rows.now holds in
       all_sound all read j c.cover_commits.new.restoring still.is
-      (let there = c.in-Ok.ensures.commits (omega (arith, most, many, c.count.ensures)) in omega (arith, there, many, c.count.ensures, c.requires)),
+      (let there = c.in-Ok.ensures.commits (omega (arith, most, many, c.count-last.ensures)) in omega (arith, there, many, c.count-last.ensures, c.requires)),
 )
 
 pub returns-in-Err-clause-rows : goal.returns-in-Err-clause-rows

@@ -14,7 +14,7 @@ loop-k-preserved g c = record {
     count = c.in-Ok.ensures.same.count ∙ c.loop-k.invariant.same.count;
     magic = c.in-Ok.ensures.same.magic ∙ c.loop-k.invariant.same.magic;
   };
-  calm = c.in-Ok.ensures.faults.calm (λ no. no) ∙ c.loop-k.invariant.calm;
+  calm = c.in-Ok.ensures.faults.calm (λ e. let no = e in cc) ∙ c.loop-k.invariant.calm;
 }
 
 pub returns-clause-loaded : goal.returns-clause-loaded

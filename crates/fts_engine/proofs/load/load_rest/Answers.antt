@@ -1,4 +1,4 @@
-use Rattle.std.proofs.Common.{ℕ, sym, subst, ap, ◌∙◌}
+use Rattle.std.proofs.Common.{ℕ, ◌+◌, sym, subst, ap, ◌∙◌}
 use Rattle.std.specs.Prelude.{Err}
 use Rattle.fts_faults.specs.Count.{CountsFault}
 use Rattle.fts_log.specs.Records.{records_device}
@@ -7,7 +7,7 @@ use Rattle.fts_engine.specs.Opening.{open_error_of}
 use Rattle.fts_engine.specs.declared.error.Device.TheVariants.{Rows}
 use Rattle.fts_engine.specs.declared.error.OpenError.{OpenError}
 use Rattle.fts_engine.specs.declared.error.OpenError.TheVariants as opening
-use Rattle.fts_engine.proofs.Causes.{of_damage, of_not_created, counts_on}
+use Rattle.fts_engine.proofs.Causes.{of_damage, of_not_created, counts_of, fault_of}
 use Rattle.fts_engine.proofs.Covering.{to_kept}
 use Rattle.fts_engine.proofs.load.load_rest.Goals as goal
 
@@ -20,7 +20,11 @@ returns-in-Ok-clause-loaded g c told all read holds was =
     (to_kept all read c.args.restoring was kept ensured.rows ensured.settings ensured.limits ensured.index))
 
 pub returns-in-Ok-clause-faults : goal.returns-in-Ok-clause-faults
-returns-in-Ok-clause-faults g c = ?
+returns-in-Ok-clause-faults g c = record {
+  rose = λ e. absurd (let no = e in cc);
+  calm = λ no. c.in-Ok.ensures.faults.calm (λ e. let no = e in cc);
+  never_falls = c.in-Ok.ensures.faults.never_falls;
+}
 
 pub returns-in-Err-clause-damaged : goal.returns-in-Err-clause-damaged
 returns-in-Err-clause-damaged g c device file at e =
@@ -39,4 +43,6 @@ pub returns-in-Err-clause-created : goal.returns-in-Err-clause-created
 returns-in-Err-clause-created g c e = c.in-Err.ensures.created (ap Err (of_not_created Rows c.in-Err.error (sym c.on.ensures ∙ (let same = e in cc))))
 
 pub returns-in-Err-clause-faults : goal.returns-in-Err-clause-faults
-returns-in-Err-clause-faults g c = ?
+returns-in-Err-clause-faults g c =
+    let counts = counts_of Rows c.in-Err.error (g.D.Disk.faults (records_device c.args.rows.now)) (g.D.Disk.faults (records_device c.load_commits.new.records)) c.in-Err.ensures.faults in
+    fault_of c.on.result (open_error_of Rows c.in-Err.error) _ _ c.on.ensures counts

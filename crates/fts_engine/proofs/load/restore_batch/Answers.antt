@@ -1,10 +1,10 @@
 use Rattle.std.proofs.Common.{ℕ, sym, subst, ap, ◌∙◌, arith}
 use Rattle.std.specs.Prelude.{Err}
 use Rattle.fts_rows.specs.Rows.{rows_of}
-use Rattle.fts_entries.specs.Entry.{IndexState}
+use Rattle.fts_entries.specs.Entry.{IndexState, sealed}
 use Rattle.fts_log.proofs.Reading.{as_many}
 use Rattle.fts_steps.specs.State.{index_state}
-use Rattle.fts_engine.specs.Loading.{NoneCanSeal}
+use Rattle.fts_engine.specs.Loading.{NoneCanCome}
 use Rattle.fts_engine.proofs.Replaying.{none_noted}
 use Rattle.fts_engine.proofs.Covering.{installed_more, restored_still, none_later, none_made, none_here}
 use Rattle.fts_engine.proofs.load.restore_batch.Goals as goal
@@ -16,5 +16,38 @@ pub returns-in-Ok-restore-clause-restored : goal.returns-in-Ok-restore-clause-re
 returns-in-Ok-restore-clause-restored g c e told all read j holds was written taken =
     let covered = (c.in-Ok.ensures.covered told all read j holds was).is in
     let ensured = c.in-Ok-restore.ensures in
-    installed_more all read j c.cover_commits.new.restoring c.restore.new.self covered c.args.through c.args.synced c.args.nodes.now ensured.rows ensured.settings ensured.commits written taken
+    installed_more all read j c.cover_commits.new.restoring c.restore.new.self covered batch.through batch.synced batch.nodes.items ensured.rows ensured.settings ensured.commits written taken
     (ensured.restored covered.of_rows.state.commits (index_state covered.of_rows.state) covered.covers)
+
+pub returns-then-through-flushed-clause-refused : goal.returns-then-through-flushed-clause-refused
+returns-then-through-flushed-clause-refused g c e told all read j holds was = (
+  was,
+  none_later all read j c.args.restoring.now was batch.through batch.synced batch.nodes.items
+      (omega (arith, c.if-through-flushed.true, c.flushed.ensures was.of_rows.state.commits (index_state was.of_rows.state) was.covers)),
+)
+
+pub returns-then-through-count-clause-refused : goal.returns-then-through-count-clause-refused
+returns-then-through-count-clause-refused g c e told all read j holds was = (
+  was,
+  none_made all read j c.args.restoring.now was batch.through batch.synced batch.nodes.items
+      (omega (arith, as_many all c.args.rows.now holds, c.count.ensures, c.if-through-count.true)),
+)
+
+pub returns-in-Err-Bad-clause-refused : goal.returns-in-Err-Bad-clause-refused
+returns-in-Err-Bad-clause-refused g c e told all read j holds was =
+    let r = c.args.restoring.now in
+    let mid = c.cover_commits.new.restoring in
+    let still = c.in-Ok.ensures.covered told all read j holds was in
+    let covered = still.is in
+    let ensured = c.in-Err-Bad.ensures in
+    let bad = ap Err c.in-Err-Bad.field-0-is in
+    let state = covered.of_rows.state in
+    let noted = none_noted r.settings (rows_of r.rows) r.index r.covered r.commits was.of_rows.state.commits (index_state was.of_rows.state) was.covers c.requires.flushed in
+    let flushed = c.flushed.ensures was.of_rows.state.commits (index_state was.of_rows.state) was.covers in
+    let there = c.in-Ok.ensures.commits (omega (arith, noted, flushed, c.if-through-flushed.false)) in
+    let counted = covered.covers.counted in (
+      restored_still all read j mid c.restore.new.self covered ensured.rows ensured.settings ensured.commits (ensured.stays bad),
+      subst (λ (s : IndexState). NoneCanCome all s (sealed batch.through batch.synced batch.nodes.items)) still.state
+          (none_here all read j mid covered batch.through batch.synced batch.nodes.items (omega (arith, there, counted))
+          (λ can. ensured.bad bad state.commits (index_state state) covered.covers (omega (arith, there, counted)) can)),
+    )
