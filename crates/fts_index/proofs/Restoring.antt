@@ -30,10 +30,7 @@ use Rattle.fts_commits.specs.Turn.{Turn, RowsAscend, births_of, deaths_of}
 use Rattle.fts_entries.specs.Entry.{Batch, IndexState, sealed, after_entry, unflushed, unflushed_through, flushed_deaths}
 use Rattle.fts_entries.specs.Batch.{largest_after}
 use Rattle.fts_entries.specs.Coming.{CanSeal, born_ids}
-<<<<<<< HEAD
-use Rattle.fts_entries.specs.Exact.{FitsTurns, IdsAfter}
-=======
->>>>>>> 445fa68483f5399b51fb5c3d206db4601d73e687
+use Rattle.fts_entries.specs.Exact.{IdsAfter}
 use Rattle.fts_entries.specs.Words.{rows_postings}
 use Rattle.fts_entries.proofs.Batches.{fails}
 use Rattle.fts_entries.proofs.Filters.{leads, all_joined}

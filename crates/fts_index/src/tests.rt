@@ -5,6 +5,8 @@ ghost use Rattle.fts_entries.specs.Rows.{CanIndex};
 ghost use Rattle.fts_index.specs.Births.{AreBirths};
 ghost use Rattle.fts_index.specs.Made.{IsMade};
 ghost use Rattle.fts_ilist.specs.Node.{NodesAfter};
+ghost use Rattle.fts_ilist.specs.Packing.{joined};
+ghost use Rattle.fts_entries.specs.Exact.{IdsAfter};
 ghost use Rattle.fts_index.specs.Restore.{AreRead};
 
 use crate::{Covered, Index, RestoreError, SyncPlan};
@@ -582,7 +584,8 @@ fn a_document_that_was_not_born_is_refused(rt: HostRuntime) -> Result<(), Fail> 
 
 // The word `apple` with these nodes.
 fn apples(alloc: Global, nodes: Vec<Node>) -> Result<Nodes, Fail>
-    requires { NodesAfter 0 nodes.items }
+    requires after { NodesAfter 0 nodes.items }
+    requires ids { IdsAfter 0 (joined nodes.items) }
     ensures { IfOk result (λ words. AreRead words.items) }
 {
     let word = Word::copied(alloc, b"apple")?;
@@ -593,7 +596,8 @@ fn apples(alloc: Global, nodes: Vec<Node>) -> Result<Nodes, Fail>
 
 // The documents 1 and 2 as two nodes, which packing makes one.
 fn apart(alloc: Global) -> Result<Vec<Node>, Fail>
-    ensures { IfOk result (λ nodes. NodesAfter 0 nodes.items) }
+    ensures after { IfOk result (λ nodes. NodesAfter 0 nodes.items) }
+    ensures ids { IfOk result (λ nodes. IdsAfter 0 (joined nodes.items)) }
 {
     let mut first = Ilist::new(alloc);
     first.push(1, &[7])?;
@@ -607,7 +611,8 @@ fn apart(alloc: Global) -> Result<Vec<Node>, Fail>
 
 // The same documents as one node.
 fn together(alloc: Global) -> Result<Vec<Node>, Fail>
-    ensures { IfOk result (λ nodes. NodesAfter 0 nodes.items) }
+    ensures after { IfOk result (λ nodes. NodesAfter 0 nodes.items) }
+    ensures ids { IfOk result (λ nodes. IdsAfter 0 (joined nodes.items)) }
 {
     let mut both = Ilist::new(alloc);
     both.push(1, &[7])?;

@@ -6,35 +6,37 @@ use Rattle.fts_log.proofs.Reading.{as_many}
 use Rattle.fts_steps.specs.State.{index_state}
 use Rattle.fts_engine.specs.Loading.{NoneCanCome}
 use Rattle.fts_engine.proofs.Replaying.{none_noted}
-use Rattle.fts_engine.proofs.Covering.{installed_more, restored_still, none_later, none_made, none_here}
+use Rattle.fts_engine.proofs.Covering.{installed_more, restored_still, none_later, none_made, none_here, words_read}
 use Rattle.fts_engine.proofs.load.restore_batch.Goals as goal
 
 pub returns-in-Err-clause-damaged : goal.returns-in-Err-clause-damaged
 returns-in-Err-clause-damaged g c at e told all read j holds was = c.in-Err.ensures.damaged at (let same = e in cc) told all read j holds was
 
 pub returns-in-Ok-restore-clause-restored : goal.returns-in-Ok-restore-clause-restored
-returns-in-Ok-restore-clause-restored g c e told all read j holds was written taken =
+returns-in-Ok-restore-clause-restored g c e told all read j holds was taken =
+    let batch = c.args.batch.now in
     let covered = (c.in-Ok.ensures.covered told all read j holds was).is in
     let ensured = c.in-Ok-restore.ensures in
-    installed_more all read j c.cover_commits.new.restoring c.restore.new.self covered batch.through batch.synced batch.nodes.items ensured.rows ensured.settings ensured.commits written taken
+    installed_more all read j c.cover_commits.new.restoring c.restore.new.self covered batch.through batch.synced batch.nodes.items ensured.rows ensured.settings ensured.commits c.requires.written taken
     (ensured.restored covered.of_rows.state.commits (index_state covered.of_rows.state) covered.covers)
 
 pub returns-then-through-flushed-clause-refused : goal.returns-then-through-flushed-clause-refused
 returns-then-through-flushed-clause-refused g c e told all read j holds was = (
   was,
-  none_later all read j c.args.restoring.now was batch.through batch.synced batch.nodes.items
+  none_later all read j c.args.restoring.now was c.args.batch.now.through c.args.batch.now.synced c.args.batch.now.nodes.items
       (omega (arith, c.if-through-flushed.true, c.flushed.ensures was.of_rows.state.commits (index_state was.of_rows.state) was.covers)),
 )
 
 pub returns-then-through-count-clause-refused : goal.returns-then-through-count-clause-refused
 returns-then-through-count-clause-refused g c e told all read j holds was = (
   was,
-  none_made all read j c.args.restoring.now was batch.through batch.synced batch.nodes.items
+  none_made all read j c.args.restoring.now was c.args.batch.now.through c.args.batch.now.synced c.args.batch.now.nodes.items
       (omega (arith, as_many all c.args.rows.now holds, c.count.ensures, c.if-through-count.true)),
 )
 
 pub returns-in-Err-Bad-clause-refused : goal.returns-in-Err-Bad-clause-refused
 returns-in-Err-Bad-clause-refused g c e told all read j holds was =
+    let batch = c.args.batch.now in
     let r = c.args.restoring.now in
     let mid = c.cover_commits.new.restoring in
     let still = c.in-Ok.ensures.covered told all read j holds was in
@@ -51,3 +53,8 @@ returns-in-Err-Bad-clause-refused g c e told all read j holds was =
           (none_here all read j mid covered batch.through batch.synced batch.nodes.items (omega (arith, there, counted))
           (λ can. ensured.bad bad state.commits (index_state state) covered.covers (omega (arith, there, counted)) can)),
     )
+
+pub restore-requires : goal.restore-requires
+restore-requires g c =
+    let batch = c.args.batch.now in
+    words_read batch.through batch.synced batch.nodes.items c.requires.written

@@ -6,4 +6,4 @@ pub returns : goal.returns
 returns c =
     let is : c.push.new.self.items ≡ (c.in_ok-word.word, c.args.nodes.items) ∷ [] = search rules in
     let some : 0 < length c.in_ok-word.word = omega (arith, ap length c.in_ok-word.ensures) in
-    one_word c.in_ok-word.word c.args.nodes.items c.push.new.self.items is some c.requires
+    one_word c.in_ok-word.word c.args.nodes.items c.push.new.self.items is some c.requires.after c.requires.ids
