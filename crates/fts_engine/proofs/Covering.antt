@@ -15,7 +15,7 @@ use Rattle.fts_ilist.specs.Node.{Docs}
 use Rattle.fts_entries.specs.Exact.{IdsAfter}
 use Rattle.fts_entries.proofs.Packing.{nodes_ids}
 use Rattle.fts_index.specs.Restore.{AreRead}
-use Rattle.fts_ixcodec.specs.Payload.{entry_payload, is_form, IsWord, IsNode, IsEntry}
+use Rattle.fts_ixcodec.specs.Payload.{entry_payload, is_form, is_form_from, IsWord, IsNode, IsEntry}
 use Rattle.fts_ixcodec.proofs.Entries.{payload_has_one_entry}
 use Rattle.fts_entries.specs.Entry.{Batch, IndexEntry, IndexState, sealed, begun, worked, finished, index_of, after_entry}
 use Rattle.fts_entries.specs.Coming.{CanSeal, CanCome, AreEntries}
@@ -303,6 +303,7 @@ all_sound all read j r l whole = record {
 
 -- what of a batch's words is known once they are read
 pub words_read : (through synced : ℕ) (batch : Batch) → IsEntry (sealed through synced batch) → AreRead batch
+unfolding is_form_from
 words_read through synced batch written =
     let groups = written.3 in
     record {
