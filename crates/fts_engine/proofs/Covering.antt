@@ -212,25 +212,21 @@ module _ (all read : List (List ℕ)) (j : ℕ) (r : Restoring) (l : IsRestored 
           come = subst (λ (s : IndexState). CanCome (turns_of whole) s last.entry) front.left come;
         }
 
-    -- a payload that is no entry's
-    pub wrong_payload : ((entry : IndexEntry) → IsEntry entry → get_or read j [] ≡ entry_payload entry → ⊥) → IsWrongPayload all read j
+    -- a payload that is no entry's that can come
+    pub wrong_payload : ((entry : IndexEntry) → IsEntry entry → get_or read j [] ≡ entry_payload entry → NoneCanCome all (index_state here) entry)
+        → IsWrongPayload all read j
     wrong_payload none = record {
       before = before_is;
       wrong = λ whole sound is of_index.
           let next = comes_next whole sound is of_index in
-          none next.entry next.written (sym next.spelled);
+          none next.entry next.written (sym next.spelled) whole sound is next.come;
     }
 
     -- an entry that can't come
     pub wrong_entry : (entry : IndexEntry) → IsEntry entry → get_or read j [] ≡ entry_payload entry
         → NoneCanCome all (index_state here) entry → IsWrongPayload all read j
-    wrong_entry entry written spelled none = record {
-      before = before_is;
-      wrong = λ whole sound is of_index.
-          let next = comes_next whole sound is of_index in
-          let same : next.entry ≡ entry = payload_has_one_entry next.entry entry next.written written (next.spelled ∙ spelled) in
-          none whole sound is (subst (λ (e : IndexEntry). CanCome (turns_of whole) (index_state here) e) same next.come);
-    }
+    wrong_entry entry written spelled none =
+        wrong_payload (λ other is said. subst (NoneCanCome all (index_state here)) (sym (payload_has_one_entry other entry is written (sym said ∙ spelled))) none)
 
   -- a batch that flushes no commit more, or more than there are
   pub none_later : (through synced : ℕ) (batch : Batch) → through ≤ (index_state here).flushed → NoneCanCome all (index_state here) (sealed through synced batch)
