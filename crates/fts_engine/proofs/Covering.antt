@@ -17,7 +17,7 @@ use Rattle.fts_entries.proofs.Packing.{nodes_ids}
 use Rattle.fts_index.specs.Restore.{AreRead}
 use Rattle.fts_ixcodec.specs.Payload.{entry_payload, is_form, is_form_from, IsWord, IsNode, IsEntry}
 use Rattle.fts_ixcodec.proofs.Entries.{payload_has_one_entry}
-use Rattle.fts_entries.specs.Entry.{Batch, IndexEntry, IndexState, sealed, begun, worked, finished, index_of, after_entry}
+use Rattle.fts_entries.specs.Entry.{Batch, IndexEntry, IndexState, sealed, begun, worked, finished, no_entries, index_of, after_entry}
 use Rattle.fts_entries.specs.Coming.{CanSeal, CanCome, AreEntries}
 use Rattle.fts_entries.proofs.Commits.{same_index}
 use Rattle.fts_entries.proofs.Coming.{entries_more, entries_through, come_behind, come_last, index_behind, seal_less}
@@ -29,7 +29,7 @@ use Rattle.fts_engine.specs.declared.kept.Kept.{Kept}
 use Rattle.fts_engine.specs.Kept.{kept_settings, kept_rows, kept_limits, IsIndexed}
 use Rattle.fts_engine.specs.Restoring.{restoring_settings, restoring_rows, restoring_commits, IsCovering, IsInstalled}
 use Rattle.fts_engine.specs.Reading.{IsWrongPayload}
-use Rattle.fts_engine.specs.Loading.{AreLoaded, IsRestored, StillRestored, IsLoaded, NoneCanCome, AreSound}
+use Rattle.fts_engine.specs.Loading.{BeginsWith, AreLoaded, IsRestored, StillRestored, IsLoaded, NoneCanCome, AreSound}
 use Rattle.fts_engine.proofs.Loading.{one_more, front_of, within_all}
 use Rattle.fts_engine.proofs.Indexing.{turns_count}
 
@@ -57,27 +57,21 @@ pushed (entry ∷ whole) (other ∷ front) payload is is' same =
     }
 
 -- nothing but the settings was read
-pub first_restored : (all read : List (List ℕ)) (r : Restoring) (loaded : AreLoaded all (restoring_commits r + 1) (restoring_settings r) (restoring_rows r))
-    → loaded.state.commits ≡ [] → loaded.state.entries ≡ [] → IsCovering r [] (index_state (record { settings = loaded.state.settings; commits = []; entries = [] }))
-    → IsRestored all read 0 r
-first_restored all read r loaded commits entries covers = record {
-  of_rows = record { state = none; sound = again; same = loaded.same; loaded = same ∙ loaded.loaded; count = count; kept = loaded.kept ∙ ap replay commits };
-  entries = none_stand loaded.state.settings [];
+pub first_restored : (all read : List (List ℕ)) (settings : Settings) (r : Restoring) → BeginsWith settings all
+    → restoring_settings r ≡ settings → restoring_rows r ≡ no_rows → restoring_commits r ≡ 0 → IsCovering r [] no_entries → IsRestored all read 0 r
+first_restored all read settings r begins same rows count covers = record {
+  of_rows = record {
+    state = record { settings = settings; commits = []; entries = [] };
+    sound = record { settings = begins.right; written = λ k d less. absurd (omega (arith, less)); accepted = tt };
+    same = sym same;
+    loaded = begins.first ∙ ap (λ (n : ℕ). take (n + 1) all) (sym count);
+    count = omega (arith, count);
+    kept = rows;
+  };
+  entries = none_stand settings [];
   taken = refl;
   covers = covers;
 }
-  where
-    none : State
-    none = record { settings = loaded.state.settings; commits = []; entries = [] }
-
-    same : payloads none ≡ payloads loaded.state
-    same = ap (λ (cs : List Commit). payloads (record { settings = loaded.state.settings; commits = cs; entries = [] })) (sym commits)
-
-    count : 0 + 1 ≡ restoring_commits r + 1
-    count = let n = loaded.count in omega (arith, n, ap length commits)
-
-    again : IsSound none
-    again = record { settings = loaded.sound.settings; written = λ k d less. absurd (omega arith); accepted = tt }
 
 module _ (all read : List (List ℕ)) (j : ℕ) (old new : Restoring) (was : IsRestored all read j old) where
   abbrev pub state : State

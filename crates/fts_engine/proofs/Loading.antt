@@ -252,18 +252,6 @@ settings_begin [] payload settings some is right spelled = absurd (omega arith)
 settings_begin (first ∷ all) payload settings some is right spelled =
     record { right = right; first = ap (λ (p : List ℕ). p ∷ []) (sym spelled ∙ is) }
 
--- nothing but the settings is loaded
-pub first_loaded : (all : List (List ℕ)) (settings settings' : Settings) (rows : Rows) → BeginsWith settings all → settings' ≡ settings → rows ≡ no_rows
-    → AreLoaded all 1 settings' rows
-first_loaded all settings settings' rows begins same none = record {
-  state = record { settings = settings; commits = []; entries = [] };
-  sound = record { settings = begins.right; written = λ k d less. absurd (omega arith); accepted = tt };
-  same = sym same;
-  loaded = begins.first;
-  count = refl;
-  kept = none;
-}
-
 -- all is loaded
 pub loaded_all : (all : List (List ℕ)) (settings : Settings) (rows : Rows) (l : AreLoaded all (length all) settings rows) → payloads l.state ≡ all
 loaded_all all settings rows l = l.loaded ∙ take_all (length all) all (omega arith)

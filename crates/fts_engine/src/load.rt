@@ -55,7 +55,8 @@ pub fn load<D: Disk, E: Disk>(
         → (all read : List (List ℕ)) → Hold all rows.old → Hold read entries.old
         → IsLoaded all (length all) read kept) }
     ensures damaged_rows { (file at : ℕ) → IsErrOf result (OpenError.Damaged Device.Rows file at)
-        → (file ≡ 0) × (IsTrue D.tells → (all : List (List ℕ)) → Hold all rows.old
+        → (file ≡ 0) × (IsTrue D.tells → IsTrue E.tells → (all read : List (List ℕ))
+        → Hold all rows.old → Hold read entries.old
         → IsWrongEntry (records_magic rows.old) all at) }
     ensures damaged_index { (file at : ℕ) → IsErrOf result (OpenError.Damaged Device.Index file at)
         → (file ≡ 0) × (IsTrue D.tells → IsTrue E.tells → (all read : List (List ℕ))
