@@ -1,4 +1,4 @@
-ghost use Rattle.std.specs.Prelude.{◌≡◌, ◌≢◌, ◌⊎◌, ◌+◌, ◌<◌, ℕ, List, IsTrue, IsErrAnd, IfOk};
+ghost use Rattle.std.specs.Prelude.{◌≡◌, ◌≢◌, ◌⊎◌, ◌↔◌, ◌+◌, ◌<◌, ℕ, List, IsTrue, IsErrAnd, IfOk};
 ghost use Rattle.std.specs.Prelude.{IfErr};
 ghost use Rattle.fts_faults.specs.Count.{CountsFault};
 ghost use Rattle.fts_disk.specs.Moments.{Looks};
@@ -234,14 +234,17 @@ fn refuse_index<D: Disk>(alloc: Global, rows: Records<D>, at: u64) -> (OpenError
 // A fault of the index log is told where the rows log is whole; else the place where it is torn.
 fn told_first<D: Disk>(rows: Records<D>, error: OpenError) -> (OpenError, D)
     requires magic { records_magic rows ≡ rows_magic }
-    ensures told { ((result.0 ≡ error) × ((file at : ℕ)
-        → error ≡ OpenError.Damaged Device.Index file at → IsTrue D.tells
-        → (all : List (List ℕ)) → Hold all rows
-        → IsLog rows_magic all (D.seen (records_device rows) 0)))
-        ⊎ ((at : ℕ) × (result.0 ≡ OpenError.Damaged Device.Rows 0 at)
-        × ((file place : ℕ) × (error ≡ OpenError.Damaged Device.Index file place))
+    ensures created { result.0 ≡ OpenError.NotCreated → error ≡ OpenError.NotCreated }
+    ensures fault { (result.0 ≡ OpenError.DiskFault) ↔ (error ≡ OpenError.DiskFault) }
+    ensures damaged_rows { (file at : ℕ) → result.0 ≡ OpenError.Damaged Device.Rows file at
+        → (error ≡ OpenError.Damaged Device.Rows file at)
+        ⊎ ((file ≡ 0) × ((place : ℕ) × (last : ℕ) × (error ≡ OpenError.Damaged Device.Index place last))
         × (IsTrue D.tells → (all : List (List ℕ)) → Hold all rows
         → IsBrokenBehind rows_magic all at (D.seen (records_device rows) 0))) }
+    ensures damaged_index { (file at : ℕ) → result.0 ≡ OpenError.Damaged Device.Index file at
+        → (error ≡ OpenError.Damaged Device.Index file at) × (IsTrue D.tells
+        → (all : List (List ℕ)) → Hold all rows
+        → IsLog rows_magic all (D.seen (records_device rows) 0)) }
     ensures device { result.1 ≡ records_device rows }
 {
     match error {
