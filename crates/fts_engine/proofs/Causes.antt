@@ -47,3 +47,11 @@ counts_on device error a a' counts = record {
   calm = λ no. counts.calm (λ is. no (ap (open_error_of device) is));
   never_falls = counts.never_falls;
 }
+
+-- a cause that is told by other words
+pub counts_as : (told told' : Type 0) (a a' : ℕ) → (told' → told) → (told → told') → CountsFault told a a' → CountsFault told' a a'
+counts_as told told' a a' back forth counts = record {
+  rose = λ is. counts.rose (back is);
+  calm = λ no. counts.calm (λ is. no (forth is));
+  never_falls = counts.never_falls;
+}

@@ -130,11 +130,12 @@ fn open_records<D: Disk, E: Disk>(
     let rows = match rows.into_log(limits.log_bytes) {
         Ok(rows) => rows,
         Err((at, rows)) => {
-            return Err((
-                LogError::Damaged { at }.on(Device::Rows),
-                rows,
-                entries.close(),
-            ));
+            let error = OpenError::Damaged {
+                device: Device::Rows,
+                file: 0,
+                at,
+            };
+            return Err((error, rows, entries.close()));
         }
     };
     match entries.into_log(limits.log_bytes) {
@@ -149,11 +150,12 @@ fn open_records<D: Disk, E: Disk>(
             })
         }
         Err((at, index)) => {
-            Err((
-                LogError::Damaged { at }.on(Device::Index),
-                rows.close(),
-                index,
-            ))
+            let error = OpenError::Damaged {
+                device: Device::Index,
+                file: 0,
+                at,
+            };
+            Err((error, rows.close(), index))
         }
     }
 }
@@ -261,7 +263,14 @@ fn told_first<D: Disk>(rows: Records<D>, error: OpenError) -> (OpenError, D)
                 },
                 log.close(),
             ),
-            Err((at, device)) => (LogError::Damaged { at }.on(Device::Rows), device),
+            Err((at, device)) => (
+                OpenError::Damaged {
+                    device: Device::Rows,
+                    file: 0,
+                    at,
+                },
+                device,
+            ),
         },
         error => (error, rows.close()),
     }
