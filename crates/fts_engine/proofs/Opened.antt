@@ -1,5 +1,5 @@
 -- What the records of a log are, when they were read to its end.
-use Rattle.std.proofs.Common.{◌≡◌, ℕ, List, refl, ap, sym, subst, ◌∙◌}
+use Rattle.std.proofs.Common.{◌≡◌, ℕ, ◌+◌, List, [], ◌∷◌, refl, ap, sym, subst, ◌∙◌, take, arith}
 use Rattle.fts_disk.specs.Device.{Files}
 use Rattle.fts_disk.specs.declared.disk.Disk.{Ghosts}
 use Rattle.fts_log.specs.declared.log.Log.{Log}
@@ -8,11 +8,17 @@ use Rattle.fts_log.specs.Log.{StandsFor, device_of, magic_of, limit_of}
 use Rattle.fts_log.specs.Record.{IsLog, IsBrokenBehind, log_end}
 use Rattle.fts_log.specs.Records.{Hold, AreRead, AreAsMany, records_device, records_magic}
 use Rattle.fts_log.specs.Scan.{IsFoundIn}
+use Rattle.fts_types.specs.declared.settings.Settings.{Settings}
+use Rattle.fts_commits.specs.Commit.{no_rows}
+use Rattle.fts_entries.specs.Entry.{no_entries}
 use Rattle.fts_steps.specs.State.{State, payloads, rows_magic, IsRows}
 use Rattle.fts_steps.specs.Fault.{AreOfIndex}
-use Rattle.fts_engine.specs.Loading.{AreSound, IsLoaded}
+use Rattle.fts_engine.specs.Loading.{BeginsWith, AreLoaded, IsRestored, AreSound, IsLoaded}
 use Rattle.fts_engine.specs.Stands.{KeepsLog}
 use Rattle.fts_engine.specs.declared.kept.Kept.{Kept}
+use Rattle.fts_engine.specs.declared.restoring.Restoring.{Restoring}
+use Rattle.fts_engine.specs.Restoring.{restoring_settings, restoring_rows, restoring_commits, IsCovering}
+use Rattle.fts_engine.proofs.Covering.{first_restored}
 
 -- the log that records are has its own numbers
 pub keeps_log : {D : Type 0} {disk : Ghosts D} (magic : List ℕ) (entries : List (List ℕ)) (limit : ℕ) (log : Log D disk) → StandsFor entries log
@@ -31,6 +37,24 @@ whole_rows all file s log = record { sound = s.sound; log = subst (λ (entries :
 -- what was read of the index log are entries over the commits
 pub of_index : (all : List (List ℕ)) (k : ℕ) (read : List (List ℕ)) (kept : Kept) (l : IsLoaded all k read kept) → AreOfIndex l.of_rows.state read
 of_index all k read kept l = record { index = l.of_rows.state.entries; sound = l.entries; same = l.taken }
+
+-- nothing but the settings was read
+pub begun : (all read : List (List ℕ)) (settings : Settings) (r : Restoring) → BeginsWith settings all → restoring_settings r ≡ settings → restoring_rows r ≡ no_rows
+    → restoring_commits r ≡ 0 → IsCovering r [] no_entries → IsRestored all read 0 r
+begun all read settings r begins same none first covers = first_restored all read r loaded refl refl covers
+  where
+    many : 1 ≡ restoring_commits r + 1
+    many = omega (arith, first)
+
+    loaded : AreLoaded all (restoring_commits r + 1) (restoring_settings r) (restoring_rows r)
+    loaded = record {
+      state = record { settings = settings; commits = []; entries = [] };
+      sound = record { settings = begins.right; written = λ k d less. absurd (omega arith); accepted = tt };
+      same = sym same;
+      loaded = begins.first ∙ ap (λ (n : ℕ). take n all) many;
+      count = many;
+      kept = none;
+    }
 
 module _ {D : Type 0} {disk : Ghosts D} (magic : List ℕ) (all : List (List ℕ)) (old new : Records D disk) (begins : records_magic old ≡ magic) where
   abbrev file : List ℕ
