@@ -9,12 +9,12 @@ use Rattle.fts_engine.proofs.open.told_first.Goals as goal
 
 pub returns-in-Err-clause-damaged_rows : goal.returns-in-Err-clause-damaged_rows
 returns-in-Err-clause-damaged_rows g c file at e =
-    let index = c.in-Damaged-Index-default-default in
+    let index = c.in-Damaged in
     let same = same_damage Rows Rows 0 file c.in-Err.at at e in
     let bytes = g.D.Disk.seen (records_device c.args.rows) 0 in
     inr (
       sym same.1,
-      (index.file, index.at, index.is ∙ ap (λ device. Damaged device index.file index.at) index.device-is),
+      (index.file, index.at, index.is ∙ ap (λ device. Damaged device index.file index.at) c.in-Index.is),
       λ told all holds. subst (λ (place : ℕ). IsBrokenBehind rows_magic all place bytes) same.2
           (subst (λ (magic : List ℕ). IsBrokenBehind magic all c.in-Err.at bytes) c.requires.magic (c.in-Err.ensures.broken told all holds)),
     )
