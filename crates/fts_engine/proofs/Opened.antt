@@ -1,5 +1,5 @@
 -- What the records of a log are, when they were read to its end.
-use Rattle.std.proofs.Common.{◌≡◌, ℕ, ◌+◌, List, [], ◌∷◌, refl, ap, sym, subst, ◌∙◌, take, arith}
+use Rattle.std.proofs.Common.{◌≡◌, ℕ, ◌+◌, List, [], refl, ap, sym, subst, ◌∙◌, take, arith}
 use Rattle.fts_disk.specs.Device.{Files}
 use Rattle.fts_disk.specs.declared.disk.Disk.{Ghosts}
 use Rattle.fts_log.specs.declared.log.Log.{Log}
@@ -11,7 +11,7 @@ use Rattle.fts_log.specs.Scan.{IsFoundIn}
 use Rattle.fts_types.specs.declared.settings.Settings.{Settings}
 use Rattle.fts_commits.specs.Commit.{no_rows}
 use Rattle.fts_entries.specs.Entry.{no_entries}
-use Rattle.fts_steps.specs.State.{State, payloads, rows_magic, IsRows}
+use Rattle.fts_steps.specs.State.{rows_magic, IsRows}
 use Rattle.fts_steps.specs.Fault.{AreOfIndex}
 use Rattle.fts_engine.specs.Loading.{BeginsWith, AreLoaded, IsRestored, AreSound, IsLoaded}
 use Rattle.fts_engine.specs.Stands.{KeepsLog}

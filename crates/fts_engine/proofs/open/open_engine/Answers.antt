@@ -20,8 +20,8 @@ returns-in-Ok-read_records-clause-damaged_rows g c =
     → IsDamaged at (g.D.Disk.seen (records_device c.in-Ok.rows) 0)))
     (λ e. (file at : ℕ) → e.0 ≡ Damaged Rows file at → (file ≡ 0) × (IsTrue g.D.Disk.tells → IsTrue g.E.Disk.tells → IsDamaged at (g.D.Disk.seen c.args.rows 0)))
     (λ e damaged file at is.
-        let damage = damaged file at is in
-        (damage.0, λ told told_index. subst (λ (files : Files). IsDamaged at (files 0)) (c.in-Ok.ensures.looks told).seen (damage.1 told told_index)))
+    let damage = damaged file at is in
+    (damage.0, λ told told_index. subst (λ (files : Files). IsDamaged at (files 0)) (c.in-Ok.ensures.looks told).seen (damage.1 told told_index)))
     c.open_records.ensures.damaged_rows
 
 pub returns-in-Ok-read_records-clause-damaged_index : goal.returns-in-Ok-read_records-clause-damaged_index
@@ -32,11 +32,13 @@ returns-in-Ok-read_records-clause-damaged_index g c =
     (λ e. (file at : ℕ) → e.0 ≡ Damaged Index file at → (file ≡ 0) × (IsTrue g.D.Disk.tells → IsTrue g.E.Disk.tells
     → IsIndexDamaged at (g.D.Disk.seen c.args.rows 0) (g.E.Disk.seen c.args.index 0)))
     (λ e damaged file at is.
-        let damage = damaged file at is in
-        (damage.0, λ told told_index.
-            subst (λ (files : Files). IsIndexDamaged at (g.D.Disk.seen c.args.rows 0) (files 0)) (c.in-Ok-read_records.ensures.looks told_index).seen
-            (subst (λ (files : Files). IsIndexDamaged at (files 0) (g.E.Disk.seen (records_device c.in-Ok-read_records.entries) 0)) (c.in-Ok.ensures.looks told).seen
-            (damage.1 told told_index))))
+    let damage = damaged file at is in (
+      damage.0,
+      λ told told_index.
+          subst (λ (files : Files). IsIndexDamaged at (g.D.Disk.seen c.args.rows 0) (files 0)) (c.in-Ok-read_records.ensures.looks told_index).seen
+          (subst (λ (files : Files). IsIndexDamaged at (files 0) (g.E.Disk.seen (records_device c.in-Ok-read_records.entries) 0)) (c.in-Ok.ensures.looks told).seen
+          (damage.1 told told_index)),
+    ))
     c.open_records.ensures.damaged_index
 
 pub returns-in-Err-Damaged-default-clause-damaged_rows : goal.returns-in-Err-Damaged-default-clause-damaged_rows

@@ -1,7 +1,7 @@
-use Rattle.std.proofs.Common.{◌≡◌, ℕ, ◌+◌, List, IsTrue, refl, inl, inr, ap, sym, subst, ◌∙◌, arith, length}
+use Rattle.std.proofs.Common.{◌≡◌, ℕ, ◌+◌, List, refl, inl, inr, ap, sym, subst, ◌∙◌, arith, length}
 use Rattle.std.specs.Prelude.{Ok, Err, IsErrOf}
 use Rattle.fts_log.specs.Log.{StandsFor}
-use Rattle.fts_log.specs.Records.{Hold, AreRead, records_device}
+use Rattle.fts_log.specs.Records.{records_device}
 use Rattle.fts_log.proofs.Reading.{as_many}
 use Rattle.fts_types.specs.declared.limits.Limits.{Limits}
 use Rattle.fts_types.specs.Limits.{standard_limits}
@@ -9,7 +9,7 @@ use Rattle.fts_steps.specs.State.{rows_magic, index_magic, payloads, index_paylo
 use Rattle.fts_steps.specs.Running.{opened}
 use Rattle.fts_engine.specs.Bounds.{AreWithin}
 use Rattle.fts_engine.specs.Kept.{kept_settings, kept_rows}
-use Rattle.fts_engine.specs.Loading.{IsWrongEntry, IsWrongAmong, IsLoaded, AreSound}
+use Rattle.fts_engine.specs.Loading.{IsWrongEntry, IsWrongAmong}
 use Rattle.fts_engine.specs.Opening.{IsDamaged, IsIndexDamaged}
 use Rattle.fts_engine.specs.declared.error.Device.TheVariants.{Rows, Index}
 use Rattle.fts_engine.specs.declared.error.OpenError.{OpenError}
@@ -27,26 +27,26 @@ returns-in-Err-clause-damaged_rows g c file at e =
     let bytes = g.D.Disk.seen (records_device rows) 0 in
     elim (c.told_first-error.ensures.damaged_rows file at e) [
       | inl same ↦
-        (let damage = c.in-Err.ensures.damaged_rows file at (ap Err same) in (
-          damage.0,
-          λ told told_index.
-              let all = (c.requires.ready told).0 in
-              let holds = (c.requires.ready told).1 in
-              wrong_damaged all at bytes rows.found (found_here rows_magic all rows rows c.requires.magic holds)
-              (subst (λ (magic : List ℕ). IsWrongEntry magic all at) c.requires.magic (damage.1 told all holds)),
-        ))
+          (let damage = c.in-Err.ensures.damaged_rows file at (ap Err same) in (
+            damage.0,
+            λ told told_index.
+                let all = (c.requires.ready told).0 in
+                let holds = (c.requires.ready told).1 in
+                wrong_damaged all at bytes rows.found (found_here rows_magic all rows rows c.requires.magic holds)
+                (subst (λ (magic : List ℕ). IsWrongEntry magic all at) c.requires.magic (damage.1 told all holds)),
+          ))
       | inr torn ↦
-        (let damage = c.in-Err.ensures.damaged_index torn.1.0 torn.1.1 (ap Err torn.1.2) in (
-          torn.0,
-          λ told told_index.
-              let all = (c.requires.ready told).0 in
-              let holds = (c.requires.ready told).1 in
-              let read = (c.requires.index_ready told_index).0 in
-              let is_read = c.in-Err.ensures.reads.of_rows told in
-              let sound = (damage.1 told told_index all read holds (c.requires.index_ready told_index).1).0 in
-              torn_damaged all at bytes (omega (arith, as_many all rows holds, c.requires.some)) (inr (sound.state, sound.sound, sound.same))
-              (broken_here rows_magic all rows c.load.new.rows c.requires.magic is_read at (torn.2 told all (is_read.stays all holds))),
-        ))
+          (let damage = c.in-Err.ensures.damaged_index torn.1.0 torn.1.1 (ap Err torn.1.2) in (
+            torn.0,
+            λ told told_index.
+                let all = (c.requires.ready told).0 in
+                let holds = (c.requires.ready told).1 in
+                let read = (c.requires.index_ready told_index).0 in
+                let is_read = c.in-Err.ensures.reads.of_rows told in
+                let sound = (damage.1 told told_index all read holds (c.requires.index_ready told_index).1).0 in
+                torn_damaged all at bytes (omega (arith, as_many all rows holds, c.requires.some)) (inr (sound.state, sound.sound, sound.same))
+                (broken_here rows_magic all rows c.load.new.rows c.requires.magic is_read at (torn.2 told all (is_read.stays all holds))),
+          ))
     ]
 
 pub returns-in-Err-clause-damaged_index : goal.returns-in-Err-clause-damaged_index
@@ -140,7 +140,6 @@ returns-in-Ok-into_log-2-clause-opened g c told told_index =
     let index_stands : StandsFor (index_payloads state) index =
     subst (λ (entries : List (List ℕ)). StandsFor entries index) (sym loaded.taken)
     (c.in-Ok-into_log-2.ensures.whole told_index read ((reads.of_index told_index).stays read holds_index)) in
-
     let limited = ap (λ (l : Limits). l.log_bytes) (sym c.set_limits.ensures.limits) in
     let log = keeps_log rows_magic (payloads state) _ rows stands (c.in-Ok-into_log.ensures.kept.0 ∙ reads.many_rows.magic ∙ c.requires.magic) (c.in-Ok-into_log.ensures.kept.1 ∙ limited) in
     let index_log = keeps_log index_magic (index_payloads state) _ index index_stands (c.in-Ok-into_log-2.ensures.kept.0 ∙ reads.many_index.magic ∙ c.requires.index_magic)

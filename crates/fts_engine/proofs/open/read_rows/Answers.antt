@@ -1,4 +1,4 @@
-use Rattle.std.proofs.Common.{◌≡◌, ℕ, IsTrue, subst, sym}
+use Rattle.std.proofs.Common.{◌≡◌, ℕ, IsTrue, subst}
 use Rattle.std.proofs.lemmas.Result.{IfErr-weaker}
 use Rattle.fts_disk.specs.Device.{Files}
 use Rattle.fts_log.specs.Records.{records_device}

@@ -2,10 +2,10 @@ use Rattle.std.proofs.Common.{◌≡◌, ℕ, List, [], IsTrue, inl, inr, ap, sy
 use Rattle.std.specs.Prelude.{Err}
 use Rattle.fts_disk.specs.Moments.{Looks}
 use Rattle.fts_faults.specs.Count.{CountsFault}
-use Rattle.fts_log.specs.Records.{Hold, AreRead, records_device}
+use Rattle.fts_log.specs.Records.{records_device}
 use Rattle.fts_log.proofs.Reading.{as_many, read_more}
 use Rattle.fts_steps.specs.State.{rows_magic}
-use Rattle.fts_engine.specs.Loading.{IsWrongEntry, IsRestored}
+use Rattle.fts_engine.specs.Loading.{IsWrongEntry}
 use Rattle.fts_engine.specs.declared.error.Device.TheVariants.{Rows}
 use Rattle.fts_engine.specs.declared.error.LogError.TheVariants as log
 use Rattle.fts_engine.specs.declared.error.OpenError.TheVariants.{DiskFault}
@@ -42,27 +42,27 @@ returns-clause-damaged_rows g c file place e =
     c.new-restoring.ensures.commits c.new-restoring.ensures.covers) in
     elim (c.told_first.ensures.damaged_rows file place e) [
       | inl same ↦
-        (let damage = c.held_back-error.ensures.rows file place same in (
-          damage.0,
-          λ told.
-              let all = (c.requires.ready told).0 in
-              let holds = (c.requires.ready told).1 in
-              let is_read = c.in-Ok.ensures.read told in
-              wrong_damaged all place bytes rows.found (found_here rows_magic all rows rows c.requires.magic holds)
-              (subst (λ (magic : List ℕ). IsWrongEntry magic all place) (c.in-Ok.ensures.same.magic ∙ c.requires.magic) (damage.1 told all [] 0 (is_read.stays all holds) (start told))),
-        ))
+          (let damage = c.held_back-error.ensures.rows file place same in (
+            damage.0,
+            λ told.
+                let all = (c.requires.ready told).0 in
+                let holds = (c.requires.ready told).1 in
+                let is_read = c.in-Ok.ensures.read told in
+                wrong_damaged all place bytes rows.found (found_here rows_magic all rows rows c.requires.magic holds)
+                (subst (λ (magic : List ℕ). IsWrongEntry magic all place) (c.in-Ok.ensures.same.magic ∙ c.requires.magic) (damage.1 told all [] 0 (is_read.stays all holds) (start told))),
+          ))
       | inr torn ↦
-        (let damage = c.held_back-error.ensures.index torn.1.0 torn.1.1 torn.1.2 in (
-          torn.0,
-          λ told.
-              let all = (c.requires.ready told).0 in
-              let holds = (c.requires.ready told).1 in
-              let is_read = c.in-Ok.ensures.read told in
-              let both = read_more rows mid new is_read (c.held_back-error.ensures.read told) in
-              let sound = damage.2 told all [] 0 (is_read.stays all holds) (start told) in
-              torn_damaged all place bytes (omega (arith, as_many all rows holds, c.requires.some)) (inr (sound.state, sound.sound, sound.same))
-              (broken_here rows_magic all rows new c.requires.magic both place (torn.2 told all (both.stays all holds))),
-        ))
+          (let damage = c.held_back-error.ensures.index torn.1.0 torn.1.1 torn.1.2 in (
+            torn.0,
+            λ told.
+                let all = (c.requires.ready told).0 in
+                let holds = (c.requires.ready told).1 in
+                let is_read = c.in-Ok.ensures.read told in
+                let both = read_more rows mid new is_read (c.held_back-error.ensures.read told) in
+                let sound = damage.2 told all [] 0 (is_read.stays all holds) (start told) in
+                torn_damaged all place bytes (omega (arith, as_many all rows holds, c.requires.some)) (inr (sound.state, sound.sound, sound.same))
+                (broken_here rows_magic all rows new c.requires.magic both place (torn.2 told all (both.stays all holds))),
+          ))
     ]
 
 pub returns-clause-damaged_index : goal.returns-clause-damaged_index

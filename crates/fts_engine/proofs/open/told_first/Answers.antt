@@ -1,4 +1,4 @@
-use Rattle.std.proofs.Common.{◌≡◌, ℕ, List, inr, ap, sym, subst, ◌∙◌}
+use Rattle.std.proofs.Common.{ℕ, List, inr, ap, sym, subst, ◌∙◌}
 use Rattle.fts_log.specs.Record.{IsBrokenBehind}
 use Rattle.fts_log.specs.Records.{records_device}
 use Rattle.fts_steps.specs.State.{rows_magic}
