@@ -130,11 +130,7 @@ fn open_records<D: Disk, E: Disk>(
     let rows = match rows.into_log(limits.log_bytes) {
         Ok(rows) => rows,
         Err((at, rows)) => {
-            let error = OpenError::Damaged {
-                device: Device::Rows,
-                file: 0,
-                at,
-            };
+            let error = LogError::Damaged { at }.on(Device::Rows);
             return Err((error, rows, entries.close()));
         }
     };
@@ -150,11 +146,7 @@ fn open_records<D: Disk, E: Disk>(
             })
         }
         Err((at, index)) => {
-            let error = OpenError::Damaged {
-                device: Device::Index,
-                file: 0,
-                at,
-            };
+            let error = LogError::Damaged { at }.on(Device::Index);
             Err((error, rows.close(), index))
         }
     }
@@ -255,11 +247,7 @@ fn told_first<D: Disk>(rows: Records<D>, error: OpenError) -> (OpenError, D)
             Device::Index => match rows.into_log(LARGEST_LOG) {
                 Ok(log) => (OpenError::Damaged { device, file, at }, log.close()),
                 Err((at, rows)) => {
-                    let error = OpenError::Damaged {
-                        device: Device::Rows,
-                        file: 0,
-                        at,
-                    };
+                    let error = LogError::Damaged { at }.on(Device::Rows);
                     (error, rows)
                 }
             },

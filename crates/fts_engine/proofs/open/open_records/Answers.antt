@@ -13,7 +13,7 @@ use Rattle.fts_engine.specs.Loading.{IsWrongEntry, IsWrongAmong}
 use Rattle.fts_engine.specs.Opening.{IsDamaged, IsIndexDamaged}
 use Rattle.fts_engine.specs.declared.error.Device.TheVariants.{Rows, Index}
 use Rattle.fts_engine.specs.declared.error.OpenError.{OpenError}
-use Rattle.fts_engine.specs.declared.error.OpenError.TheVariants.{Damaged, DiskFault}
+use Rattle.fts_engine.specs.declared.error.OpenError.TheVariants.{DiskFault}
 use Rattle.fts_engine.proofs.Causes.{same_damage, damage_no_fault, ok_no_err, counts_none}
 use Rattle.fts_engine.proofs.Gates.{wrong_damaged, torn_damaged, wrong_index, torn_index}
 use Rattle.fts_engine.proofs.Loading.{loaded_all}
@@ -76,7 +76,7 @@ returns-in-Err-clause-damaged_index g c file at e =
 
 pub returns-in-Err-into_log-clause-damaged_rows : goal.returns-in-Err-into_log-clause-damaged_rows
 returns-in-Err-into_log-clause-damaged_rows g c file at e = (
-  sym (same_damage Rows Rows 0 file c.in-Err-into_log.at at e).1,
+  sym (same_damage Rows Rows 0 file c.in-Err-into_log.at at (sym c.on-error.ensures ∙ e)).1,
   λ told told_index.
       let rows = c.args.rows in
       let bytes = g.D.Disk.seen (records_device rows) 0 in
@@ -86,7 +86,7 @@ returns-in-Err-into_log-clause-damaged_rows g c file at e = (
       let is_read = c.in-Ok.ensures.reads.of_rows told in
       let loaded = c.in-Ok.ensures.loaded told told_index all read holds (c.requires.index_ready told_index).1 in
       let whole = loaded_all all (kept_settings c.in-Ok.kept) (kept_rows c.in-Ok.kept) loaded.of_rows in
-      let place = (same_damage Rows Rows 0 file c.in-Err-into_log.at at e).2 in
+      let place = (same_damage Rows Rows 0 file c.in-Err-into_log.at at (sym c.on-error.ensures ∙ e)).2 in
       subst (λ (at : ℕ). IsDamaged at bytes) place
       (torn_damaged all c.in-Err-into_log.at bytes (omega (arith, as_many all rows holds, c.requires.some)) (inr (loaded.of_rows.state, loaded.of_rows.sound, whole))
       (broken_first rows_magic all rows c.load.new.rows c.requires.magic is_read c.in-Ok.ensures.reads.many_rows c.in-Err-into_log.at
@@ -95,7 +95,7 @@ returns-in-Err-into_log-clause-damaged_rows g c file at e = (
 
 pub returns-in-Err-into_log-2-clause-damaged_index : goal.returns-in-Err-into_log-2-clause-damaged_index
 returns-in-Err-into_log-2-clause-damaged_index g c file at e = (
-  sym (same_damage Index Index 0 file c.in-Err-into_log-2.at at e).1,
+  sym (same_damage Index Index 0 file c.in-Err-into_log-2.at at (sym c.on-error-in-Err-into_log-2.ensures ∙ e)).1,
   λ told told_index.
       let rows = c.args.rows in
       let entries = c.args.entries in
@@ -109,7 +109,7 @@ returns-in-Err-into_log-2-clause-damaged_index g c file at e = (
       let index_read = c.in-Ok.ensures.reads.of_index told_index in
       let loaded = c.in-Ok.ensures.loaded told told_index all read holds holds_index in
       let whole = loaded_all all (kept_settings c.in-Ok.kept) (kept_rows c.in-Ok.kept) loaded.of_rows in
-      let place = (same_damage Index Index 0 file c.in-Err-into_log-2.at at e).2 in
+      let place = (same_damage Index Index 0 file c.in-Err-into_log-2.at at (sym c.on-error-in-Err-into_log-2.ensures ∙ e)).2 in
       let log = c.in-Ok-into_log.rows in
       subst (λ (at : ℕ). IsIndexDamaged at bytes index) place
       record {
@@ -169,18 +169,18 @@ returns-in-Ok-into_log-2-clause-opened g c told told_index =
 
 pub returns-in-Err-into_log-clause-faults : goal.returns-in-Err-into_log-clause-faults
 returns-in-Err-into_log-clause-faults g c =
-    counts_none (IsErrOf {E = OpenError} (Ok c.in-Ok.kept) DiskFault) (Damaged Rows 0 c.in-Err-into_log.at ≡ DiskFault)
+    counts_none (IsErrOf {E = OpenError} (Ok c.in-Ok.kept) DiskFault) (c.on-error.result ≡ DiskFault)
     (g.D.Disk.faults (records_device c.args.rows) + g.E.Disk.faults (records_device c.args.entries))
     (g.D.Disk.faults (records_device c.load.new.rows)) (g.E.Disk.faults (records_device c.load.new.entries))
     (g.D.Disk.faults c.in-Err-into_log.rows) (g.E.Disk.faults c.close-in-Err-into_log.result)
-    (ok_no_err {E = OpenError} c.in-Ok.kept DiskFault) (damage_no_fault Rows 0 c.in-Err-into_log.at)
+    (ok_no_err {E = OpenError} c.in-Ok.kept DiskFault) (λ is. damage_no_fault Rows 0 c.in-Err-into_log.at (sym c.on-error.ensures ∙ is))
     (ap g.D.Disk.faults c.in-Err-into_log.ensures.device) (ap g.E.Disk.faults c.close-in-Err-into_log.ensures) c.in-Ok.ensures.reads.faults
 
 pub returns-in-Err-into_log-2-clause-faults : goal.returns-in-Err-into_log-2-clause-faults
 returns-in-Err-into_log-2-clause-faults g c =
-    counts_none (IsErrOf {E = OpenError} (Ok c.in-Ok.kept) DiskFault) (Damaged Index 0 c.in-Err-into_log-2.at ≡ DiskFault)
+    counts_none (IsErrOf {E = OpenError} (Ok c.in-Ok.kept) DiskFault) (c.on-error-in-Err-into_log-2.result ≡ DiskFault)
     (g.D.Disk.faults (records_device c.args.rows) + g.E.Disk.faults (records_device c.args.entries))
     (g.D.Disk.faults (records_device c.load.new.rows)) (g.E.Disk.faults (records_device c.load.new.entries))
     (g.D.Disk.faults c.close-in-Err-into_log-2.result) (g.E.Disk.faults c.in-Err-into_log-2.index)
-    (ok_no_err {E = OpenError} c.in-Ok.kept DiskFault) (damage_no_fault Index 0 c.in-Err-into_log-2.at)
+    (ok_no_err {E = OpenError} c.in-Ok.kept DiskFault) (λ is. damage_no_fault Index 0 c.in-Err-into_log-2.at (sym c.on-error-in-Err-into_log-2.ensures ∙ is))
     (ap g.D.Disk.faults (c.close-in-Err-into_log-2.ensures ∙ c.in-Ok-into_log.ensures.device)) (ap g.E.Disk.faults c.in-Err-into_log-2.ensures.device) c.in-Ok.ensures.reads.faults

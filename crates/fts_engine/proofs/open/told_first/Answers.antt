@@ -10,7 +10,7 @@ use Rattle.fts_engine.proofs.open.told_first.Goals as goal
 pub returns-in-Err-clause-damaged_rows : goal.returns-in-Err-clause-damaged_rows
 returns-in-Err-clause-damaged_rows g c file at e =
     let index = c.in-Damaged in
-    let same = same_damage Rows Rows 0 file c.in-Err.at at e in
+    let same = same_damage Rows Rows 0 file c.in-Err.at at (sym c.on-error.ensures ∙ e) in
     let bytes = g.D.Disk.seen (records_device c.args.rows) 0 in
     inr (
       sym same.1,
