@@ -6,6 +6,7 @@ use Rattle.fts_log.specs.Records.{AreRead, AreAsMany, records_device}
 use Rattle.fts_log.specs.declared.records.Records.{Records}
 use Rattle.fts_log.proofs.Reading.{read_more}
 use Rattle.fts_engine.specs.Reading.{ReadsBoth}
+use Rattle.fts_engine.proofs.Causes.{counts_as}
 
 -- a count that a fault raised, or that stands
 counts_more : (fault : Type 0) (old mid new : ℕ) → CountsFault ⊥ old mid → CountsFault fault mid new → CountsFault fault old new
@@ -49,12 +50,9 @@ module _ {D E : Type 0} {disk : Ghosts D} {disk' : Ghosts E} where
     of_index = reads.of_index;
     many_rows = reads.many_rows;
     many_index = reads.many_index;
-    faults = record {
-      rose = λ told. reads.faults.rose (down told);
-      calm = λ none. reads.faults.calm (λ told. none (up told));
-      never_falls = reads.faults.never_falls;
-    };
+    faults = counts_as fault fault' _ _ down up reads.faults;
   }
+
   -- a reading of the rows log alone
   pub rows_alone : (fault : Type 0) (rows rows_new : Records D disk) (index : Records E disk') → (IsTrue disk.tells → AreRead rows rows_new) → AreAsMany rows rows_new
       → CountsFault fault (disk.faults (records_device rows)) (disk.faults (records_device rows_new)) → (IsTrue disk'.tells → AreRead index index) → ReadsBoth fault rows index rows_new index

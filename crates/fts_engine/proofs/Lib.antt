@@ -14,3 +14,4 @@ pub mod Props
 pub mod Syncing
 pub mod Covering
 pub mod Replaying
+pub mod Opened
