@@ -1,6 +1,6 @@
 -- Why a database was not opened, by its two logs.
 use Rattle.std.proofs.Common.{◌≡◌, ℕ, ◌+◌, refl, ap, subst, sym, ◌∙◌, inl, inr, arith}
-use Rattle.std.specs.Prelude.{Result, Ok, Err, IsErrOf}
+use Rattle.std.specs.Prelude.{Ok, Err, IsErrOf}
 use Rattle.fts_engine.specs.declared.error.OpenError.{OpenError}
 use Rattle.fts_faults.specs.Count.{Rose, CountsFault}
 use Rattle.fts_engine.specs.Opening.{open_error_of}

@@ -1,12 +1,11 @@
 -- What is known of the two logs when some commits and some entries were read.
-use Rattle.std.proofs.Common.{◌≡◌, ◌≢◌, true, ℕ, ◌+◌, ◌<◌, ◌≤◌, List, [], ◌∷◌, ◌++◌, refl, ap, subst, sym, ◌∙◌, length, arith, map, take, drop, get_or, append_assoc, append-nil, length-append}
-use Rattle.std.proofs.lemmas.List.{take_all, take_more, take-append-le, take-append-drop, drop-append-le, drop_all, length-take, length-take-le, length-drop, length-map, get_or-take, map-append}
+use Rattle.std.proofs.Common.{◌≡◌, ◌≢◌, true, ℕ, ◌+◌, ◌<◌, ◌≤◌, List, [], ◌∷◌, ◌++◌, refl, ap, subst, sym, ◌∙◌, length, arith, map, take, drop, get_or, length-append}
+use Rattle.std.proofs.lemmas.List.{take_all, take_more, length-map, map-append}
 use Rattle.std.proofs.lemmas.List.Elements.{All-head, All-tail, All-push}
-use Rattle.std.specs.Prelude.{All, Ok, fold}
+use Rattle.std.specs.Prelude.{All, Ok}
 use Rattle.fts_types.specs.declared.settings.Settings.{Settings}
-use Rattle.fts_types.specs.Rules.{rules_of}
 use Rattle.fts_types.specs.Limits.{standard_limits}
-use Rattle.fts_commits.specs.Commit.{Commit, Rows, no_rows, after_commit, rows_after, replay}
+use Rattle.fts_commits.specs.Commit.{Commit, no_rows, after_commit, replay}
 use Rattle.fts_commits.specs.Turn.{Turn, turns_from}
 use Rattle.fts_rowcodec.specs.Payload.{commit_payload, IsWritten}
 use Rattle.std.specs.List.{AllByRecursion}
@@ -17,11 +16,11 @@ use Rattle.fts_entries.proofs.Packing.{nodes_ids}
 use Rattle.fts_index.specs.Restore.{AreRead}
 use Rattle.fts_ixcodec.specs.Payload.{entry_payload, is_form, is_form_from, IsWord, IsNode, IsEntry}
 use Rattle.fts_ixcodec.proofs.Entries.{payload_has_one_entry}
-use Rattle.fts_entries.specs.Entry.{Batch, IndexEntry, IndexState, sealed, begun, worked, finished, no_entries, index_of, after_entry}
+use Rattle.fts_entries.specs.Entry.{Batch, IndexEntry, IndexState, sealed, no_entries, index_of}
 use Rattle.fts_entries.specs.Coming.{CanSeal, CanCome, AreEntries}
 use Rattle.fts_entries.proofs.Commits.{same_index}
 use Rattle.fts_entries.proofs.Coming.{entries_more, entries_through, come_behind, come_last, index_behind, seal_less}
-use Rattle.fts_steps.specs.State.{State, payloads, index_payloads, turns_of, index_state, with_commits, with_entries, IsSound, HasEntries}
+use Rattle.fts_steps.specs.State.{State, payloads, turns_of, index_state, with_commits, with_entries, IsSound, HasEntries}
 use Rattle.fts_steps.specs.Fault.{AreOfIndex}
 use Rattle.fts_steps.proofs.Growing.{turns_more, entries_stay, index_stays, none_stand}
 use Rattle.fts_engine.specs.declared.restoring.Restoring.{Restoring}
@@ -29,8 +28,8 @@ use Rattle.fts_engine.specs.declared.kept.Kept.{Kept}
 use Rattle.fts_engine.specs.Kept.{kept_settings, kept_rows, kept_limits, IsIndexed}
 use Rattle.fts_engine.specs.Restoring.{restoring_settings, restoring_rows, restoring_commits, IsCovering, IsInstalled}
 use Rattle.fts_engine.specs.Reading.{IsWrongPayload}
-use Rattle.fts_engine.specs.Loading.{BeginsWith, AreLoaded, IsRestored, StillRestored, IsLoaded, NoneCanCome, AreSound}
-use Rattle.fts_engine.proofs.Loading.{one_more, front_of, within_all}
+use Rattle.fts_engine.specs.Loading.{BeginsWith, IsRestored, StillRestored, IsLoaded, NoneCanCome, AreSound}
+use Rattle.fts_engine.proofs.Loading.{one_more, front_of}
 use Rattle.fts_engine.proofs.Indexing.{turns_count}
 
 -- a list whose payloads are some and one more is a list and one more

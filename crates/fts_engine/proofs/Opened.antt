@@ -1,5 +1,5 @@
 -- What the records of a log are, when they were read to its end.
-use Rattle.std.proofs.Common.{◌≡◌, ℕ, ◌+◌, List, [], refl, ap, sym, subst, ◌∙◌, take, arith}
+use Rattle.std.proofs.Common.{◌≡◌, ℕ, List, ap, sym, subst, ◌∙◌}
 use Rattle.fts_disk.specs.Device.{Files}
 use Rattle.fts_disk.specs.declared.disk.Disk.{Ghosts}
 use Rattle.fts_log.specs.declared.log.Log.{Log}
@@ -8,17 +8,11 @@ use Rattle.fts_log.specs.Log.{StandsFor, device_of, magic_of, limit_of}
 use Rattle.fts_log.specs.Record.{IsLog, IsBrokenBehind, log_end}
 use Rattle.fts_log.specs.Records.{Hold, AreRead, AreAsMany, records_device, records_magic}
 use Rattle.fts_log.specs.Scan.{IsFoundIn}
-use Rattle.fts_types.specs.declared.settings.Settings.{Settings}
-use Rattle.fts_commits.specs.Commit.{no_rows}
-use Rattle.fts_entries.specs.Entry.{no_entries}
 use Rattle.fts_steps.specs.State.{rows_magic, IsRows}
 use Rattle.fts_steps.specs.Fault.{AreOfIndex}
-use Rattle.fts_engine.specs.Loading.{BeginsWith, AreLoaded, IsRestored, AreSound, IsLoaded}
+use Rattle.fts_engine.specs.Loading.{AreSound, IsLoaded}
 use Rattle.fts_engine.specs.Stands.{KeepsLog}
 use Rattle.fts_engine.specs.declared.kept.Kept.{Kept}
-use Rattle.fts_engine.specs.declared.restoring.Restoring.{Restoring}
-use Rattle.fts_engine.specs.Restoring.{restoring_settings, restoring_rows, restoring_commits, IsCovering}
-use Rattle.fts_engine.proofs.Covering.{first_restored}
 
 -- the log that records are has its own numbers
 pub keeps_log : {D : Type 0} {disk : Ghosts D} (magic : List ℕ) (entries : List (List ℕ)) (limit : ℕ) (log : Log D disk) → StandsFor entries log

@@ -1,5 +1,5 @@
 -- What is kept while the entries of an index log are read, one commit or one batch further.
-use Rattle.std.proofs.Common.{◌≡◌, ℕ, ◌+◌, ◌<◌, ◌≤◌, List, [], ◌∷◌, ◌++◌, refl, ap, subst, sym, ◌∙◌, length, arith, take, drop, length-append}
+use Rattle.std.proofs.Common.{◌≡◌, ℕ, ◌+◌, ◌≤◌, List, [], ◌∷◌, ◌++◌, refl, ap, subst, sym, ◌∙◌, length, arith, take, drop, length-append}
 use Rattle.std.proofs.lemmas.List.{take_all, take-append-le, take-append-drop, drop-append-le, drop_all, length-take, length-drop}
 use Rattle.std.specs.Prelude.{Result, Ok, Err, IsErr, OnOk, OnErr}
 use Rattle.fts_types.specs.declared.settings.Settings.{Settings}

@@ -1,4 +1,4 @@
-use Rattle.std.proofs.Common.{◌≡◌, ℕ, List, [], ◌+◌, ◌<◌, length, ap, sym, subst, ◌∙◌, arith, get_or}
+use Rattle.std.proofs.Common.{◌≡◌, ℕ, List, [], ◌+◌, length, ap, sym, subst, ◌∙◌, arith, get_or}
 use Rattle.fts_commits.specs.Commit.{Commit}
 use Rattle.fts_types.specs.declared.settings.Settings.{Settings}
 use Rattle.fts_log.specs.Record.{gate_at}

@@ -1,4 +1,4 @@
-use Rattle.std.proofs.Common.{List, ℕ, ◌+◌, refl, ap, subst, sym, ◌∙◌}
+use Rattle.std.proofs.Common.{ℕ, ◌+◌, refl, ap, subst, sym, ◌∙◌}
 use Rattle.fts_log.specs.Records.{records_device}
 use Rattle.fts_log.proofs.Reading.{read_none, read_more}
 use Rattle.fts_engine.specs.Loading.{IsWrongEntry}

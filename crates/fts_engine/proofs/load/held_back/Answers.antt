@@ -1,4 +1,4 @@
-use Rattle.std.proofs.Common.{ℕ, ◌+◌, sym, ap, ◌∙◌, arith}
+use Rattle.std.proofs.Common.{◌+◌, sym, ap, ◌∙◌, arith}
 use Rattle.std.specs.Prelude.{Err}
 use Rattle.fts_log.proofs.Reading.{as_many}
 use Rattle.fts_engine.specs.Restoring.{restoring_settings, restoring_rows, restoring_commits}

@@ -1,4 +1,4 @@
-use Rattle.std.proofs.Common.{◌≡◌, ℕ, List, subst, sym, ap, ◌∙◌}
+use Rattle.std.proofs.Common.{ℕ, subst, sym, ◌∙◌}
 use Rattle.std.proofs.lemmas.Result.{IfOk-weaker}
 use Rattle.fts_log.specs.Records.{records_magic}
 use Rattle.fts_log.proofs.Reading.{read_none}

@@ -1,5 +1,5 @@
 use Rattle.std.proofs.Common.{◌≡◌, ℕ, List, [], length, ap, sym, subst, ◌∙◌, arith, get_or}
-use Rattle.fts_commits.specs.Commit.{Commit, Rows, after_commit}
+use Rattle.fts_commits.specs.Commit.{Commit, after_commit}
 use Rattle.fts_types.specs.declared.limits.Limits.{Limits}
 use Rattle.fts_types.specs.declared.settings.Settings.{Settings}
 use Rattle.fts_log.specs.Record.{gate_at}

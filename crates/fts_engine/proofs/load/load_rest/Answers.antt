@@ -1,12 +1,9 @@
 use Rattle.std.proofs.Common.{ℕ, ◌+◌, sym, subst, ap, ◌∙◌}
 use Rattle.std.specs.Prelude.{Err}
-use Rattle.fts_faults.specs.Count.{CountsFault}
 use Rattle.fts_log.specs.Records.{records_device}
 use Rattle.fts_engine.specs.Loading.{IsLoaded}
 use Rattle.fts_engine.specs.Opening.{open_error_of}
 use Rattle.fts_engine.specs.declared.error.Device.TheVariants.{Rows}
-use Rattle.fts_engine.specs.declared.error.OpenError.{OpenError}
-use Rattle.fts_engine.specs.declared.error.OpenError.TheVariants as opening
 use Rattle.fts_engine.proofs.Causes.{of_damage, of_not_created, counts_of, fault_of}
 use Rattle.fts_engine.proofs.Covering.{to_kept}
 use Rattle.fts_engine.proofs.load.load_rest.Goals as goal

@@ -1,4 +1,4 @@
-use Rattle.std.proofs.Common.{ℕ, sym, subst, ap, ◌∙◌, arith}
+use Rattle.std.proofs.Common.{sym, subst, ap, arith}
 use Rattle.std.specs.Prelude.{Err}
 use Rattle.fts_rows.specs.Rows.{rows_of}
 use Rattle.fts_entries.specs.Entry.{Batch, IndexState, sealed}

@@ -1,6 +1,5 @@
 use Rattle.std.proofs.Common.{◌≡◌, ℕ, length, subst, sym, ap, arith, ◌∙◌}
 use Rattle.fts_log.specs.Record.{gate_at}
-use Rattle.fts_log.specs.Records.{records_magic}
 use Rattle.fts_log.proofs.Reading.{as_many, read_none}
 use Rattle.fts_engine.specs.Loading.{IsRestored, IsWrongEntry}
 use Rattle.fts_engine.proofs.BothLogs.{both_none, both_more, both_told}
