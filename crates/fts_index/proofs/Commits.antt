@@ -1,20 +1,16 @@
 -- What an index stands for where nothing changes but room, and behind a commit.
-use Rattle.std.proofs.Common.{◌≡◌, ℕ, ◌≤◌, Bool, ◌||◌, List, [], ◌∷◌, ◌++◌, map, length, drop, append-nil, refl, sym, ap, ap₂, subst, ◌∙◌, arith, nat_eq}
-use Rattle.std.specs.List.{flat_map}
+use Rattle.std.proofs.Common.{◌≡◌, ℕ, Bool, ◌||◌, List, [], ◌∷◌, ◌++◌, map, append-nil, sym, ap, ap₂, ◌∙◌, arith, nat_eq}
 use Rattle.std.proofs.lemmas.Grind.{flat_map-append}
 use Rattle.std.proofs.lemmas.List.{map-append, drop-append-le, length-append}
 use Rattle.std.proofs.lemmas.List.Folds.{list_any-append}
 use Rattle.fts_words.specs.Indexed.{Rules}
 use Rattle.fts_types.specs.Row.{Row}
 use Rattle.fts_ids.specs.Ids.{has}
-use Rattle.fts_lists.specs.Ids.{with_ids}
-use Rattle.fts_lists.specs.State.{State, ids_of, ChangesOnly}
+use Rattle.fts_lists.specs.State.{State, ids_of}
 use Rattle.fts_lists.specs.declared.lists.DeleteList.TheVariants.{Deleted, BeingDeleted, DeletedCache}
 use Rattle.fts_lists.proofs.Merging.{has-with_ids}
 use Rattle.fts_ilist.specs.Spelling.{Posting}
-use Rattle.fts_cache.specs.Document.{Document, document_postings}
-use Rattle.fts_cache.specs.Cache.{CachedDocument, cached, postings_of}
-use Rattle.fts_aux.specs.Tables as tables
+use Rattle.fts_cache.specs.Cache.{CachedDocument}
 use Rattle.fts_commits.specs.Turn.{Turn, births_of, deaths_of}
 use Rattle.fts_entries.specs.Entry.{IndexState, unflushed}
 use Rattle.fts_entries.specs.Batch.{largest_after}
@@ -22,9 +18,8 @@ use Rattle.fts_entries.specs.Words.{row_postings, rows_postings}
 use Rattle.fts_entries.proofs.Turns.{largest_behind}
 use Rattle.fts_index.specs.declared.index.Index.{Index}
 use Rattle.fts_index.specs.declared.index.CommitPlan.{CommitPlan}
-use Rattle.fts_index.specs.declared.pending.Pending.{Pending}
 use Rattle.fts_index.specs.Index.{StandsFor, WillTurn, CanTurn, PendingSeen, pending_seen, pending_of, cached_row}
-use Rattle.fts_index.specs.Parts.{AddsDocuments, HasSame, IsCommitted}
+use Rattle.fts_index.specs.Parts.{HasSame, IsCommitted}
 use Rattle.fts_index.proofs.Births.{documents_end, same_postings, same_documents}
 
 -- an index with the same stands for the same

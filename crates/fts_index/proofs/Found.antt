@@ -9,7 +9,6 @@ use Rattle.fts_words.specs.declared.placed.PlacedWord.{PlacedWord}
 use Rattle.fts_words.specs.Indexed.{Rules, indexed_words, word_of}
 use Rattle.fts_ilist.specs.Spelling.{Posting}
 use Rattle.fts_types.specs.Row.{Row}
-use Rattle.fts_meaning.specs.Holds.{some_indexed}
 use Rattle.fts_meaning.specs.View.{has_word, ids_where}
 use Rattle.fts_entries.specs.Words.{posting_at, row_postings, rows_postings}
 use Rattle.fts_index.specs.Gathered.{doc_ids}

@@ -1,5 +1,5 @@
 -- What documents have by the cache is what rows have by their texts.
-use Rattle.std.proofs.Common.{◌≡◌, ◌↔◌, ℕ, suc, ◌+◌, ◌-◌, ◌<◌, ◌≤◌, Bool, true, false, cond, not, ◌&&◌, ◌||◌, List, [], ◌∷◌, ◌++◌, map, filter, length, take, get_or, nat_lt, append_assoc, append-nil, nat_eq, Some, refl, sym, ap, ap₂, subst, ◌∙◌, ⊎_elim, arith, All, IsTrue}
+use Rattle.std.proofs.Common.{◌≡◌, ◌↔◌, ℕ, suc, ◌+◌, ◌-◌, ◌<◌, Bool, true, false, cond, not, ◌&&◌, ◌||◌, List, [], ◌∷◌, ◌++◌, map, filter, length, take, get_or, nat_lt, append_assoc, append-nil, nat_eq, Some, refl, sym, ap, ap₂, subst, ◌∙◌, ⊎_elim, arith, All, IsTrue}
 use Rattle.std.specs.Prelude.{◌≢◌, Result, Ok, Err, IfOk}
 use Rattle.std.specs.Borrow.{Bor}
 use Rattle.std.specs.List.{AllByRecursion, list_any, list_all}

@@ -10,7 +10,7 @@ use Rattle.fts_types.specs.declared.row.Row.{Row as Kept}
 use Rattle.fts_commits.specs.Turn.{Turn, RowsAscend, AreTurns, deaths_of}
 use Rattle.fts_ilist.specs.Node.{Docs, NodesAfter, last_of, nodes_for}
 use Rattle.fts_ilist.specs.Packing.{packed, joined}
-use Rattle.fts_entries.specs.Entry.{Batch, IndexState, no_entries, sealed, after_entry, unflushed_through}
+use Rattle.fts_entries.specs.Entry.{Batch, no_entries, unflushed_through}
 use Rattle.fts_entries.specs.Batch.{IsBatch, alive_of, largest_after, after_batch}
 use Rattle.fts_entries.specs.Exact.{FitsTurns, IdsAfter}
 use Rattle.fts_entries.proofs.Commits.{one_fits, none_fits}
@@ -21,7 +21,7 @@ use Rattle.fts_entries.proofs.Turns.{largest_behind}
 use Rattle.fts_index.specs.declared.index.Index.{Index}
 use Rattle.fts_index.specs.declared.sync.SyncPlan.{SyncPlan}
 use Rattle.fts_index.specs.Births.{AreBirths, turn_of}
-use Rattle.fts_index.specs.Index.{StandsFor, AreCommits, CanTurn, CanAdd}
+use Rattle.fts_index.specs.Index.{StandsFor, CanTurn, CanAdd}
 use Rattle.fts_index.proofs.Births.{ids_lower}
 use Rattle.fts_index.specs.Restore.{AreRead}
 use Rattle.fts_entries.proofs.Groups.{own_nodes}

@@ -1,5 +1,5 @@
 -- What the parts of an index say.
-use Rattle.std.specs.Prelude.{◌≡◌, ℕ, ◌+◌, ◌<◌, List, [], ◌∷◌, ◌++◌, ◌||◌, ◌&&◌, not, take, drop, flat_map, map}
+use Rattle.std.specs.Prelude.{◌≡◌, ℕ, ◌+◌, List, [], ◌∷◌, ◌++◌, ◌||◌, ◌&&◌, not, take, drop, flat_map, map}
 use Rattle.std.specs.Prelude.{max, nat_lt, nat_le, if◌then◌else◌}
 use Rattle.fts_cache.specs.Document.{Document, document_postings}
 use Rattle.fts_cache.specs.Cache.{CacheState, cached, cached_behind, postings_of, SameContents}

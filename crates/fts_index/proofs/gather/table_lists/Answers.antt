@@ -1,6 +1,5 @@
 use Rattle.std.proofs.Common.{ap, arith, map, sym, ◌∙◌}
 use Rattle.std.specs.List.{list_any}
-use Rattle.std.specs.Map.{keys_of}
 use Rattle.std.proofs.lemmas.List.{take_all}
 use Rattle.fts_index.specs.Gathered.{table_has}
 use Rattle.fts_index.proofs.Gathering.{table_told, any_mapped}

@@ -1,4 +1,4 @@
-use Rattle.std.proofs.Common.{List, ℕ, [], ◌∷◌, map, ap, sym, subst, arith, ◌∙◌}
+use Rattle.std.proofs.Common.{List, ℕ, [], map, ap, sym, subst, arith, ◌∙◌}
 use Rattle.std.proofs.lemmas.List.{take_all}
 use Rattle.fts_ilist.specs.Node.{Docs}
 use Rattle.fts_cache.specs.Cache.{postings_of}

@@ -1,5 +1,5 @@
 use Rattle.std.proofs.Common.{List, ℕ, ◌≡◌, Bool, ◌||◌, ◌&&◌, not, nat_le, ap, sym, subst, ◌∙◌}
-use Rattle.fts_ids.specs.Ids.{has, Ascend, AscendFrom}
+use Rattle.fts_ids.specs.Ids.{has, Ascend}
 use Rattle.fts_lists.specs.State.{State, ids_of}
 use Rattle.fts_lists.specs.declared.lists.DeleteList.TheVariants.{Deleted, BeingDeleted, DeletedCache}
 use Rattle.fts_lists.proofs.Ascending.{has-without}

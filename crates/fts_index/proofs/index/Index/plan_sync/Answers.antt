@@ -1,10 +1,9 @@
-use Rattle.std.proofs.Common.{ℕ, ◌+◌, ◌<◌, map, length, refl, ap, subst, ◌∙◌, arith}
+use Rattle.std.proofs.Common.{ℕ, ◌+◌, map, refl, ap, subst, ◌∙◌, arith}
 use Rattle.std.proofs.Math.Nat.{le-max_left}
 use Rattle.fts_aux.specs.Tables.{HasRoomOf}
 use Rattle.fts_index.specs.declared.sync.SyncPlan.{SyncPlan}
 use Rattle.fts_index.specs.Index.{pending_seen}
 use Rattle.fts_index.specs.Parts.{counted_within}
-use Rattle.fts_index.proofs.Commits.{stands_still}
 use Rattle.fts_index.proofs.Syncing.{IsPlanned, is_batch, is_fit}
 use Rattle.fts_index.proofs.index.Index.plan_sync.Goals as goal
 
