@@ -1,14 +1,15 @@
 -- What the bytes of a log are that was opened.
-use Rattle.std.proofs.Common.{◌≡◌, ℕ, ◌<◌, Bool, true, false, List, [], ◌∷◌, ◌++◌, refl, subst, sym, ap, ◌∙◌, append_assoc, length, inl, inr, arith}
+use Rattle.std.proofs.Common.{◌≡◌, ℕ, ◌<◌, Bool, true, false, List, [], ◌∷◌, ◌++◌, refl, subst, sym, ap, ◌∙◌, length, take, inl, inr, arith}
 use Rattle.std.specs.Prelude.{Result, Ok, Err, IfOk, IfErr}
 use Rattle.fts_log.specs.declared.found.Found.{Found}
-use Rattle.fts_log.specs.Record.{IsLog, IsBrokenBehind, IsDamagedAt, front, records, gate_at}
+use Rattle.fts_log.specs.Record.{IsLog, IsBrokenBehind, IsDamagedAt, front}
+use Rattle.std.proofs.lemmas.List.{length-take-le}
 use Rattle.fts_log.specs.Scan.{EndsAs, IsFoundIn}
 use Rattle.fts_log.proofs.Unique.{one_list, not_damaged}
-use Rattle.fts_steps.specs.State.{payloads, rows_magic, index_magic, IsCreated}
-use Rattle.fts_steps.specs.Fault.{AreNoState, AreOfState, IsFaultAt, IsIndexFaultAt}
+use Rattle.fts_steps.specs.State.{State, payloads, rows_magic, index_magic, IsSound, IsCreated}
+use Rattle.fts_steps.specs.Fault.{AreOfRows, AreOfIndex, IsFaultAt, IsIndexFaultAt}
 use Rattle.fts_engine.specs.Opening.{IsNoRows, IsDamaged}
-use Rattle.fts_engine.specs.Loading.{IsWrongEntry}
+use Rattle.fts_engine.specs.Loading.{AreNoRows, IsWrongEntry, IsWrongAmong}
 
 -- a fact holds of each value
 pub always : {T E : Type 0} (P : Type 0) (result : Result T E) → P → IfOk result (λ _. P)
@@ -42,7 +43,7 @@ pub broken_no_rows : (entries : List (List ℕ)) (at : ℕ) (file : List ℕ) �
 broken_no_rows entries at file broken = damaged_no_rows at file (inr (entries, broken))
 
 -- records whose entries are no sound state's, however they end, are no database
-pub found_no_rows : (entries : List (List ℕ)) (file : List ℕ) (found : Found) → IsFoundIn rows_magic entries file found → AreNoState entries → IsNoRows file
+pub found_no_rows : (entries : List (List ℕ)) (file : List ℕ) (found : Found) → IsFoundIn rows_magic entries file found → AreNoRows entries → IsNoRows file
 found_no_rows entries file found is none = by_end found.is_whole is.«end»
   where
     by_end : (whole : Bool) → EndsAs whole is.rest → IsNoRows file
@@ -58,6 +59,11 @@ pub none_torn : (entries : List (List ℕ)) (at : ℕ) (file : List ℕ) → len
 none_torn [] at file none broken = inr (inr (record { entries = []; before = inl refl; broken = broken }))
 none_torn (payload ∷ entries) at file none broken = absurd (omega (arith, none))
 
+-- payloads of which there are some, and that are no sound database's, are none of a rows log
+not_of_rows : (entries : List (List ℕ)) → 0 < length entries → AreNoRows entries → AreOfRows entries → ⊥
+not_of_rows entries some none (inl nothing) = omega (arith, some, ap length nothing)
+not_of_rows entries some none (inr is) = none is.0 is.1.0 is.1.1
+
 -- a wrong entry is the first place at fault
 pub wrong_damaged : (entries : List (List ℕ)) (at : ℕ) (file : List ℕ) (found : Found) → IsFoundIn rows_magic entries file found → IsWrongEntry rows_magic entries at → IsDamaged at file
 wrong_damaged entries at file found is wrong = record {
@@ -71,12 +77,12 @@ wrong_damaged entries at file found is wrong = record {
     within = wrong.within;
     place = wrong.place;
     before = wrong.before;
-    wrong = wrong.wrong;
+    wrong = not_of_rows (take (wrong.k + 1) entries) (omega (arith, length-take-le (wrong.k + 1) entries (omega (arith, wrong.within)))) wrong.wrong;
   }));
 }
 
 -- and so is a torn record behind entries of a state
-pub torn_damaged : (entries : List (List ℕ)) (at : ℕ) (file : List ℕ) → 0 < length entries → AreOfState entries → IsBrokenBehind rows_magic entries at file → IsDamaged at file
+pub torn_damaged : (entries : List (List ℕ)) (at : ℕ) (file : List ℕ) → 0 < length entries → AreOfRows entries → IsBrokenBehind rows_magic entries at file → IsDamaged at file
 torn_damaged entries at file some before broken = record {
   created = front_created entries broken.rest file some broken.bytes;
   none = broken_no_rows entries at file broken;
@@ -87,19 +93,21 @@ torn_damaged entries at file some before broken = record {
 pub fault_damaged : (at : ℕ) (file : List ℕ) → IsFaultAt at file → IsNoRows file → IsCreated file → IsDamaged at file
 fault_damaged at file place none created = record { created = created; none = none; place = place }
 
--- an index log that has a record is at fault at its first gate, which is open
-pub some_open : (entries : List (List ℕ)) (at : ℕ) (file : List ℕ) (found : Found) → IsFoundIn index_magic entries file found → 0 < length entries
-    → at ≡ gate_at index_magic entries 0 → IsIndexFaultAt at file
-some_open [] at file found is some place = absurd (omega (arith, some))
-some_open (payload ∷ entries) at file found is some place = inr (record {
-  rest = records (payload ∷ entries) ++ is.rest;
-  bytes = is.bytes ∙ append_assoc index_magic (records (payload ∷ entries)) is.rest;
-  place = place;
-  unclosed = λ gate more e. (let same = e in cc);
-})
+-- a wrong payload of the index log is its first place at fault
+pub wrong_index : (state : State) → IsSound state → (all entries : List (List ℕ)) (at : ℕ) (file : List ℕ) (found : Found) → payloads state ≡ all
+    → IsFoundIn index_magic entries file found → IsWrongAmong index_magic all entries at → IsIndexFaultAt state at file
+wrong_index state sound all entries at file found is found_in wrong = inr (inl (record {
+  entries = entries;
+  rest = found_in.rest;
+  bytes = found_in.bytes;
+  k = wrong.j;
+  within = wrong.within;
+  place = wrong.place;
+  before = wrong.is.before state sound is;
+  wrong = wrong.is.wrong state sound is;
+}))
 
--- and so is one without a record where a closed gate is missing
-pub none_open : (entries : List (List ℕ)) (at : ℕ) (file : List ℕ) → length entries ≡ 0 → IsBrokenBehind index_magic entries at file → IsIndexFaultAt at file
-none_open [] at file none broken =
-    inr (record { rest = broken.rest; bytes = broken.bytes; place = broken.place; unclosed = broken.broken.not_closed })
-none_open (payload ∷ entries) at file none broken = absurd (omega (arith, none))
+-- and so is a torn record behind payloads of entries
+pub torn_index : (state : State) (entries : List (List ℕ)) (at : ℕ) (file : List ℕ) → AreOfIndex state entries → IsBrokenBehind index_magic entries at file
+    → IsIndexFaultAt state at file
+torn_index state entries at file before broken = inr (inr (record { entries = entries; before = before; broken = broken }))

@@ -19,7 +19,8 @@ use Rattle.fts_rows.specs.Rows.{Held, rows_of}
 use Rattle.fts_entries.specs.Entry.{Batch, IndexState, no_entries, sealed, after_entry}
 use Rattle.fts_entries.specs.Batch.{IsBatch, largest_after, after_batch}
 use Rattle.fts_entries.specs.Exact.{FitsTurns}
-use Rattle.fts_entries.proofs.Commits.{one_fits, none_fits}
+use Rattle.fts_entries.proofs.Commits.{one_fits}
+use Rattle.fts_entries.proofs.Turns.{two_parts}
 use Rattle.fts_entries.proofs.Kept.{still_fits, same_state}
 use Rattle.fts_index.specs.declared.index.Index.{Index}
 use Rattle.fts_index.specs.Births.{AreBirths}
@@ -72,17 +73,30 @@ pub record AreLaws : Type 0 where
   pub rows : (commits : List Commit) → fold rows_by no_rows (turns_from no_rows commits) ≡ replay commits
   pub once : (commits : List Commit) → IsDistinct nat_eq (deaths_of (turns_from no_rows commits))
 
--- an index of no commits
-pub none_right : (settings : Settings) (rows : Rows) (index : Index) → rows ≡ no_rows → StandsFor (rules_of settings) [] no_entries index → AreLaws
-    → IsIndexOf settings rows index [] no_entries
-none_right settings rows index is stands laws = record {
-  same = is;
-  stands = stands;
-  are = record { ascend = tt; once = laws.once [] };
-  lead = laws.rows [];
-  fits = none_fits [];
-  ascend = omega arith;
-}
+-- the rows behind one commit more ascend
+pub rows_ascend_more : (commits : List Commit) (commit : Commit) → AreLaws → RowsAscend 0 (replay commits).largest (replay commits).list
+    → RowsAscend 0 (replay (commits ++ commit ∷ [])).largest (replay (commits ++ commit ∷ [])).list
+rows_ascend_more commits commit laws up =
+    subst (λ (rows : Rows). RowsAscend 0 rows.largest rows.list) led
+    (rows_join 0 (replay commits).largest turn.largest (rows_but turn.deaths (replay commits).list) turn.births
+    (rows_left (λ row. not (list_any (λ id. id == row.doc) turn.deaths)) 0 (replay commits).largest (replay commits).list up) births)
+  where
+    turns : List Turn
+    turns = turns_from no_rows commits
+
+    turn : Turn
+    turn = turn_between (replay commits) (rows_after (replay commits) commit)
+
+    grown : turns_from no_rows (commits ++ commit ∷ []) ≡ turns ++ turn ∷ []
+    grown = turns_more no_rows commits (commit ∷ [])
+
+    births : RowsAscend (replay commits).largest turn.largest turn.births
+    births = subst (λ (largest : ℕ). RowsAscend largest turn.largest turn.births) (largest_is no_rows commits)
+        (two_parts 0 turns (turn ∷ []) (subst (AreTurns 0) grown (laws.ascend (commits ++ commit ∷ [])))).of_rest.0
+
+    led : rows_by (replay commits) turn ≡ replay (commits ++ commit ∷ [])
+    led = ap (λ (rows : Rows). rows_by rows turn) (sym (laws.rows commits)) ∙ sym (fold-append rows_by no_rows turns (turn ∷ []))
+        ∙ ap (fold rows_by no_rows) (sym grown) ∙ laws.rows (commits ++ commit ∷ [])
 
 module _ (settings : Settings) (held : Held) (old new : Index) (next : NextKept) (commit : Commit) (after : Rows) (will : WillHold settings held old next commit after)
     (commits : List Commit) (s : IndexState) (is : IsIndexOf settings (rows_of held) old commits s) (laws : AreLaws)
@@ -116,18 +130,6 @@ module _ (settings : Settings) (held : Held) (old new : Index) (next : NextKept)
   stands = installed (rules_of settings) turns s turn is.stands
       (subst (λ (rows : Rows). WillTurn (rules_of settings) (turn_between rows after) old next.words) is.same will.turn) can
 
-  are : AreTurns 0 (turns ++ turn ∷ [])
-  are = subst (AreTurns 0) grown (laws.ascend (commits ++ commit ∷ []))
-
-  led : rows_by (replay commits) turn ≡ replay (commits ++ commit ∷ [])
-  led = ap (λ (rows : Rows). rows_by rows turn) (sym (laws.rows commits)) ∙ sym (fold-append rows_by no_rows turns (turn ∷ []))
-      ∙ ap (fold rows_by no_rows) (sym grown) ∙ laws.rows (commits ++ commit ∷ [])
-
-  rows_ascend : RowsAscend 0 (replay (commits ++ commit ∷ [])).largest (replay (commits ++ commit ∷ [])).list
-  rows_ascend = subst (λ (rows : Rows). RowsAscend 0 rows.largest rows.list) led
-      (rows_join 0 (replay commits).largest turn.largest (rows_but turn.deaths (replay commits).list) turn.births
-      (rows_left (λ row. not (list_any (λ id. id == row.doc) turn.deaths)) 0 (replay commits).largest (replay commits).list is.ascend) births.ids)
-
   -- an index that got the turn of one commit more stands for it
   pub one_right : IsIndexOf settings after new (commits ++ commit ∷ []) s
   one_right = record {
@@ -136,7 +138,7 @@ module _ (settings : Settings) (held : Held) (old new : Index) (next : NextKept)
     are = record { ascend = laws.ascend (commits ++ commit ∷ []); once = laws.once (commits ++ commit ∷ []) };
     lead = laws.rows (commits ++ commit ∷ []);
     fits = subst (λ (turns : List Turn). FitsTurns turns s) (sym grown) (one_fits turns turn s is.fits);
-    ascend = rows_ascend;
+    ascend = rows_ascend_more commits commit laws is.ascend;
   }
 
 -- the last id of the cache is one that the rows used

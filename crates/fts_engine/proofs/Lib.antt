@@ -11,5 +11,5 @@ pub mod Candidates
 pub mod Indexing
 pub mod Props
 pub mod Syncing
-pub mod Restoring
 pub mod Covering
+pub mod Replaying

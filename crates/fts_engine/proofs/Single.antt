@@ -1,4 +1,4 @@
--- A file is the rows log of one state alone.
+-- Files are the two logs of one state alone.
 use Rattle.std.proofs.Common.{◌≡◌, ℕ, List, [], ◌∷◌, refl, ap, subst, sym, ◌∙◌, map, drop, get_or, length}
 use Rattle.std.proofs.lemmas.List.Elements.{All-head, All-tail}
 use Rattle.std.specs.Prelude.{All}
@@ -7,7 +7,10 @@ use Rattle.fts_commits.specs.Commit.{Commit}
 use Rattle.fts_log.proofs.Unique.{one_list}
 use Rattle.fts_rowcodec.specs.Payload.{commit_payload, IsWritten}
 use Rattle.fts_rowcodec.proofs.Unique.{payload_has_one_commit, payload_has_one_settings}
-use Rattle.fts_steps.specs.State.{State, payloads, rows_magic, IsRows}
+use Rattle.fts_entries.specs.Entry.{IndexEntry}
+use Rattle.fts_ixcodec.specs.Payload.{entry_payload, IsEntry}
+use Rattle.fts_ixcodec.proofs.Entries.{payload_has_one_entry}
+use Rattle.fts_steps.specs.State.{State, payloads, index_payloads, rows_magic, index_magic, IsDatabase}
 
 -- commits with the same payloads are the same
 same_commits : (columns : ℕ) (a b : List Commit) → All (IsWritten columns) a → All (IsWritten columns) b → map commit_payload a ≡ map commit_payload b → a ≡ b
@@ -20,14 +23,28 @@ same_commits columns (commit ∷ a) (other ∷ b) written written' same =
     let tail : a ≡ b = same_commits columns a b (All-tail (IsWritten columns) commit a written) (All-tail (IsWritten columns) other b written') (ap (drop 1) same) in
     ap (λ (c : Commit). c ∷ a) head ∙ ap (λ (l : List Commit). other ∷ l) tail
 
--- a file is the rows log of one state alone
-pub one_database : (a b : State) (file : List ℕ) → IsRows a file → IsRows b file → a ≡ b
-one_database a b file database database' =
-    let same : payloads a ≡ payloads b = one_list rows_magic (payloads a) (payloads b) file database.log database'.log in
+-- entries with the same payloads are the same
+pub one_entries : (a b : List IndexEntry) → All IsEntry a → All IsEntry b → map entry_payload a ≡ map entry_payload b → a ≡ b
+one_entries [] [] is is' same = refl
+one_entries [] (entry ∷ b) is is' same = absurd (let e = same in cc)
+one_entries (entry ∷ a) [] is is' same = absurd (let e = same in cc)
+one_entries (entry ∷ a) (other ∷ b) is is' same =
+    let head : entry ≡ other = payload_has_one_entry entry other (All-head IsEntry entry a is) (All-head IsEntry other b is') (ap (λ (l : List (List ℕ)). get_or l 0 []) same) in
+    let tail : a ≡ b = one_entries a b (All-tail IsEntry entry a is) (All-tail IsEntry other b is') (ap (drop 1) same) in
+    ap (λ (e : IndexEntry). e ∷ a) head ∙ ap (λ (l : List IndexEntry). other ∷ l) tail
+
+-- files are the two logs of one state alone
+pub one_database : (a b : State) (rows index : List ℕ) → IsDatabase a rows index → IsDatabase b rows index → a ≡ b
+one_database a b rows index database database' =
+    let log = database.of_rows in
+    let log' = database'.of_rows in
+    let same : payloads a ≡ payloads b = one_list rows_magic (payloads a) (payloads b) rows log.log log'.log in
     let settings : a.settings ≡ b.settings =
-    payload_has_one_settings a.settings b.settings database.sound.settings database'.sound.settings (ap (λ (l : List (List ℕ)). get_or l 0 []) same) in
-    let written : All (IsWritten (length b.settings.columns)) a.commits = subst (λ (s : Settings). All (IsWritten (length s.columns)) a.commits) settings database.sound.written in
-    let commits : a.commits ≡ b.commits = same_commits (length b.settings.columns) a.commits b.commits written database'.sound.written (ap (drop 1) same) in
+    payload_has_one_settings a.settings b.settings log.sound.settings log'.sound.settings (ap (λ (l : List (List ℕ)). get_or l 0 []) same) in
+    let written : All (IsWritten (length b.settings.columns)) a.commits = subst (λ (s : Settings). All (IsWritten (length s.columns)) a.commits) settings log.sound.written in
+    let commits : a.commits ≡ b.commits = same_commits (length b.settings.columns) a.commits b.commits written log'.sound.written (ap (drop 1) same) in
+    let told : index_payloads a ≡ index_payloads b = one_list index_magic (index_payloads a) (index_payloads b) index database.of_index.log database'.of_index.log in
+    let entries : a.entries ≡ b.entries = one_entries a.entries b.entries database.of_index.sound.written database'.of_index.sound.written told in
     ap (λ (s : Settings). record { settings = s; commits = a.commits; entries = a.entries }) settings
     ∙ ap (λ (c : List Commit). record { settings = b.settings; commits = c; entries = a.entries }) commits
-    ∙ ap (λ (e : List (List ℕ)). record { settings = b.settings; commits = b.commits; entries = e }) (database.sound.entries ∙ sym database'.sound.entries)
+    ∙ ap (λ (e : List IndexEntry). record { settings = b.settings; commits = b.commits; entries = e }) entries

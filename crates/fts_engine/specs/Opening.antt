@@ -1,10 +1,8 @@
 use Rattle.std.specs.Prelude.{◌≡◌, ℕ, List, codes, Result, Ok, Err}
 use Rattle.fts_disk.specs.declared.disk.Disk.{Ghosts}
-use Rattle.fts_commits.specs.Commit.{replay}
-use Rattle.fts_entries.specs.Entry.{no_entries}
-use Rattle.fts_log.specs.Log.{StandsFor, device_of}
-use Rattle.fts_log.specs.declared.log.Log.{Log}
-use Rattle.fts_steps.specs.State.{State, payloads, IsSound, IsCreated, IsRows}
+use Rattle.fts_log.specs.Records.{records_device}
+use Rattle.fts_log.specs.declared.records.Records.{Records}
+use Rattle.fts_steps.specs.State.{State, IsCreated, IsRows}
 use Rattle.fts_steps.specs.Fault.{IsFaultAt, IsIndexFaultAt}
 use Rattle.fts_log.specs.declared.error.EntryError.{EntryError}
 use Rattle.fts_log.specs.declared.error.EntryError.TheVariants as entry
@@ -14,8 +12,6 @@ use Rattle.fts_engine.specs.declared.error.OpenError.{OpenError}
 use Rattle.fts_engine.specs.declared.error.OpenError.TheVariants as opening
 use Rattle.fts_engine.specs.declared.error.LogError.{LogError}
 use Rattle.fts_engine.specs.declared.error.LogError.TheVariants.{NoMemory, NotCreated, Damaged, DiskFault}
-use Rattle.fts_engine.specs.declared.kept.Kept.{Kept}
-use Rattle.fts_engine.specs.Kept.{kept_settings, kept_rows, IsIndexed}
 
 -- the name of a device
 abbrev pub device_text : Device → List ℕ
@@ -48,19 +44,10 @@ abbrev pub index_behind : {D E X : Type 0} → Result (D × E) (X × D × E) →
 index_behind (Ok devices) = devices.1
 index_behind (Err error) = error.2
 
--- the device behind the opening of the rows log: the log's, or the one that is handed back
-abbrev pub log_left : {D E K : Type 0} {disk : Ghosts D} → Result (Log D disk × K) (E × D) → D
-log_left (Ok both) = device_of both.0
-log_left (Err error) = error.1
-
--- the rows log was opened: it has the entries of a state, whose settings, rows and index are kept
-pub record AreOpened {D : Type 0} {disk : Ghosts D} (log : Log D disk) (kept : Kept) : Type 0 where
-  pub state : State
-  pub sound : IsSound state
-  pub settings : state.settings ≡ kept_settings kept
-  pub rows : kept_rows kept ≡ replay state.commits
-  pub index : IsIndexed kept state.commits no_entries
-  pub entries : StandsFor (payloads state) log
+-- the device behind the reading of a log's records: theirs, or the one that is handed back
+abbrev pub records_left : {D E : Type 0} {disk : Ghosts D} → Result (Records D disk) (E × D) → D
+records_left (Ok records) = records_device records
+records_left (Err error) = error.1
 
 -- the file is no rows log of a database
 abbrev pub IsNoRows : List ℕ → Type 0
@@ -76,4 +63,4 @@ pub record IsDamaged (at : ℕ) (rows : List ℕ) : Type 0 where
 pub record IsIndexDamaged (at : ℕ) (rows index : List ℕ) : Type 0 where
   pub state : State
   pub of_rows : IsRows state rows
-  pub place : IsIndexFaultAt at index
+  pub place : IsIndexFaultAt state at index

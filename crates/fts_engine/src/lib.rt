@@ -5,13 +5,12 @@
 //! `engine.commit(&[change])?` gives the commit's number once it is durable, and
 //! `engine.view(leaves)?` what the rows have for the leaves of a query. `engine.sync_batch()?`
 //! makes the next batch of the index, `engine.listing(kind)?` tells what a view of the index lists,
-//! and `engine.cache_size()` what the cache counts. Batches are in memory alone: an opening begins
-//! with nothing flushed.
+//! and `engine.cache_size()` what the cache counts.
 //!
 //! A commit costs the bytes of its changes, a look-up for each key and word, two writes and two
 //! syncs; a view the documents of its leaves' words, and a look-up for each candidate of a phrase
-//! or a distance; a batch the words of its rows; a listing what it lists; an opening each record
-//! once and the words of all rows.
+//! or a distance; a batch the words of its rows, two writes and two syncs; a listing what it lists;
+//! an opening each record of both logs once, and the words of the rows that no batch flushed.
 #![tactic(auto)]
 
 mod create;
@@ -22,6 +21,7 @@ mod laws;
 mod load;
 mod looking;
 mod open;
+mod restoring;
 
 pub use create::{CreateError, INDEX_MAGIC, LARGEST_LOG, ROWS_MAGIC, create_engine};
 pub use engine::Engine;

@@ -105,7 +105,7 @@ fn load_rest<D: Disk>(
 
 // The index log is at fault at this place: so it is told, unless the rows log is at fault behind the
 // commits that were read.
-fn held_back<D: Disk>(
+pub fn held_back<D: Disk>(
     alloc: Global,
     rows: &mut Records<D>,
     restoring: &mut Restoring,
@@ -208,11 +208,13 @@ fn restore_entry<D: Disk, E: Disk>(
         Err(error) => return Err(error.on(Device::Index)),
     };
     match decode(alloc, &payload) {
-        Ok(Entry::Sealed {
-            through,
-            synced,
-            nodes,
-        }) => match restore_batch(alloc, rows, restoring, through, synced, &nodes) {
+        Ok(
+            Entry::Sealed {
+                through,
+                synced,
+                nodes,
+            },
+        ) => match restore_batch(alloc, rows, restoring, through, synced, &nodes) {
             Ok(restored) => Ok(restored),
             Err(error) => Err(error.on(Device::Rows)),
         },
@@ -352,7 +354,7 @@ fn cover_commit<D: Disk>(
 }
 
 // Reads the settings, the first record.
-fn load_settings<D: Disk>(alloc: Global, records: &mut Records<D>) -> Result<Settings, LogError>
+pub fn load_settings<D: Disk>(alloc: Global, records: &mut Records<D>) -> Result<Settings, LogError>
     requires { 0 < record_count records.old }
     ensures right { IfOk result (λ settings. AreSettings settings) }
     ensures loaded { IfOk result (λ settings. IsTrue D.tells → (all : List (List ℕ))

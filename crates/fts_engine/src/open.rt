@@ -1,34 +1,36 @@
-ghost use Rattle.std.specs.Prelude.{◌≡◌, ◌≢◌, ◌+◌, ◌++◌, ◌<◌, ◌≤◌, ◌^◌, ℕ, [], List, IsTrue};
-ghost use Rattle.std.specs.Prelude.{IsErrAnd, IfOk, IfErr};
+ghost use Rattle.std.specs.Prelude.{◌≡◌, ◌≢◌, ◌⊎◌, ◌+◌, ◌<◌, ℕ, List, IsTrue, IsErrAnd, IfOk};
+ghost use Rattle.std.specs.Prelude.{IfErr};
 ghost use Rattle.fts_faults.specs.Count.{CountsFault};
-ghost use Rattle.fts_disk.specs.Crash.{Only};
 ghost use Rattle.fts_disk.specs.Moments.{Looks};
-ghost use Rattle.fts_log.specs.Log.{StandsFor, magic_of, limit_of, count_of};
-ghost use Rattle.fts_log.specs.Log as log;
 ghost use Rattle.fts_log.specs.Records.{Hold, records_device, records_magic, record_count};
-ghost use Rattle.fts_steps.specs.State.{State, IsCreated, rows_magic, index_magic};
+ghost use Rattle.fts_log.specs.Record.{IsLog, IsBrokenBehind};
+ghost use Rattle.fts_steps.specs.State.{State, IsCreated, IsRows, rows_magic, index_magic};
 ghost use Rattle.fts_steps.specs.Running.{opened};
-ghost use Rattle.fts_steps.specs.Fault.{IsFaultAt, IsIndexFaultAt};
+ghost use Rattle.fts_steps.specs.Fault.{IsFaultAt};
 ghost use Rattle.fts_types.specs.Limits.{standard_limits};
 ghost use Rattle.fts_engine.specs.Bounds.{AreWithin};
-ghost use Rattle.fts_engine.specs.Kept.{kept_limits};
-ghost use Rattle.fts_engine.specs.Stands.{Stands, engine_limits, rows_left, index_left};
-ghost use Rattle.fts_engine.specs.Opening.{AreOpened, IsDamaged, IsIndexDamaged, IsNoRows};
-ghost use Rattle.fts_engine.specs.Opening.{log_left};
+ghost use Rattle.fts_engine.specs.Stands.{Holds, engine_limits, rows_left, index_left};
+ghost use Rattle.fts_engine.specs.Opening.{IsDamaged, IsIndexDamaged, IsNoRows, records_left};
 
-use crate::create::{INDEX_MAGIC, ROWS_MAGIC};
+use crate::create::{INDEX_MAGIC, LARGEST_LOG, ROWS_MAGIC};
 use crate::error::LogError;
-use crate::kept::Kept;
-use crate::load::load;
+use crate::load::{held_back, load, load_settings};
+use crate::restoring::Restoring;
 use crate::{Device, Engine, OpenError};
 use fts_disk::Disk;
-use fts_log::{Log, Records, is_begun, read_records};
+use fts_log::{Records, is_begun, read_records};
 use fts_types::Limits;
 use std::alloc::Global;
 
-/// Opens the database on two devices: reads its rows log, then its index log, and writes nothing.
-/// `limits` are those of later commits; what was committed before need only be within the standard
-/// ones. A crash at any moment leaves what it could leave before.
+/// Opens the database on two devices: reads the gates of its rows log and of its index log, then
+/// the payloads of both, and writes nothing. Words are made of the rows of the commits behind the
+/// last entry alone: those before it stand in the index log. `limits` are those of later steps; what
+/// was written before need only be within the standard ones. A crash at any moment leaves what it
+/// could leave before.
+///
+/// What is opened stands for the two logs, whatever entries they have that the format allows. That
+/// searches find what a scan does is known of devices on which `create_engine` made the database,
+/// and that nobody else wrote (`IsRight`).
 ///
 /// # Errors
 ///
@@ -47,14 +49,14 @@ pub fn open_engine<D: Disk, E: Disk>(
     limits: Limits,
 ) -> Result<Engine<D, E>, (OpenError, D, E)>
     requires { AreWithin standard_limits limits }
-    ensures opened { IfOk result (λ engine. IsTrue D.tells
-        → (state : State) × Stands (opened state) engine) }
+    ensures opened { IfOk result (λ engine. IsTrue D.tells → IsTrue E.tells
+        → (state : State) × Holds (opened state) engine) }
     ensures limits { IfOk result (λ engine. engine_limits engine ≡ limits) }
     ensures not_created { IfErr result (λ e. e.0 ≡ OpenError.NotCreated → IsTrue D.tells
         → IsCreated (D.seen rows 0) → ⊥) }
     ensures damaged_rows { IfErr result (λ e. (file at : ℕ)
         → e.0 ≡ OpenError.Damaged Device.Rows file at
-        → (file ≡ 0) × (IsTrue D.tells → IsDamaged at (D.seen rows 0))) }
+        → (file ≡ 0) × (IsTrue D.tells → IsTrue E.tells → IsDamaged at (D.seen rows 0))) }
     ensures damaged_index { IfErr result (λ e. (file at : ℕ)
         → e.0 ≡ OpenError.Damaged Device.Index file at
         → (file ≡ 0) × (IsTrue D.tells → IsTrue E.tells
@@ -65,140 +67,220 @@ pub fn open_engine<D: Disk, E: Disk>(
         (D.faults rows + E.faults index)
         (D.faults (rows_left result) + E.faults (index_left result)) }
 {
-    let (rows, kept) = match open_rows(alloc, rows, limits) {
-        Ok((rows, kept)) => (rows, kept),
+    let rows = match read_rows(alloc, rows) {
+        Ok(rows) => rows,
         Err((error, rows)) => return Err((error.on(Device::Rows), rows, index)),
     };
-    match open_index(alloc, index, limits.log_bytes) {
-        Ok(index) => Ok(Engine {
-            alloc,
-            rows,
-            index,
-            kept,
-            stopped: None,
-        }),
-        Err((error, index)) => Err((error.on(Device::Index), rows.close(), index)),
+    match read_records(alloc, index, INDEX_MAGIC) {
+        Ok(entries) => open_records(alloc, rows, entries, limits),
+        Err((fts_log::OpenError::Damaged { at }, index)) => {
+            let (error, rows) = refuse_index(alloc, rows, at);
+            Err((error, rows, index))
+        }
+        Err((fts_log::OpenError::NoMemory, index)) => {
+            Err((OpenError::NoMemory, rows.close(), index))
+        }
+        Err((fts_log::OpenError::DiskFault, index)) => {
+            Err((OpenError::DiskFault, rows.close(), index))
+        }
     }
 }
 
-// Opens the rows log, and keeps what its commits leave.
-fn open_rows<D: Disk>(
+// Reads what the records of both logs have.
+fn open_records<D: Disk, E: Disk>(
     alloc: Global,
-    rows: D,
+    rows: Records<D>,
+    entries: Records<E>,
     limits: Limits,
-) -> Result<(Log<D>, Kept), (LogError, D)>
-    requires { AreWithin standard_limits limits }
-    ensures opened { IfOk result (λ both. IsTrue D.tells → AreOpened both.0 both.1) }
-    ensures kept { IfOk result (λ both. (magic_of both.0 ≡ rows_magic)
-        × (limit_of both.0 ≡ limits.log_bytes)
-        × (kept_limits both.1 ≡ limits)) }
+) -> Result<Engine<D, E>, (OpenError, D, E)>
+    requires magic { records_magic rows ≡ rows_magic }
+    requires index_magic { records_magic entries ≡ index_magic }
+    requires some { 0 < record_count rows }
+    requires within { AreWithin standard_limits limits }
+    requires ready { IsTrue D.tells → (all : List (List ℕ)) × Hold all rows }
+    requires index_ready { IsTrue E.tells → (read : List (List ℕ)) × Hold read entries }
+    ensures opened { IfOk result (λ engine. IsTrue D.tells → IsTrue E.tells
+        → (state : State) × Holds (opened state) engine) }
+    ensures limits { IfOk result (λ engine. engine_limits engine ≡ limits) }
+    ensures not_created { IfErr result (λ e. e.0 ≢ OpenError.NotCreated) }
+    ensures damaged_rows { IfErr result (λ e. (file at : ℕ)
+        → e.0 ≡ OpenError.Damaged Device.Rows file at
+        → (file ≡ 0) × (IsTrue D.tells → IsTrue E.tells
+        → IsDamaged at (D.seen (records_device rows) 0))) }
+    ensures damaged_index { IfErr result (λ e. (file at : ℕ)
+        → e.0 ≡ OpenError.Damaged Device.Index file at
+        → (file ≡ 0) × (IsTrue D.tells → IsTrue E.tells → IsIndexDamaged at
+        (D.seen (records_device rows) 0) (E.seen (records_device entries) 0))) }
+    ensures looks_rows { IsTrue D.tells → Looks D.Disk (records_device rows) (rows_left result) }
+    ensures looks_index { IsTrue E.tells
+        → Looks E.Disk (records_device entries) (index_left result) }
+    ensures faults { CountsFault (IsErrAnd result (λ e. e.0 ≡ OpenError.DiskFault))
+        (D.faults (records_device rows) + E.faults (records_device entries))
+        (D.faults (rows_left result) + E.faults (index_left result)) }
+{
+    let mut rows = rows;
+    let mut entries = entries;
+    let mut kept = match load(alloc, &mut rows, &mut entries) {
+        Ok(kept) => kept,
+        Err(error) => {
+            let (error, rows) = told_first(rows, error);
+            return Err((error, rows, entries.close()));
+        }
+    };
+    let rows = match rows.into_log(limits.log_bytes) {
+        Ok(rows) => rows,
+        Err((at, rows)) => {
+            return Err((
+                LogError::Damaged { at }.on(Device::Rows),
+                rows,
+                entries.close(),
+            ));
+        }
+    };
+    match entries.into_log(limits.log_bytes) {
+        Ok(index) => {
+            kept.set_limits(limits);
+            Ok(Engine {
+                alloc,
+                rows,
+                index,
+                kept,
+                stopped: None,
+            })
+        }
+        Err((at, index)) => {
+            Err((
+                LogError::Damaged { at }.on(Device::Index),
+                rows.close(),
+                index,
+            ))
+        }
+    }
+}
+
+// The whole records of the rows log, of which there are some: where there are none, a database was
+// never created, or its first record is torn.
+fn read_rows<D: Disk>(alloc: Global, rows: D) -> Result<Records<D>, (LogError, D)>
+    ensures read { IfOk result (λ records. IsTrue D.tells
+        → (all : List (List ℕ)) × Hold all records) }
+    ensures some { IfOk result (λ records. (0 < record_count records)
+        × (records_magic records ≡ rows_magic)) }
     ensures not_created { IfErr result (λ e. e.0 ≡ LogError.NotCreated → IsTrue D.tells
         → IsCreated (D.seen rows 0) → ⊥) }
     ensures damaged { IfErr result (λ e. (at : ℕ) → e.0 ≡ LogError.Damaged at → IsTrue D.tells
         → IsDamaged at (D.seen rows 0)) }
-    ensures looks { IsTrue D.tells → Looks D.Disk rows (log_left result) }
+    ensures looks { IsTrue D.tells → Looks D.Disk rows (records_left result) }
     ensures faults { CountsFault (IsErrAnd result (λ e. e.0 ≡ LogError.DiskFault))
-        (D.faults rows) (D.faults (log_left result)) }
+        (D.faults rows) (D.faults (records_left result)) }
 {
     match read_records(alloc, rows, ROWS_MAGIC) {
-        Ok(records) => open_records(alloc, records, limits),
-        Err((fts_log::OpenError::Damaged { at }, device)) => tell_damage(device, at),
+        Ok(records) => some_records(records),
+        Err((fts_log::OpenError::Damaged { at }, device)) => Err(tell_damage(device, at)),
         Err((fts_log::OpenError::NoMemory, device)) => Err((LogError::NoMemory, device)),
         Err((fts_log::OpenError::DiskFault, device)) => Err((LogError::DiskFault, device)),
     }
 }
 
-// Reads the entries of records. Where there are none, a database was never created, or its first
-// record is torn.
-fn open_records<D: Disk>(
-    alloc: Global,
-    records: Records<D>,
-    limits: Limits,
-) -> Result<(Log<D>, Kept), (LogError, D)>
+// The records, where there are some.
+fn some_records<D: Disk>(records: Records<D>) -> Result<Records<D>, (LogError, D)>
     requires magic { records_magic records ≡ rows_magic }
-    requires within { AreWithin standard_limits limits }
     requires ready { IsTrue D.tells → (all : List (List ℕ)) × Hold all records }
-    ensures opened { IfOk result (λ both. IsTrue D.tells → AreOpened both.0 both.1) }
-    ensures kept { IfOk result (λ both. (magic_of both.0 ≡ rows_magic)
-        × (limit_of both.0 ≡ limits.log_bytes)
-        × (kept_limits both.1 ≡ limits)) }
+    ensures read { IfOk result (λ some. some ≡ records) }
+    ensures some { IfOk result (λ some. 0 < record_count some) }
     ensures not_created { IfErr result (λ e. e.0 ≡ LogError.NotCreated → IsTrue D.tells
         → IsCreated (D.seen (records_device records) 0) → ⊥) }
     ensures damaged { IfErr result (λ e. (at : ℕ) → e.0 ≡ LogError.Damaged at → IsTrue D.tells
         → IsDamaged at (D.seen (records_device records) 0)) }
-    ensures looks { IsTrue D.tells → Looks D.Disk (records_device records) (log_left result) }
+    ensures looks { IsTrue D.tells → Looks D.Disk (records_device records) (records_left result) }
     ensures faults { CountsFault (IsErrAnd result (λ e. e.0 ≡ LogError.DiskFault))
-        (D.faults (records_device records)) (D.faults (log_left result)) }
+        (D.faults (records_device records)) (D.faults (records_left result)) }
 {
-    if records.count() == 0 {
-        return match records.into_log(limits.log_bytes) {
-            Ok(log) => Err((LogError::NotCreated, log.close())),
-            Err((at, device)) => tell_damage(device, at),
-        };
+    if records.count() > 0 {
+        return Ok(records);
     }
-    let mut records = records;
-    match load(alloc, &mut records) {
-        Ok(mut kept) => match records.into_log(limits.log_bytes) {
-            Ok(log) => {
-                kept.set_limits(limits);
-                Ok((log, kept))
-            }
-            Err((at, device)) => Err((LogError::Damaged { at }, device)),
+    match records.into_log(LARGEST_LOG) {
+        Ok(log) => Err((LogError::NotCreated, log.close())),
+        Err((at, device)) => Err(tell_damage(device, at)),
+    }
+}
+
+// The index log is no log at all: so it is told, unless the rows log is at fault.
+fn refuse_index<D: Disk>(alloc: Global, rows: Records<D>, at: u64) -> (OpenError, D)
+    requires magic { records_magic rows ≡ rows_magic }
+    requires some { 0 < record_count rows }
+    requires ready { IsTrue D.tells → (all : List (List ℕ)) × Hold all rows }
+    ensures not_created { result.0 ≢ OpenError.NotCreated }
+    ensures damaged_rows { (file place : ℕ)
+        → result.0 ≡ OpenError.Damaged Device.Rows file place
+        → (file ≡ 0) × (IsTrue D.tells → IsDamaged place (D.seen (records_device rows) 0)) }
+    ensures damaged_index { (file place : ℕ)
+        → result.0 ≡ OpenError.Damaged Device.Index file place
+        → (file ≡ 0) × (place ≡ at) × (IsTrue D.tells → (state : State)
+        × IsRows state (D.seen (records_device rows) 0)) }
+    ensures looks { IsTrue D.tells → Looks D.Disk (records_device rows) result.1 }
+    ensures faults { CountsFault (result.0 ≡ OpenError.DiskFault)
+        (D.faults (records_device rows)) (D.faults result.1) }
+{
+    let mut rows = rows;
+    let settings = match load_settings(alloc, &mut rows) {
+        Ok(settings) => settings,
+        Err(error) => return (error.on(Device::Rows), rows.close()),
+    };
+    let mut restoring = Restoring::new(alloc, settings);
+    let error = held_back(alloc, &mut rows, &mut restoring, at);
+    told_first(rows, error)
+}
+
+// A fault of the index log is told where the rows log is whole; else the place where it is torn.
+fn told_first<D: Disk>(rows: Records<D>, error: OpenError) -> (OpenError, D)
+    requires magic { records_magic rows ≡ rows_magic }
+    ensures told { ((result.0 ≡ error) × ((file at : ℕ)
+        → error ≡ OpenError.Damaged Device.Index file at → IsTrue D.tells
+        → (all : List (List ℕ)) → Hold all rows
+        → IsLog rows_magic all (D.seen (records_device rows) 0)))
+        ⊎ ((at : ℕ) × (result.0 ≡ OpenError.Damaged Device.Rows 0 at)
+        × ((file place : ℕ) × (error ≡ OpenError.Damaged Device.Index file place))
+        × (IsTrue D.tells → (all : List (List ℕ)) → Hold all rows
+        → IsBrokenBehind rows_magic all at (D.seen (records_device rows) 0))) }
+    ensures device { result.1 ≡ records_device rows }
+{
+    match error {
+        OpenError::Damaged {
+            device: Device::Index,
+            file,
+            at,
+        } => match rows.into_log(LARGEST_LOG) {
+            Ok(log) => (
+                OpenError::Damaged {
+                    device: Device::Index,
+                    file,
+                    at,
+                },
+                log.close(),
+            ),
+            Err((at, device)) => (LogError::Damaged { at }.on(Device::Rows), device),
         },
-        Err(error) => Err((error, records.close())),
+        error => (error, rows.close()),
     }
 }
 
 // A file that is at fault where its first record should begin, or before: damaged if it was
 // created, else not created.
-fn tell_damage<D: Disk>(device: D, at: u64) -> Result<(Log<D>, Kept), (LogError, D)>
+fn tell_damage<D: Disk>(device: D, at: u64) -> (LogError, D)
     requires fault { IsTrue D.tells → IsFaultAt at (D.seen device 0) }
     requires none { IsTrue D.tells → IsNoRows (D.seen device 0) }
-    ensures refused { IfOk result (λ _. ⊥) }
-    ensures not_created { IfErr result (λ e. e.0 ≡ LogError.NotCreated → IsTrue D.tells
-        → IsCreated (D.seen device 0) → ⊥) }
-    ensures damaged { IfErr result (λ e. (place : ℕ) → e.0 ≡ LogError.Damaged place
-        → IsTrue D.tells
-        → IsDamaged place (D.seen device 0)) }
-    ensures looks { IsTrue D.tells → Looks D.Disk device (log_left result) }
-    ensures faults { CountsFault (IsErrAnd result (λ e. e.0 ≡ LogError.DiskFault))
-        (D.faults device) (D.faults (log_left result)) }
+    ensures not_created { result.0 ≡ LogError.NotCreated → IsTrue D.tells
+        → IsCreated (D.seen device 0) → ⊥ }
+    ensures damaged { (place : ℕ) → result.0 ≡ LogError.Damaged place → IsTrue D.tells
+        → IsDamaged place (D.seen device 0) }
+    ensures looks { IsTrue D.tells → Looks D.Disk device result.1 }
+    ensures faults { CountsFault (result.0 ≡ LogError.DiskFault)
+        (D.faults device) (D.faults result.1) }
 {
     let mut device = device;
     match is_begun(&mut device) {
-        Ok(true) => Err((LogError::Damaged { at }, device)),
-        Ok(false) => Err((LogError::NotCreated, device)),
-        Err(_) => Err((LogError::DiskFault, device)),
-    }
-}
-
-// Opens the index log, which has no entry yet.
-fn open_index<E: Disk>(alloc: Global, index: E, limit: u64) -> Result<Log<E>, (LogError, E)>
-    requires { limit ≤ 2 ^ 32 }
-    ensures opened { IfOk result (λ log. IsTrue E.tells → StandsFor [] log) }
-    ensures kept { IfOk result (λ log. (magic_of log ≡ index_magic) × (count_of log ≡ 0)
-        × (limit_of log ≡ limit)) }
-    ensures created { IfErr result (λ e. e.0 ≡ LogError.NotCreated → ⊥) }
-    ensures damaged { IfErr result (λ e. (at : ℕ) → e.0 ≡ LogError.Damaged at → IsTrue E.tells
-        → IsIndexFaultAt at (E.seen index 0)) }
-    ensures looks { IsTrue E.tells → Looks E.Disk index (log.device_left result) }
-    ensures faults { CountsFault (IsErrAnd result (λ e. e.0 ≡ LogError.DiskFault))
-        (E.faults index) (E.faults (log.device_left result)) }
-{
-    let records = match read_records(alloc, index, INDEX_MAGIC) {
-        Ok(records) => records,
-        Err((fts_log::OpenError::Damaged { at }, device)) => {
-            return Err((LogError::Damaged { at }, device));
-        }
-        Err((fts_log::OpenError::NoMemory, device)) => return Err((LogError::NoMemory, device)),
-        Err((fts_log::OpenError::DiskFault, device)) => return Err((LogError::DiskFault, device)),
-    };
-    if records.count() > 0 {
-        let at = records.place_of(0);
-        return Err((LogError::Damaged { at }, records.close()));
-    }
-    match records.into_log(limit) {
-        Ok(log) => Ok(log),
-        Err((at, device)) => Err((LogError::Damaged { at }, device)),
+        Ok(true) => (LogError::Damaged { at }, device),
+        Ok(false) => (LogError::NotCreated, device),
+        Err(_) => (LogError::DiskFault, device),
     }
 }

@@ -30,7 +30,7 @@ use Rattle.fts_commits.specs.Turn.{Turn, RowsAscend, AreTurns, births_of, deaths
 use Rattle.fts_entries.specs.Entry.{Batch, IndexState, sealed, after_entry, unflushed, unflushed_through, flushed_deaths}
 use Rattle.fts_entries.specs.Batch.{largest_after}
 use Rattle.fts_entries.specs.Coming.{CanSeal, born_ids}
-use Rattle.fts_entries.specs.Exact.{FitsTurns}
+use Rattle.fts_entries.specs.Exact.{FitsTurns, IdsAfter}
 use Rattle.fts_entries.specs.Words.{rows_postings}
 use Rattle.fts_entries.proofs.Batches.{fails}
 use Rattle.fts_entries.proofs.Filters.{leads, all_joined}
@@ -244,7 +244,7 @@ module _ (rules : Rules) (turns more : List Turn) (s : IndexState) (old : Index)
         let first = leb-true 1 covered.count (and_parts (nat_lt 0 covered.count) (nat_eq through (old.lists.flushed + covered.count) && nat_eq synced covered.largest) next).0 in
         let e = restores.covers.count in omega (arith, first, e)
 
-    through_at : through ≡ length all
+    pub through_at : through ≡ length all
     through_at =
         let e = eqb-true through (old.lists.flushed + covered.count) (and_parts (nat_eq through (old.lists.flushed + covered.count)) (nat_eq synced covered.largest) numbers).0 in
         let flushed = restores.stands.flushed in let count = restores.covers.count in let l = long in omega (arith, e, flushed, count, l)
@@ -260,7 +260,7 @@ module _ (rules : Rules) (turns more : List Turn) (s : IndexState) (old : Index)
       later = (let e = through_at in let l = long in let first = some in omega (arith, e, l, first));
       made = (let e = through_at in omega (arith, e));
       synced_is = largest_at ∙ restores.covers.largest ∙ sym (largest_all some) ∙ ap (largest_after 0) (sym (all_at through_at));
-      ascend = for_words (λ word ns. NodesAfter 0 ns) batch read.ascend (recursion_from_All (λ (g : List ℕ × List Docs). NodesAfter 0 g.1) batch read.nodes) (λ word. tt);
+      ascend = for_words (λ word ns. IdsAfter 0 (joined ns)) batch read.ascend (recursion_from_All (λ (g : List ℕ × List Docs). IdsAfter 0 (joined g.1)) batch read.ids) (λ word. tt);
       no_empty = for_words (λ word ns. word ≡ [] → ns ≡ []) batch read.ascend filled (λ word e. refl) [] refl;
       packed_are = for_words (λ word ns. packed (joined ns) ≡ ns) batch read.ascend
           (leads (λ g. is_fit old.tables born g ≡ true) (λ g. packed (joined g.1) ≡ g.1) batch (fit_packed old.tables born) fit) (λ word. refl);
@@ -336,7 +336,8 @@ module _ (rules : Rules) (turns more : List Turn) (s : IndexState) (old : Index)
     fits_word word =
         let ns : List Docs = nodes_for word batch in
         let begins : begins_above (last_of 0 (tables.nodes old.tables word)) ns ≡ true =
-        then_begins (last_of 0 (tables.nodes old.tables word)) ns (seal.ascend word)
+        then_begins (last_of 0 (tables.nodes old.tables word)) ns
+        (for_words (λ word ns. NodesAfter 0 ns) batch read.ascend (recursion_from_All (λ (g : List ℕ × List Docs). NodesAfter 0 g.1) batch read.nodes) (λ word. tt) word)
         (leads (λ (p : Posting). has (born_ids more) p.id ≡ true) (λ p. last_of 0 (tables.nodes old.tables word) < p.id) (joined ns)
         (λ p b. let up = above p.id b in let most = low word in omega (arith, up, most)) (born_here word)) in
         let tight : are_loose ns ≡ false = fails (are_loose ns) (λ yes. told_loose ns yes (seal.packed_are word)) in

@@ -9,13 +9,13 @@ use Rattle.fts_ids.specs.Ids.{has}
 use Rattle.fts_commits.specs.Turn.{Turn, AreTurns, deaths_of}
 use Rattle.fts_ilist.specs.Spelling.{first_id}
 use Rattle.fts_ilist.specs.Node.{Docs, NodesAfter, last_of, nodes_for}
-use Rattle.fts_ilist.specs.Packing.{are_loose}
+use Rattle.fts_ilist.specs.Packing.{are_loose, joined}
 use Rattle.fts_aux.specs.Tables as tables
 use Rattle.fts_cache.specs.Cache.{SameContents}
 use Rattle.fts_entries.specs.Entry.{Batch, IndexState, sealed, after_entry}
 use Rattle.fts_entries.specs.Batch.{largest_after}
 use Rattle.fts_entries.specs.Coming.{CanSeal, born_ids}
-use Rattle.fts_entries.specs.Exact.{FitsTurns}
+use Rattle.fts_entries.specs.Exact.{FitsTurns, IdsAfter}
 use Rattle.fts_index.specs.declared.index.Index.{Index}
 use Rattle.fts_index.specs.declared.restore.Covered.{Covered}
 use Rattle.fts_index.specs.Index.{StandsFor}
@@ -34,6 +34,7 @@ pub record AreRead (batch : Batch) : Type 0 where
   pub ascend : IsStrictlySortedBy byte_order (keys_of batch)
   pub filled : All (λ g. g.0 ≢ []) batch
   pub nodes : All (λ g. NodesAfter 0 g.1) batch
+  pub ids : All (λ g. IdsAfter 0 (joined g.1)) batch
 
 -- the first id of nodes is above one
 abbrev pub begins_above : ℕ → List Docs → Bool
@@ -68,9 +69,10 @@ pub record Restores (rules : Rules) (turns more : List Turn) (s : IndexState) (i
   pub ascend : AreTurns 0 (turns ++ more)
   pub covers : Covers more covered
 
--- a batch could come, and the index stands for what it leaves
+-- a batch could come that flushes all commits, and the index stands for what it leaves
 pub record IsRestored (rules : Rules) (turns : List Turn) (s : IndexState) (through synced : ℕ) (batch : Batch)
     (index : Index) : Type 0 where
+  pub whole : through ≡ length turns
   pub can : CanSeal turns s through synced batch
   pub stands : StandsFor rules turns (after_entry turns s (sealed through synced batch)) index
 

@@ -2,7 +2,7 @@ use Rattle.std.proofs.Common.{◌≡◌, ℕ, List, false, true, length, ap, sym
 use Rattle.fts_aux.specs.Tables as tables
 use Rattle.fts_ids.specs.Ids.{has}
 use Rattle.fts_index.specs.Restore.{can_restore}
-use Rattle.fts_index.proofs.Restoring.{comes, seals, stands_restored, cannot}
+use Rattle.fts_index.proofs.Restoring.{comes, through_at, seals, stands_restored, cannot}
 use Rattle.fts_index.proofs.index.Index.restore.Goals as goal
 
 pub returns-then-not-branch-clause-bad : goal.returns-then-not-branch-clause-bad
@@ -23,6 +23,7 @@ returns-clause-restored c = λ rules turns more s restores.
     ∙ c.ascending-dead.ensures.each id
     ∙ ap (λ (ids : List ℕ). has ids id) (c.in_ok-to_vec.ensures.items_if_clones_equal (λ x y e. e) ∙ c.deref.ensures.value) in
     record {
+      whole = through_at rules turns more s c.args.self.now c.args.covered.now restores c.args.through c.args.synced c.args.nodes.now c.requires can;
       can = seals rules turns more s c.args.self.now c.args.covered.now restores c.args.through c.args.synced c.args.nodes.now c.requires can;
       stands = stands_restored rules turns more s c.args.self.now c.args.covered.now restores c.args.through c.args.synced c.args.nodes.now c.requires can
           c.make_batch_room.new.index c.add_batch.new.index c.deref-2.result.now c.make_batch_room.ensures.same dead c.add_batch.ensures;

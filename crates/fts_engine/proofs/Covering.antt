@@ -27,16 +27,6 @@ use Rattle.fts_engine.specs.Loading.{AreLoaded, IsRestored, StillRestored, IsLoa
 use Rattle.fts_engine.proofs.Loading.{one_more, front_of, within_all}
 use Rattle.fts_engine.proofs.Indexing.{turns_count}
 
--- entries with the same payloads are the same
-one_entries : (a b : List IndexEntry) → All IsEntry a → All IsEntry b → map entry_payload a ≡ map entry_payload b → a ≡ b
-one_entries [] [] is is' same = refl
-one_entries [] (entry ∷ b) is is' same = absurd (let e = same in cc)
-one_entries (entry ∷ a) [] is is' same = absurd (let e = same in cc)
-one_entries (entry ∷ a) (other ∷ b) is is' same =
-    let head : entry ≡ other = payload_has_one_entry entry other (All-head IsEntry entry a is) (All-head IsEntry other b is') (ap (λ (l : List (List ℕ)). get_or l 0 []) same) in
-    let tail : a ≡ b = one_entries a b (All-tail IsEntry entry a is) (All-tail IsEntry other b is') (ap (drop 1) same) in
-    ap (λ (e : IndexEntry). e ∷ a) head ∙ ap (λ (l : List IndexEntry). other ∷ l) tail
-
 -- a list whose payloads are some and one more is a list and one more
 record IsPushed (whole : List IndexEntry) (front : List IndexEntry) (payload : List ℕ) : Type 0 where
   entry : IndexEntry
@@ -73,10 +63,13 @@ first_restored all read r loaded commits entries covers = record {
   where
     none : State
     none = record { settings = loaded.state.settings; commits = []; entries = [] }
+
     same : payloads none ≡ payloads loaded.state
     same = ap (λ (cs : List Commit). payloads (record { settings = loaded.state.settings; commits = cs; entries = [] })) (sym commits)
+
     count : 0 + 1 ≡ restoring_commits r + 1
     count = let n = loaded.count in omega (arith, n, ap length commits)
+
     again : IsSound none
     again = record { settings = loaded.sound.settings; written = λ k d less. absurd (omega arith); accepted = tt }
 
