@@ -1,7 +1,7 @@
 ghost use Rattle.std.specs.Prelude.{IfOk};
 ghost use Rattle.fts_steps.specs.State.{State};
 ghost use Rattle.fts_steps.specs.Running.{opened};
-ghost use Rattle.fts_engine.specs.Stands.{Stands};
+ghost use Rattle.fts_engine.specs.Stands.{Holds};
 
 use crate::insert::insert_of;
 use crate::names::{
@@ -291,7 +291,7 @@ fn created(alloc: Global) -> Result<(MemDisk, MemDisk), AllocError> {
 
 /// The engine over it.
 fn engine(alloc: Global) -> Result<Engine<MemDisk, MemDisk>, AllocError>
-    ensures { IfOk result (λ engine. (state : State) × Stands (opened state) engine) }
+    ensures { IfOk result (λ engine. (state : State) × Holds (opened state) engine) }
 {
     let (rows, index) = created(alloc)?;
     match open_engine(alloc, rows, index, Limits::standard()) {
