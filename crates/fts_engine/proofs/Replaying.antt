@@ -20,7 +20,7 @@ use Rattle.fts_index.specs.Restore as restore
 use Rattle.fts_index.specs.Restore.{Covers, Restores}
 use Rattle.fts_steps.proofs.Growing.{turns_more}
 use Rattle.fts_engine.specs.Indexed.{IsIndexOf}
-use Rattle.fts_engine.specs.Restoring.{Covering}
+use Rattle.fts_engine.specs.Covered.{Covering}
 use Rattle.fts_engine.proofs.Accepting.{replay_accepted}
 use Rattle.fts_engine.proofs.Indexing.{AreLaws, rows_ascend_more}
 

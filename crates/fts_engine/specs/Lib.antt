@@ -7,6 +7,7 @@ pub mod Bounds
 pub mod Refusing
 pub mod Stands
 pub mod Opening
+pub mod Covered
 pub mod Restoring
 pub mod Loading
 pub mod Reading

@@ -5,7 +5,7 @@ ghost use Rattle.fts_types.specs.Settings.{AreSettings};
 ghost use Rattle.fts_types.specs.Limits.{standard_limits};
 ghost use Rattle.fts_rows.specs.Rows.{rows_of, limits_of};
 ghost use Rattle.fts_engine.specs.Fitting.{AreTableRows};
-ghost use Rattle.fts_engine.specs.Restoring.{HasCovered};
+ghost use Rattle.fts_engine.specs.Covered.{HasCovered};
 
 use crate::kept::Kept;
 use fts_commits::{Change, are_turns};

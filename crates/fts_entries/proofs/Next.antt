@@ -27,7 +27,7 @@ use Rattle.fts_ilist.specs.Packing.{packed, joined}
 use Rattle.fts_entries.specs.Entry.{Batch, IndexState, sealed, unflushed_through}
 use Rattle.fts_entries.specs.Batch.{IsBatch, alive_of, largest_after, next_through, next_entry, row_words, words_of, packed_words}
 use Rattle.fts_entries.specs.Words.{positions_of, posting_at, row_postings, rows_postings}
-use Rattle.fts_entries.proofs.One.{AllBehind, behind_more, nothing_for, batches_one}
+use Rattle.fts_entries.proofs.One.{AllBehind, nothing_for, batches_one}
 use Rattle.fts_entries.proofs.Packing.{joined_packed}
 
 some_are : {X : Type 0} (x : X) (xs : List X) → x ∷ xs ≢ []
@@ -49,7 +49,7 @@ behind_all : (k x : List ℕ) (ks : List (List ℕ)) → byte_order k x ≡ Less
 behind_all k x [] less all = tt
 behind_all k x (y ∷ ks) less all = (nat_list_cmp_total.trans k x y less all.0, behind_all k x ks less all.1)
 
-sorted_put : (k : List ℕ) (ks : List (List ℕ)) → IsStrictlySortedBy byte_order ks → IsStrictlySortedBy byte_order (insert_key byte_order ks k)
+pub sorted_put : (k : List ℕ) (ks : List (List ℕ)) → IsStrictlySortedBy byte_order ks → IsStrictlySortedBy byte_order (insert_key byte_order ks k)
 unfolding IsStrictlySortedBy
 sorted_put k [] up = (tt, tt)
 sorted_put k (x ∷ ks) up = by (byte_order k x) refl (sorted_put k ks (sorted_tail byte_order x ks up))
@@ -60,7 +60,7 @@ sorted_put k (x ∷ ks) up = by (byte_order k x) refl (sorted_put k ks (sorted_t
     by Equal e rest = up
     by Greater e rest = (behind_put x k ks (nat_list_cmp_total.antisymm x k ∙ ap ordering_reverse e) (sorted_head byte_order x ks up), rest)
 
-sorted_all : (ws ks : List (List ℕ)) → IsStrictlySortedBy byte_order ks → IsStrictlySortedBy byte_order (fold (insert_key byte_order) ks ws)
+pub sorted_all : (ws ks : List (List ℕ)) → IsStrictlySortedBy byte_order ks → IsStrictlySortedBy byte_order (fold (insert_key byte_order) ks ws)
 sorted_all [] ks up = up
 sorted_all (w ∷ ws) ks up = sorted_all ws (insert_key byte_order ks w) (sorted_put w ks up)
 
@@ -74,7 +74,7 @@ or_move true true c = refl
 or_move true false c = refl
 or_move false b c = refl
 
-among_put : (w k : List ℕ) (ks : List (List ℕ)) → is_among (insert_key byte_order ks k) w ≡ (bytes_eq k w || is_among ks w)
+pub among_put : (w k : List ℕ) (ks : List (List ℕ)) → is_among (insert_key byte_order ks k) w ≡ (bytes_eq k w || is_among ks w)
 among_put w k [] = refl
 among_put w k (x ∷ ks) = by (byte_order k x) refl (among_put w k ks)
   where
@@ -85,7 +85,7 @@ among_put w k (x ∷ ks) = by (byte_order k x) refl (among_put w k ks)
         sym (or_self_left (bytes_eq x w) (is_among ks w)) ∙ ap (λ (v : List ℕ). bytes_eq v w || (bytes_eq x w || is_among ks w)) (sym (exact_bytes k x e))
     by Greater e rest = ap (λ (b : Bool). bytes_eq x w || b) rest ∙ or_swap (bytes_eq x w) (bytes_eq k w) (is_among ks w)
 
-among_all : (w : List ℕ) (ws ks : List (List ℕ)) → is_among (fold (insert_key byte_order) ks ws) w ≡ (is_among ks w || is_among ws w)
+pub among_all : (w : List ℕ) (ws ks : List (List ℕ)) → is_among (fold (insert_key byte_order) ks ws) w ≡ (is_among ks w || is_among ws w)
 among_all w [] ks = sym (or-false (is_among ks w))
 among_all w (v ∷ ws) ks =
     among_all w ws (insert_key byte_order ks v) ∙ ap (λ (b : Bool). b || is_among ws w) (among_put w v ks) ∙ or_move (bytes_eq v w) (is_among ks w) (is_among ws w)
@@ -129,14 +129,14 @@ rest_none [] ys none = none
 rest_none (x ∷ xs) ys none = absurd (some_are x (xs ++ ys) none)
 
 module _ (rules : Rules) (word : List ℕ) where
-  none_of : (rows : List Row) → is_among (flat_map (row_words rules) rows) word ≡ false → rows_postings rules word rows ≡ []
+  pub none_of : (rows : List Row) → is_among (flat_map (row_words rules) rows) word ≡ false → rows_postings rules word rows ≡ []
   none_of [] none = refl
   none_of (row ∷ rows) none =
       let parts = or_parts (is_among (row_words rules row) word) (is_among (flat_map (row_words rules) rows) word)
       (sym (list_any-append (λ other. bytes_eq other word) (row_words rules row) (flat_map (row_words rules) rows)) ∙ none) in
       ap₂ (λ (positions : List ℕ) (ps : List Posting). posting_at row.doc positions ++ ps) (none_at row.texts word (indexed_words rules row.texts) parts.0) (none_of rows parts.1)
 
-  some_of : (rows : List Row) → is_among (flat_map (row_words rules) rows) word ≡ true → rows_postings rules word rows ≢ []
+  pub some_of : (rows : List Row) → is_among (flat_map (row_words rules) rows) word ≡ true → rows_postings rules word rows ≢ []
   some_of [] some none = false≢true some
   some_of (row ∷ rows) some none =
       ⊎_elim
@@ -146,7 +146,7 @@ module _ (rules : Rules) (word : List ℕ) where
       (or_cases (is_among (row_words rules row) word) (is_among (flat_map (row_words rules) rows) word)
       (sym (list_any-append (λ other. bytes_eq other word) (row_words rules row) (flat_map (row_words rules) rows)) ∙ some))
 
-packed_some : (ps : List Posting) → ps ≢ [] → packed ps ≢ []
+pub packed_some : (ps : List Posting) → ps ≢ [] → packed ps ≢ []
 packed_some ps some none = some (sym (joined_packed ps) ∙ ap joined none)
 
 -- ---- words, each with what is made of it
@@ -159,7 +159,7 @@ module _ (nodes : List ℕ → List Docs) where
   keys_are [] = refl
   keys_are (word ∷ words) = ap (λ (ws : List (List ℕ)). word ∷ ws) (keys_are words)
 
-  for_word : (words : List (List ℕ)) → IsStrictlySortedBy byte_order words → (q : List ℕ) → nodes_for q (with_nodes words) ≡ cond (is_among words q) (nodes q) []
+  pub for_word : (words : List (List ℕ)) → IsStrictlySortedBy byte_order words → (q : List ℕ) → nodes_for q (with_nodes words) ≡ cond (is_among words q) (nodes q) []
   for_word [] up q = refl
   for_word (word ∷ words) up q = by (bytes_eq q word) refl (for_word words (sorted_tail byte_order word words up) q)
     where
@@ -198,14 +198,14 @@ module _ (rules : Rules) (rows : List Row) where
   abbrev nodes_of : List ℕ → List Docs
   nodes_of word = packed (rows_postings rules word rows)
 
-  packed_ascending : IsStrictlySortedBy byte_order (keys_of (packed_words rules rows))
+  pub packed_ascending : IsStrictlySortedBy byte_order (keys_of (packed_words rules rows))
   packed_ascending = subst (IsStrictlySortedBy byte_order) (sym (keys_are nodes_of (words_of rules rows))) words_ascend
 
-  packed_filled : All (λ g. g.1 ≢ []) (packed_words rules rows)
+  pub packed_filled : All (λ g. g.1 ≢ []) (packed_words rules rows)
   packed_filled = All-from_recursion (λ (g : List ℕ × List Docs). g.1 ≢ []) (packed_words rules rows) (all_filled nodes_of (words_of rules rows)
       (λ word there. packed_some (rows_postings rules word rows) (some_of rules word rows (sym (words_are word) ∙ there))))
 
-  packed_nodes : (word : List ℕ) → nodes_for word (packed_words rules rows) ≡ nodes_of word
+  pub packed_nodes : (word : List ℕ) → nodes_for word (packed_words rules rows) ≡ nodes_of word
   packed_nodes word = for_word nodes_of (words_of rules rows) words_ascend word ∙ by (is_among (words_of rules rows) word) refl
     where
       by : (b : Bool) → is_among (words_of rules rows) word ≡ b → cond b (nodes_of word) [] ≡ nodes_of word

@@ -22,6 +22,17 @@ joined_packed (p ∷ ps) = joined_from 8192 (p ∷ []) ps
 
 -- ---- ids that ascend
 
+ids_append : (last : ℕ) (ps rest : List Posting) → IdsAfter last ps → IdsAfter (id_at_end last ps) rest → IdsAfter last (ps ++ rest)
+ids_append last [] rest ids more = more
+ids_append last (p ∷ ps) rest ids more = (ids.0, ids_append p.id ps rest ids.1 more)
+
+-- the documents of nodes ascend where the nodes do, and the documents of each
+pub nodes_ids : (last : ℕ) (nodes : List Docs) → NodesAfter last nodes → AllByRecursion (λ docs. IdsAfter 0 docs) nodes → IdsAfter last (joined nodes)
+nodes_ids last [] after each = tt
+nodes_ids last ([] ∷ nodes) after each = absurd after.0
+nodes_ids last ((p ∷ ps) ∷ nodes) after each =
+    (after.0, ids_append p.id ps (joined nodes) each.0.1 (nodes_ids (id_at_end p.id ps) nodes after.1 each.1))
+
 pub after_lower : (low last : ℕ) (ps : List Posting) → low ≤ last → IdsAfter last ps → IdsAfter low ps
 after_lower low last [] less ids = tt
 after_lower low last (p ∷ ps) less ids = (omega (arith, less, ids.0), ids.1)

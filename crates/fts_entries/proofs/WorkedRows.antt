@@ -1,12 +1,23 @@
 -- Small indexes worked out by hand: what the definitions compute.
-use Rattle.std.proofs.Common.{◌≡◌, ℕ, true, false, List, [], ◌∷◌, Some, None, refl}
+use Rattle.std.proofs.Common.{◌≡◌, ℕ, Bool, true, false, cond, bytes_eq, List, [], ◌∷◌, ◌++◌, Some, None, refl, arith}
 use Rattle.std.specs.Prelude.{codes}
+use Rattle.std.specs.List.{All}
+use Rattle.std.proofs.lemmas.Bool.{false≢true}
+use Rattle.std.proofs.lemmas.List.Elements.{All-head, All-from_recursion}
+use Rattle.fts_words.specs.Byte.{word_at, apostrophe_at}
+use Rattle.fts_words.specs.Run.{runs_from}
+use Rattle.fts_words.specs.RawWords.{in_word}
+use Rattle.fts_words.specs.Indexed.{Rules, placed_words}
 use Rattle.fts_types.specs.Row.{Row}
 use Rattle.fts_commits.specs.Turn.{Turn}
+use Rattle.fts_ids.specs.Ids.{has}
+use Rattle.fts_ilist.specs.Spelling.{Posting}
 use Rattle.fts_ilist.specs.Node.{Docs}
-use Rattle.fts_entries.specs.Entry.{IndexEntry, sealed, begun, worked, finished, index_of, unflushed}
-use Rattle.fts_entries.specs.Batch.{covers, largest_after, alive_of}
-use Rattle.fts_entries.specs.Exact.{is_deleted}
+use Rattle.fts_ilist.specs.Packing.{packed, joined}
+use Rattle.fts_entries.specs.Entry.{IndexEntry, sealed, begun, worked, finished, no_entries, index_of, unflushed}
+use Rattle.fts_entries.specs.Batch.{covers, largest_after, alive_of, words_of, next_entry}
+use Rattle.fts_entries.specs.Coming.{CanSeal, AreEntries}
+use Rattle.fts_entries.specs.Exact.{is_deleted, IdsAfter}
 
 abbrev row : ℕ → Row
 row doc = record { key = doc; doc = doc; texts = codes "apple" ∷ [] }
@@ -84,3 +95,69 @@ no_checkpoint = refl
 -- the commits behind the last batch
 not_flushed : unflushed four (index_of four (first ∷ second ∷ [])) ≡ turn (row 6 ∷ []) (2 ∷ []) 6 ∷ []
 not_flushed = refl
+
+-- ---- the next batch
+
+abbrev rules : Rules
+rules = record { min = 3; max = 84; stopwords = [] }
+
+abbrev pies : Row
+pies = record { key = 9; doc = 9; texts = codes "Pie pie" ∷ codes "apple of" ∷ [] }
+
+-- each indexed word once, in byte order
+words_once : words_of rules (pies ∷ row 6 ∷ []) ≡ codes "apple" ∷ codes "pie" ∷ []
+unfolding placed_words runs_from in_word word_at apostrophe_at
+words_once = refl
+
+-- the next batch has who is alive
+next_is : next_entry rules 1 four (index_of four (first ∷ second ∷ [])) ≡ sealed 4 6 ((codes "apple", node 6 ∷ []) ∷ [])
+unfolding placed_words runs_from in_word word_at
+next_is = refl
+
+-- and none of the words whose documents died
+next_empty : next_entry rules 3 four no_entries ≡ sealed 3 5 []
+next_empty = refl
+
+-- ---- entries that can come
+
+-- what a batch of one word has for any word
+abbrev if_asked : Docs → Bool → List Docs
+if_asked docs asked = cond asked (docs ∷ []) [] ++ []
+
+first_can : CanSeal four no_entries 1 2 ((codes "apple", node 1 ∷ []) ∷ [])
+first_can = record {
+  later = omega arith;
+  made = omega arith;
+  synced_is = refl;
+  ascend = λ word. ascends (bytes_eq word (codes "apple"));
+  no_empty = refl;
+  packed_are = λ word. is_packed (bytes_eq word (codes "apple"));
+  born = λ word. is_born (bytes_eq word (codes "apple"));
+}
+  where
+    ascends : (asked : Bool) → IdsAfter 0 (joined (if_asked (node 1) asked))
+    ascends true = (omega arith, tt)
+    ascends false = tt
+
+    is_packed : (asked : Bool) → packed (joined (if_asked (node 1) asked)) ≡ if_asked (node 1) asked
+    is_packed true = refl
+    is_packed false = refl
+
+    is_born : (asked : Bool) → All (λ p. has (1 ∷ 2 ∷ []) p.id ≡ true) (joined (if_asked (node 1) asked))
+    is_born true = All-from_recursion (λ (p : Posting). has (1 ∷ 2 ∷ []) p.id ≡ true) (node 1) (refl, tt)
+    is_born false = All-from_recursion (λ (p : Posting). has (1 ∷ 2 ∷ []) p.id ≡ true) [] tt
+
+entries_one : AreEntries four (first ∷ [])
+entries_one = (first_can, tt)
+
+-- not with a document that is born behind the commits that it covers
+not_born : CanSeal four no_entries 1 2 ((codes "apple", node 3 ∷ []) ∷ []) → ⊥
+not_born can = false≢true (All-head (λ (p : Posting). has (1 ∷ 2 ∷ []) p.id ≡ true) _ [] (can.born (codes "apple")))
+
+-- nor with documents that do not ascend
+not_ascending : CanSeal four no_entries 1 2 ((codes "apple", (record { id = 2; positions = 0 ∷ [] } ∷ node 1) ∷ []) ∷ []) → ⊥
+not_ascending can = absurd (omega (arith, (can.ascend (codes "apple")).1.0))
+
+-- nor again, once it is flushed
+not_twice : CanSeal four (index_of four (first ∷ [])) 1 2 ((codes "apple", node 1 ∷ []) ∷ []) → ⊥
+not_twice can = absurd (omega (arith, can.later))

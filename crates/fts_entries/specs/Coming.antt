@@ -15,8 +15,8 @@ abbrev pub born_ids : List Turn → List ℕ
 born_ids turns = map (λ row. row.doc) (births_of turns)
 
 -- a batch can come behind a state: it flushes further commits, up to the largest id that these used, and of each word
--- it has documents that were born in them, in the order of their ids, packed into nodes. It says nothing of the texts of
--- these documents
+-- it has documents that were born in them, by ascending ids, packed into nodes. It says nothing of the texts of these
+-- documents
 pub record CanSeal (turns : List Turn) (s : IndexState) (through synced : ℕ) (batch : Batch) : Type 0 where
   pub later : s.flushed < through
   pub made : through ≤ length turns

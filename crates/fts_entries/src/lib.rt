@@ -8,11 +8,15 @@
 //! What an index stands for (`index_of`, a fold over its entries) says nothing of the texts behind
 //! the nodes: an opening takes any entries that the format allows. That what is not deleted of
 //! tables and cache is what the rows have (`IsExact`) is another fact, which each step keeps: the
-//! laws `no_entries_are_right`, `commits_keep`, `batches_keep` and `passes_keep`. There is no code
-//! here but these.
+//! laws `no_entries_are_right`, `commits_keep`, `batches_keep` and `passes_keep`. Which batch comes
+//! next is one answer (`one_batch_is_next`), of rows of the table (`alive_are_rows`), and which
+//! entries can come is a fact on commits and entries alone (`AreEntries`), that each such batch
+//! meets (`entries_can_come`). There is no code here but these laws.
 #![tactic(auto)]
 
 mod laws;
 
-pub use laws::{alive_are_rows, batches_keep, commits_keep, entries_can_come};
-pub use laws::{no_entries_are_right, one_batch_is_next, passes_keep};
+pub use laws::{
+    alive_are_rows, batches_keep, commits_keep, entries_can_come, no_entries_are_right,
+    one_batch_is_next, passes_keep,
+};
