@@ -1,4 +1,4 @@
--- An index log has no place at fault.
+-- A rows log is a created one, and an index log has no place at fault.
 use Rattle.std.proofs.Common.{◌≡◌, ℕ, ◌+◌, List, [], ◌∷◌, ◌++◌, map, take, length, refl, ap, subst, sym, ◌∙◌, append_assoc, inl, inr, zero, suc, arith}
 use Rattle.std.proofs.lemmas.List.{take-map, take-append-le}
 use Rattle.std.proofs.lemmas.List.Elements.{All-take}
@@ -6,10 +6,11 @@ use Rattle.fts_commits.specs.Commit.{Commit, no_rows}
 use Rattle.fts_commits.specs.Turn.{Turn, turns_from}
 use Rattle.fts_entries.specs.Entry.{IndexEntry, IndexState, no_entries, after_entry}
 use Rattle.fts_entries.specs.Coming.{CanComeAll, AreEntries}
+use Rattle.fts_rowcodec.specs.Payload.{settings_payload, commit_payload}
 use Rattle.fts_ixcodec.specs.Payload.{entry_payload, IsEntry}
-use Rattle.fts_log.specs.Record.{records}
+use Rattle.fts_log.specs.Record.{records, front}
 use Rattle.fts_log.proofs.Unique.{not_damaged, first_ones}
-use Rattle.fts_steps.specs.State.{State, HasEntries, IsIndex, index_magic, index_payloads}
+use Rattle.fts_steps.specs.State.{State, HasEntries, IsRows, IsIndex, IsCreated, rows_magic, index_magic, index_payloads}
 use Rattle.fts_steps.specs.Fault.{IsWrongAt, AreOfIndex, IsIndexFaultAt}
 
 -- the first of some entries can come alone
@@ -43,3 +44,12 @@ not_at_fault state other at file same index (inl (place, no_magic)) =
     (index.log.bytes ∙ append_assoc index_magic (records (index_payloads other)) (index.log.gate ∷ index.log.rest))
 not_at_fault state other at file same index (inr (inl wrong)) = not_wrong state other at file same index wrong
 not_at_fault state other at file same index (inr (inr torn)) = not_damaged index_magic (index_payloads other) file at index.log (inr (torn.entries, torn.broken))
+
+-- behind the magic of a rows log the gate is open, since its settings follow
+gate_open : (payload : List ℕ) (entries : List (List ℕ)) (tail : List ℕ) → IsCreated (front rows_magic (payload ∷ entries) ++ tail)
+gate_open payload entries tail = (omega arith, refl)
+
+pub is_created : (state : State) (file : List ℕ) → IsRows state file → IsCreated file
+is_created state file rows =
+    subst (λ (f : List ℕ). IsCreated f) (sym rows.log.bytes)
+    (gate_open (settings_payload state.settings) (map commit_payload state.commits) (rows.log.gate ∷ rows.log.rest))
