@@ -26,12 +26,11 @@ use Rattle.fts_index.specs.declared.index.Index.{Index}
 use Rattle.fts_index.specs.Births.{AreBirths}
 use Rattle.fts_index.proofs.Births.{ids_lower}
 use Rattle.fts_index.specs.declared.sync.SyncPlan.{SyncPlan}
-use Rattle.fts_index.specs.Index.{StandsFor, AreCommits, CanTurn, WillTurn, PlansBatch}
+use Rattle.fts_index.specs.Index.{StandsFor, AreCommits, CanTurn, WillTurn, FitsSync, PlansBatch}
 use Rattle.fts_engine.specs.declared.kept.NextKept.{NextKept}
 use Rattle.fts_engine.specs.Indexed.{IsIndexOf, HasIndex}
 use Rattle.fts_engine.specs.Next.{WillHold}
-use Rattle.fts_engine.specs.declared.kept.Kept.{Kept}
-use Rattle.fts_engine.specs.Kept.{IsPlanned, CanSync}
+use Rattle.fts_engine.specs.Kept.{IsPlannedOf}
 use Rattle.fts_engine.proofs.Props.{fits_prop}
 use Rattle.fts_steps.proofs.Growing.{AreKnown, turns_more}
 use Rattle.fts_engine.proofs.Accepting.{replay_accepted}
@@ -207,32 +206,23 @@ pub turns_known : (settings : Settings) (rows : Rows) (index : Index) (commits :
 turns_known settings rows index commits s is = record { ascend = is.are.ascend; lead = is.lead }
 
 -- what a plan of a batch says of an index, for each that stands for commits
-abbrev Plans : Kept → Index → Option SyncPlan → Type 0
-Plans kept old plan = (rules : Rules) (turns : List Turn) (s : IndexState) → StandsFor rules turns s old → AreCommits turns → FitsTurns turns s
-    → PlansBatch rules kept.settings.batch_docs turns s kept.index plan
+abbrev pub Plans : Settings → Index → Index → Option SyncPlan → Type 0
+Plans settings old new plan = (rules : Rules) (turns : List Turn) (s : IndexState) → StandsFor rules turns s old → AreCommits turns → FitsTurns turns s
+    → PlansBatch rules settings.batch_docs turns s new plan
 
 -- the plan is the next batch of what is kept
-pub as_planned : (kept : Kept) (old : Index) (plan : Option SyncPlan) → Plans kept old plan → (commits : List Commit) (s : IndexState)
-    → IsIndexOf kept.settings (rows_of kept.rows) old commits s → IsPlanned kept commits s plan
-as_planned kept old None planned commits s is =
-    let most = planned (rules_of kept.settings) (turns_from no_rows commits) s is.stands is.are is.fits in
+pub as_planned : (settings : Settings) (rows : Rows) (old new : Index) (plan : Option SyncPlan) → Plans settings old new plan → (commits : List Commit) (s : IndexState)
+    → IsIndexOf settings rows old commits s → IsPlannedOf settings commits s plan
+as_planned settings rows old new None planned commits s is =
+    let most = planned (rules_of settings) (turns_from no_rows commits) s is.stands is.are is.fits in
     omega (arith, most, turns_count no_rows commits)
-as_planned kept old (Some plan) planned commits s is = (planned (rules_of kept.settings) (turns_from no_rows commits) s is.stands is.are is.fits).0
+as_planned settings rows old new (Some plan) planned commits s is = (planned (rules_of settings) (turns_from no_rows commits) s is.stands is.are is.fits).0
 
 -- there is room for it
-pub can_sync : (kept : Kept) (old : Index) (plan : SyncPlan)
-    → ((rules : Rules) (turns : List Turn) (s : IndexState) → StandsFor rules turns s old → StandsFor rules turns s kept.index)
-    → Plans kept old (Some plan) → ∥ HasIndex kept.settings (rows_of kept.rows) old ∥₁ → CanSync kept plan
-can_sync kept old plan stays planned indexed = record {
-  fits = ∥∥₁_elim indexed (fits_prop kept.index plan)
-      (λ has. (planned (rules_of kept.settings) (turns_from no_rows has.commits) has.state has.is.stands has.is.are has.is.fits).1);
-  next = ∥∥₁_map indexed (λ has. record {
-    commits = has.commits;
-    state = has.state;
-    is = same_right kept.settings (rows_of kept.rows) (rows_of kept.rows) old kept.index refl stays has.commits has.state has.is;
-    batch = (planned (rules_of kept.settings) (turns_from no_rows has.commits) has.state has.is.stands has.is.are has.is.fits).0;
-  });
-}
+pub plan_fits : (settings : Settings) (rows : Rows) (old new : Index) (plan : SyncPlan) → Plans settings old new (Some plan) → ∥ HasIndex settings rows old ∥₁ → FitsSync new plan
+plan_fits settings rows old new plan planned indexed =
+    ∥∥₁_elim indexed (fits_prop new plan)
+    (λ has. (planned (rules_of settings) (turns_from no_rows has.commits) has.state has.is.stands has.is.are has.is.fits).1)
 
 -- an index that stands for the same has what it had
 pub still_has : (settings : Settings) (rows rows' : Rows) (old new : Index) → rows' ≡ rows

@@ -16,18 +16,18 @@ use Rattle.fts_commits.specs.Turn.{turns_from}
 use Rattle.fts_log.specs.Record.{IsLog, log_end}
 use Rattle.fts_log.specs.Crash.{IsBeforeOrAfter}
 use Rattle.fts_log.specs.Log.{magic_of}
-use Rattle.fts_entries.specs.Entry.{IndexEntry, IndexState, unflushed_through}
+use Rattle.fts_entries.specs.Entry.{Batch, IndexEntry, IndexState, sealed, unflushed_through}
 use Rattle.fts_entries.specs.Batch.{IsBatch, alive_of, after_batch}
 use Rattle.fts_entries.specs.Rows.{CanIndex}
 use Rattle.fts_entries.proofs.Next.{one_next}
 use Rattle.fts_entries.proofs.Alive.{alive_ascend}
 use Rattle.fts_entries.proofs.BatchRows.{alive_rows}
-use Rattle.fts_ixcodec.specs.Payload.{entry_payload, IsEntry}
+use Rattle.fts_ixcodec.specs.Payload.{entry_payload, IsEntry, HasSize}
 use Rattle.fts_index.specs.declared.sync.SyncPlan.{SyncPlan}
 use Rattle.fts_steps.specs.State.{State, turns_of, index_state, index_magic, index_payloads, index_end_after, with_entries, HasEntries, IsRight}
 use Rattle.fts_steps.specs.Running.{Running, batched, with_what, next_index, next_flushed, next_batch}
 use Rattle.fts_steps.specs.Crash.{MayHoldIndex}
-use Rattle.fts_steps.specs.Step.{to_sync, full, flushed, all_flushed, plain_answer}
+use Rattle.fts_steps.specs.Step.{Answer, to_sync, full, flushed, all_flushed, plain_answer}
 use Rattle.fts_steps.proofs.Growing.{batch_stands, batch_leaves, batch_right}
 use Rattle.fts_engine.specs.declared.engine.Engine.{Engine}
 use Rattle.fts_engine.specs.declared.kept.Kept.{Kept}
@@ -42,14 +42,14 @@ use Rattle.fts_engine.proofs.Fitting.{can_index}
 use Rattle.fts_engine.proofs.Indexing.{min_some, max_short, turns_count}
 
 module _ (limits : Limits) (running : Running) (going : running.stopped ≡ None) where
-  abbrev written : Bool → Bool → _
-  written past left = elim left [
+  abbrev outcome : Bool → Bool → Answer
+  outcome past left = elim left [
     | true ↦ elim past [ true ↦ full (index_end_after running.state (next_batch running)) | false ↦ flushed (next_flushed running) (length running.state.commits) ]
     | false ↦ all_flushed (length running.state.commits)
   ]
 
   answered : (past left : Bool) → nat_lt limits.log_bytes (index_end_after running.state (next_batch running)) ≡ past
-      → nat_lt running.index.flushed (length running.state.commits) ≡ left → plain_answer limits running to_sync ≡ written past left
+      → nat_lt running.index.flushed (length running.state.commits) ≡ left → plain_answer limits running to_sync ≡ outcome past left
   answered true true is is' = rw (going, is', is) refl
   answered false true is is' = rw (going, is', is) refl
   answered past false is is' = rw (going, is') refl
@@ -72,12 +72,23 @@ module _ (limits : Limits) (running : Running) (going : running.stopped ≡ None
     is_flushed within =
         answered false true (false_from_ne_true _ (λ past. within (ltb-true limits.log_bytes _ past))) (grind (arith, less))
 
+-- ---- its entry
+
+-- the entry that a plan tells is its own
+pub same_entry : (plan : SyncPlan) (through synced : ℕ) (nodes : Batch) → through ≡ plan.through → synced ≡ plan.synced → nodes ≡ plan.nodes.items
+    → sealed through synced nodes ≡ batch_of plan
+same_entry plan through synced nodes is is' is'' =
+    ap (λ (n : ℕ). sealed n synced nodes) is ∙ ap (λ (n : ℕ). sealed plan.through n nodes) is' ∙ ap (λ (b : Batch). sealed plan.through plan.synced b) is''
+
+pub own_size : (plan : SyncPlan) (nodes : Batch) (size : ℕ) → nodes ≡ plan.nodes.items → HasSize (sealed plan.through plan.synced nodes) size → HasSize (batch_of plan) size
+own_size plan nodes size same has = subst (λ (b : Batch). HasSize (sealed plan.through plan.synced b) size) same has
+
 -- ---- what it leaves
 
 module _ {D E : Type 0} {disk : Ghosts D} {disk' : Ghosts E} (running : Running) (old : Engine D E disk disk') (has : Has running old) (kept : Kept)
     (settings : kept_settings kept ≡ kept_settings old.kept) (rows : kept_rows kept ≡ kept_rows old.kept) (plan : SyncPlan)
     (batch : IsNextBatch kept plan running.state.commits running.index) where
-  state : State
+  abbrev pub state : State
   state = running.state
 
   -- the batch of what is kept is that of the state

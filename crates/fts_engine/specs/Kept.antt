@@ -38,15 +38,22 @@ StaysIndexed old new = (commits : List Commit) (s : IndexState) → IsIndexed ol
 abbrev pub WillKeep : Kept → NextKept → Commit → Rows → Type 0
 WillKeep kept next commit after = WillHold kept.settings kept.rows kept.index next commit after
 
--- the plan is the next batch of what is kept
-abbrev pub IsNextBatch : Kept → SyncPlan → List Commit → IndexState → Type 0
-IsNextBatch kept plan commits s = IsBatch (rules_of kept.settings) kept.settings.batch_docs (turns_from no_rows commits) s
+-- the plan is the next batch by these settings
+abbrev pub IsNextBatchOf : Settings → SyncPlan → List Commit → IndexState → Type 0
+IsNextBatchOf settings plan commits s = IsBatch (rules_of settings) settings.batch_docs (turns_from no_rows commits) s
     plan.through plan.synced plan.nodes.items
 
 -- where there is no plan, all commits are flushed
+abbrev pub IsPlannedOf : Settings → List Commit → IndexState → Option SyncPlan → Type 0
+IsPlannedOf settings commits s None = length commits ≤ s.flushed
+IsPlannedOf settings commits s (Some plan) = IsNextBatchOf settings plan commits s
+
+-- the plan is the next batch of what is kept
+abbrev pub IsNextBatch : Kept → SyncPlan → List Commit → IndexState → Type 0
+IsNextBatch kept plan commits s = IsNextBatchOf kept.settings plan commits s
+
 abbrev pub IsPlanned : Kept → List Commit → IndexState → Option SyncPlan → Type 0
-IsPlanned kept commits s None = length commits ≤ s.flushed
-IsPlanned kept commits s (Some plan) = IsNextBatch kept plan commits s
+IsPlanned kept commits s plan = IsPlannedOf kept.settings commits s plan
 
 -- the plan is the next batch for some commits and some state for which the index stands
 pub record HasBatch (kept : Kept) (plan : SyncPlan) : Type 0 where

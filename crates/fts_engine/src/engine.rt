@@ -1,5 +1,5 @@
 ghost use Rattle.std.specs.Prelude.{◌≡◌, ◌+◌, ◌≤◌, ℕ, false, length, IsTrue, IsErr, OnOk, IfOk};
-ghost use Rattle.std.specs.Prelude.{Err, None};
+ghost use Rattle.std.specs.Prelude.{◌<◌, ◌^◌, Err, None};
 ghost use Rattle.fts_engine.specs.Refusing.{refusal_answer};
 ghost use Rattle.fts_log.specs.Frame.{payload_of};
 ghost use Rattle.fts_log.specs.Framing.{inner};
@@ -273,6 +273,7 @@ fn put_batch(frame: &mut [u8], plan: &SyncPlan)
     requires room { length frame.old ≡ length (entry_payload (batch_of plan.now)) + 5 }
     ensures size { length frame.new ≡ length frame.old }
     ensures payload { inner frame.new ≡ entry_payload (batch_of plan.now) }
+    ensures numbers { (plan.now.through < 2 ^ 64) × (plan.now.synced < 2 ^ 64) }
 {
     let payload = &mut frame[BEFORE_PAYLOAD..];
     encode_sealed_into(plan.through(), plan.synced(), plan.nodes(), payload);
