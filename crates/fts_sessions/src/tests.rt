@@ -594,8 +594,7 @@ fn a_sync_flushes_what_is_cached(rt: HostRuntime) -> Result<(), Fail> {
 }
 
 /// An INSERT behind which the rows log ends at 79, and its batch the index log at 81.
-const FOUR_WORDS: &str =
-    "INSERT INTO docs (id, title, body) VALUES (1, '', 'pie plum pear fig')";
+const FOUR_WORDS: &str = "INSERT INTO docs (id, title, body) VALUES (1, '', 'pie plum pear fig')";
 
 /// The steps of a new database, whose logs have at most so many bytes, and whose index device fails
 /// at these calls.
@@ -616,14 +615,21 @@ fn new_steps(
 }
 
 /// The replies to this INSERT, to a SYNC and to one more, one behind another.
-fn synced_twice(
-    alloc: Global,
-    steps: &mut Direct<MemDisk, MemDisk>,
-) -> Result<Vec<u8>, AllocError> {
+fn told_syncs(alloc: Global, steps: &mut Direct<MemDisk, MemDisk>) -> Result<Vec<u8>, AllocError> {
     let mut all = told_by(alloc, steps, FOUR_WORDS)?;
     all.extend_from_slice(&told_by(alloc, steps, "SYNC")?)?;
     all.extend_from_slice(&told_by(alloc, steps, "SYNC")?)?;
     Ok(all)
+}
+
+/// Those of such a database.
+fn synced_twice(
+    alloc: Global,
+    log_bytes: u64,
+    fails: Vec<(Kind, u64)>,
+) -> Result<Vec<u8>, AllocError> {
+    let mut steps = new_steps(alloc, log_bytes, fails)?;
+    told_syncs(alloc, &mut steps)
 }
 
 /// The most bytes of a log, and the replies.
@@ -639,8 +645,7 @@ const FULL: [(u64, &str); 2] = [
 fn a_full_index_log_refuses_a_sync(rt: HostRuntime) -> Result<(), Fail> {
     let alloc = rt.alloc();
     for (log_bytes, want) in FULL {
-        let mut steps = new_steps(alloc, log_bytes, Vec::new(alloc))?;
-        let told = synced_twice(alloc, &mut steps)?;
+        let told = synced_twice(alloc, log_bytes, Vec::new(alloc))?;
         assert_eq!(rt; told.as_slice(), want.as_bytes(), "of {log_bytes}");
     }
     Ok(())
@@ -661,8 +666,7 @@ const FAULTS: [(Kind, u64); 4] = [
 fn a_fault_in_a_sync_stops_the_engine(rt: HostRuntime) -> Result<(), Fail> {
     let alloc = rt.alloc();
     for fails in FAULTS {
-        let mut steps = new_steps(alloc, 4_096, vec![in alloc; fails]?)?;
-        let told = synced_twice(alloc, &mut steps)?;
+        let told = synced_twice(alloc, 4_096, vec![in alloc; fails]?)?;
         assert_eq!(rt; told.as_slice(), FAULT.as_bytes(), "at {fails:?}");
     }
     Ok(())
