@@ -1,6 +1,8 @@
--- Why no database was opened.
-use Rattle.std.proofs.Common.{◌≡◌, ℕ, List, refl, inr}
-use Rattle.fts_steps.specs.State.{State, IsCreated, IsDatabase}
+-- Why no database was opened, and what is made.
+use Rattle.std.proofs.Common.{◌≡◌, ℕ, List, [], refl, inr}
+use Rattle.fts_types.specs.declared.settings.Settings.{Settings}
+use Rattle.fts_steps.specs.State.{State, IsCreated, IsDatabase, IsRight, created_with}
+use Rattle.fts_steps.proofs.Growing.{none_right}
 use Rattle.fts_steps.proofs.Faults.{is_created, not_at_fault}
 use Rattle.fts_engine.specs.declared.error.Device.TheVariants.{Rows, Index}
 use Rattle.fts_engine.specs.declared.error.OpenError.{OpenError}
@@ -32,3 +34,9 @@ can_open (opening.Damaged Index file place) rows index state database why calm =
     absurd (not_at_fault damaged.state state place index (one_rows state damaged.state rows database.of_rows damaged.of_rows).1 database.of_index damaged.place)
 can_open opening.NoMemory rows index state database why calm = inr refl
 can_open opening.DiskFault rows index state database why calm = absurd (calm refl)
+
+-- ---- what is made
+
+-- the index of a database that was just created is right
+pub created_right : (settings : Settings) → IsRight (created_with settings)
+created_right settings = none_right settings [] (record { ascend = tt; lead = refl })

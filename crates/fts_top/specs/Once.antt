@@ -153,10 +153,11 @@ RunEnds disks limits result unused before after =
 abbrev pub created_text : List ℕ
 created_text = codes "OK created" ++ 10 ∷ []
 
--- a database without commits was made where none was created, and a crash leaves it
+-- a database without commits was made where none was created, and a crash leaves it. Its index is right
 pub record Made {D E : Type 0} (disks : Disks D E) (settings : Settings) (before after : Devices D E) : Type 0 where
   pub fresh : IsCreated (file_of disks.rows before.rows) → ⊥
   pub database : Holds disks (created_with settings) after
+  pub right : IsRight (created_with settings)
   pub rows : Only (disks.rows.seen after.rows) (disks.rows.images after.rows)
   pub index : Only (disks.index.seen after.index) (disks.index.images after.index)
 
