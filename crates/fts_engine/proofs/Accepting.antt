@@ -7,7 +7,7 @@ use Rattle.fts_types.specs.declared.limits.Limits.{Limits}
 use Rattle.fts_types.specs.Limits.{standard_limits}
 use Rattle.fts_commits.specs.declared.refusal.Refusal.{Refusal}
 use Rattle.fts_types.specs.Row.{Row}
-use Rattle.fts_commits.specs.Commit.{Commit, Rows, no_rows, has_key, with_key, without_key, doc_within, doc_for, with_texts, with_document, updated, after_update, after_change, on_rows, after_changes, within_rows, after_commit, rows_after, replay, AreAccepted}
+use Rattle.fts_commits.specs.Commit.{Commit, Rows, no_rows, has_key, with_key, without_key, doc_within, doc_for, with_document, updated, after_update, after_change, on_rows, after_changes, within_rows, after_commit, rows_after, replay, AreAccepted}
 use Rattle.fts_commits.specs.declared.change.Change.{Change}
 use Rattle.fts_commits.specs.declared.change.Change.TheVariants.{Insert, Update, Delete}
 use Rattle.fts_engine.specs.Bounds.{AreWithin}

@@ -1,12 +1,9 @@
 -- The rows whose ids are looked up are those that were chosen.
-use Rattle.std.proofs.Common.{◌≡◌, ℕ, ◌+◌, ◌<◌, Bool, true, false, nat_eq, Option, Some, None, cond, List, [], ◌∷◌, ◌++◌, All, filter, map, refl, sym, ap, ◌∙◌, arith, ⊎_elim}
-use Rattle.std.specs.List.{flat_map}
-use Rattle.std.specs.Option.{option_map}
+use Rattle.std.proofs.Common.{◌≡◌, ℕ, ◌+◌, ◌<◌, Bool, true, false, nat_eq, Option, Some, List, [], ◌∷◌, ◌++◌, filter, map, refl, ap, ◌∙◌, arith, ⊎_elim}
 use Rattle.std.proofs.lemmas.Bool.{cases_Bool, eq-eqb, ne_eqb}
-use Rattle.std.proofs.lemmas.List.Elements.{All-head, All-tail}
 use Rattle.fts_types.specs.Row.{Row}
 use Rattle.fts_commits.specs.Turn.{RowsAscend}
-use Rattle.fts_rows.specs.Rows.{row_with_id, texts_with_id}
+use Rattle.fts_rows.specs.Rows.{texts_with_id}
 use Rattle.fts_meaning.specs.View.{Candidate, candidate_of, ids_where}
 use Rattle.fts_engine.specs.Looking.{candidate_with, rows_at}
 

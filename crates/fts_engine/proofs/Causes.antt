@@ -1,5 +1,7 @@
 -- Why a database was not opened, by its two logs.
-use Rattle.std.proofs.Common.{◌≡◌, ℕ, ◌+◌, refl, ap, subst, sym, inl, inr, arith}
+use Rattle.std.proofs.Common.{◌≡◌, ℕ, ◌+◌, refl, ap, subst, sym, ◌∙◌, inl, inr, arith}
+use Rattle.std.specs.Prelude.{Ok, Err, IsErrOf}
+use Rattle.fts_engine.specs.declared.error.OpenError.{OpenError}
 use Rattle.fts_faults.specs.Count.{Rose, CountsFault}
 use Rattle.fts_engine.specs.Opening.{open_error_of}
 use Rattle.fts_engine.specs.declared.error.Device.{Device}
@@ -39,3 +41,52 @@ counts_behind device error a a' b b' same counts = subst (λ (n : ℕ). CountsFa
   calm = λ no. ap (λ (n : ℕ). a + n) (counts.calm (λ is. no (ap (open_error_of device) is)));
   never_falls = omega (arith, counts.never_falls);
 })
+
+-- a fault that ended the reading of a log is one of the opening
+pub counts_of : {T : Type 0} (device : Device) (error : LogError) (a a' : ℕ) → CountsFault (IsErrOf {T = T} (Err error) DiskFault) a a'
+    → CountsFault (open_error_of device error ≡ opening.DiskFault) a a'
+counts_of device error a a' counts = record {
+  rose = λ is. counts.rose (ap Err (of_fault device error is));
+  calm = λ no. counts.calm (λ is. let same : error ≡ DiskFault = (let e = is in cc) in no (ap (open_error_of device) same));
+  never_falls = counts.never_falls;
+}
+
+pub fault_of : {T : Type 0} (told error : OpenError) (a a' : ℕ) → told ≡ error → CountsFault (error ≡ opening.DiskFault) a a' → CountsFault (IsErrOf {T = T} (Err told) opening.DiskFault) a a'
+fault_of told error a a' same counts = record {
+  rose = λ is. counts.rose (sym same ∙ (let e = is in cc));
+  calm = λ no. counts.calm (λ is. no (ap Err (same ∙ is)));
+  never_falls = counts.never_falls;
+}
+
+-- the causes of a log's reading are those of the opening
+pub counts_on : (device : Device) (error : LogError) (a a' : ℕ) → CountsFault (error ≡ DiskFault) a a' → CountsFault (open_error_of device error ≡ opening.DiskFault) a a'
+counts_on device error a a' counts = record {
+  rose = λ is. counts.rose (of_fault device error is);
+  calm = λ no. counts.calm (λ is. no (ap (open_error_of device) is));
+  never_falls = counts.never_falls;
+}
+
+-- a cause that is told by other words
+pub counts_as : (told told' : Type 0) (a a' : ℕ) → (told' → told) → (told → told') → CountsFault told a a' → CountsFault told' a a'
+counts_as told told' a a' back forth counts = record {
+  rose = λ is. counts.rose (back is);
+  calm = λ no. counts.calm (λ is. no (forth is));
+  never_falls = counts.never_falls;
+}
+
+-- two that are told alike are at the same place
+pub same_damage : (device told : Device) (file file' at at' : ℕ) → opening.Damaged device file at ≡ opening.Damaged told file' at' → (device ≡ told) × (file ≡ file') × (at ≡ at')
+same_damage device told file file' at at' is = ((let same = is in cc), (let same = is in cc), (let same = is in cc))
+
+-- damage is no fault of a device
+pub damage_no_fault : (device : Device) (file at : ℕ) → opening.Damaged device file at ≡ opening.DiskFault → ⊥
+damage_no_fault device file at is = absurd cc
+
+pub ok_no_err : {T E : Type 0} (value : T) (error : E) → IsErrOf (Ok value) error → ⊥
+ok_no_err value error is = absurd (let no = is in cc)
+
+-- no fault was told, and the two devices are the same
+pub counts_none : (told told' : Type 0) (a b c b' c' : ℕ) → (told → ⊥) → (told' → ⊥) → b' ≡ b → c' ≡ c → CountsFault told a (b + c) → CountsFault told' a (b' + c')
+counts_none told told' a b c b' c' calm calm' same same' counts =
+    let still = counts.calm calm in
+    record { rose = λ is. absurd (calm' is); calm = λ _. omega (arith, same, same', still); never_falls = omega (arith, same, same', still) }

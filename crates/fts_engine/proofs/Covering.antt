@@ -1,21 +1,26 @@
 -- What is known of the two logs when some commits and some entries were read.
-use Rattle.std.proofs.Common.{◌≡◌, ℕ, ◌+◌, ◌<◌, ◌≤◌, List, [], ◌∷◌, ◌++◌, refl, ap, subst, sym, ◌∙◌, length, arith, map, take, drop, get_or, append_assoc, append-nil, length-append}
-use Rattle.std.proofs.lemmas.List.{take_all, take_more, take-append-le, take-append-drop, drop-append-le, drop_all, length-take, length-take-le, length-drop, length-map, get_or-take, map-append}
+use Rattle.std.proofs.Common.{◌≡◌, ◌≢◌, true, ℕ, ◌+◌, ◌<◌, ◌≤◌, List, [], ◌∷◌, ◌++◌, refl, ap, subst, sym, ◌∙◌, length, arith, map, take, drop, get_or, length-append}
+use Rattle.std.proofs.lemmas.List.{take_all, take_more, length-map, map-append}
 use Rattle.std.proofs.lemmas.List.Elements.{All-head, All-tail, All-push}
-use Rattle.std.specs.Prelude.{All, Ok, fold}
+use Rattle.std.specs.Prelude.{All, Ok}
 use Rattle.fts_types.specs.declared.settings.Settings.{Settings}
-use Rattle.fts_types.specs.Rules.{rules_of}
 use Rattle.fts_types.specs.Limits.{standard_limits}
-use Rattle.fts_commits.specs.Commit.{Commit, Rows, no_rows, after_commit, rows_after, replay}
+use Rattle.fts_commits.specs.Commit.{Commit, no_rows, after_commit, replay}
 use Rattle.fts_commits.specs.Turn.{Turn, turns_from}
 use Rattle.fts_rowcodec.specs.Payload.{commit_payload, IsWritten}
-use Rattle.fts_ixcodec.specs.Payload.{entry_payload, IsEntry}
+use Rattle.std.specs.List.{AllByRecursion}
+use Rattle.fts_ilist.specs.Spelling.{Posting, PostingsAfter}
+use Rattle.fts_ilist.specs.Node.{Docs}
+use Rattle.fts_entries.specs.Exact.{IdsAfter}
+use Rattle.fts_entries.proofs.Packing.{nodes_ids}
+use Rattle.fts_index.specs.Restore.{AreRead}
+use Rattle.fts_ixcodec.specs.Payload.{entry_payload, is_form, is_form_from, IsWord, IsNode, IsEntry}
 use Rattle.fts_ixcodec.proofs.Entries.{payload_has_one_entry}
-use Rattle.fts_entries.specs.Entry.{Batch, IndexEntry, IndexState, sealed, begun, worked, finished, index_of, after_entry}
+use Rattle.fts_entries.specs.Entry.{Batch, IndexEntry, IndexState, sealed, no_entries, index_of}
 use Rattle.fts_entries.specs.Coming.{CanSeal, CanCome, AreEntries}
 use Rattle.fts_entries.proofs.Commits.{same_index}
 use Rattle.fts_entries.proofs.Coming.{entries_more, entries_through, come_behind, come_last, index_behind, seal_less}
-use Rattle.fts_steps.specs.State.{State, payloads, index_payloads, turns_of, index_state, with_commits, with_entries, IsSound, HasEntries}
+use Rattle.fts_steps.specs.State.{State, payloads, turns_of, index_state, with_commits, with_entries, IsSound, HasEntries}
 use Rattle.fts_steps.specs.Fault.{AreOfIndex}
 use Rattle.fts_steps.proofs.Growing.{turns_more, entries_stay, index_stays, none_stand}
 use Rattle.fts_engine.specs.declared.restoring.Restoring.{Restoring}
@@ -23,8 +28,8 @@ use Rattle.fts_engine.specs.declared.kept.Kept.{Kept}
 use Rattle.fts_engine.specs.Kept.{kept_settings, kept_rows, kept_limits, IsIndexed}
 use Rattle.fts_engine.specs.Restoring.{restoring_settings, restoring_rows, restoring_commits, IsCovering, IsInstalled}
 use Rattle.fts_engine.specs.Reading.{IsWrongPayload}
-use Rattle.fts_engine.specs.Loading.{AreLoaded, IsRestored, StillRestored, IsLoaded, NoneCanSeal, AreSound}
-use Rattle.fts_engine.proofs.Loading.{one_more, front_of, within_all}
+use Rattle.fts_engine.specs.Loading.{BeginsWith, IsRestored, StillRestored, IsLoaded, NoneCanCome, AreSound}
+use Rattle.fts_engine.proofs.Loading.{one_more, front_of}
 use Rattle.fts_engine.proofs.Indexing.{turns_count}
 
 -- a list whose payloads are some and one more is a list and one more
@@ -51,30 +56,24 @@ pushed (entry ∷ whole) (other ∷ front) payload is is' same =
     }
 
 -- nothing but the settings was read
-pub first_restored : (all read : List (List ℕ)) (r : Restoring) (loaded : AreLoaded all (restoring_commits r + 1) (restoring_settings r) (restoring_rows r))
-    → loaded.state.commits ≡ [] → loaded.state.entries ≡ [] → IsCovering r [] (index_state (record { settings = loaded.state.settings; commits = []; entries = [] }))
-    → IsRestored all read 0 r
-first_restored all read r loaded commits entries covers = record {
-  of_rows = record { state = none; sound = again; same = loaded.same; loaded = same ∙ loaded.loaded; count = count; kept = loaded.kept ∙ ap replay commits };
-  entries = none_stand loaded.state.settings [];
+pub first_restored : (all read : List (List ℕ)) (settings : Settings) (r : Restoring) → BeginsWith settings all
+    → restoring_settings r ≡ settings → restoring_rows r ≡ no_rows → restoring_commits r ≡ 0 → IsCovering r [] no_entries → IsRestored all read 0 r
+first_restored all read settings r begins same rows count covers = record {
+  of_rows = record {
+    state = record { settings = settings; commits = []; entries = [] };
+    sound = record { settings = begins.right; written = λ k d less. absurd (omega (arith, less)); accepted = tt };
+    same = sym same;
+    loaded = begins.first ∙ ap (λ (n : ℕ). take (n + 1) all) (sym count);
+    count = omega (arith, count);
+    kept = rows;
+  };
+  entries = none_stand settings [];
   taken = refl;
   covers = covers;
 }
-  where
-    none : State
-    none = record { settings = loaded.state.settings; commits = []; entries = [] }
-
-    same : payloads none ≡ payloads loaded.state
-    same = ap (λ (cs : List Commit). payloads (record { settings = loaded.state.settings; commits = cs; entries = [] })) (sym commits)
-
-    count : 0 + 1 ≡ restoring_commits r + 1
-    count = let n = loaded.count in omega (arith, n, ap length commits)
-
-    again : IsSound none
-    again = record { settings = loaded.sound.settings; written = λ k d less. absurd (omega arith); accepted = tt }
 
 module _ (all read : List (List ℕ)) (j : ℕ) (old new : Restoring) (was : IsRestored all read j old) where
-  state : State
+  abbrev pub state : State
   state = was.of_rows.state
 
   -- one commit more was read
@@ -152,10 +151,10 @@ pub still_itself : (all read : List (List ℕ)) (j : ℕ) (old : Restoring) (was
 still_itself all read j old was = record { is = was; state = refl }
 
 module _ (all read : List (List ℕ)) (j : ℕ) (r : Restoring) (l : IsRestored all read j r) where
-  here : State
+  abbrev pub here : State
   here = l.of_rows.state
 
-  turns_here : List Turn
+  abbrev pub turns_here : List Turn
   turns_here = turns_of here
 
   -- over the commits of a whole database those that were read are the first
@@ -206,38 +205,34 @@ module _ (all read : List (List ℕ)) (j : ℕ) (r : Restoring) (l : IsRestored 
           come = subst (λ (s : IndexState). CanCome (turns_of whole) s last.entry) front.left come;
         }
 
-    -- a payload that is no entry's
-    pub wrong_payload : ((entry : IndexEntry) → IsEntry entry → get_or read j [] ≡ entry_payload entry → ⊥) → IsWrongPayload all read j
+    -- a payload that is no entry's that can come
+    pub wrong_payload : ((entry : IndexEntry) → IsEntry entry → get_or read j [] ≡ entry_payload entry → NoneCanCome all (index_state here) entry)
+        → IsWrongPayload all read j
     wrong_payload none = record {
       before = before_is;
       wrong = λ whole sound is of_index.
           let next = comes_next whole sound is of_index in
-          none next.entry next.written (sym next.spelled);
+          none next.entry next.written (sym next.spelled) whole sound is next.come;
     }
 
     -- an entry that can't come
     pub wrong_entry : (entry : IndexEntry) → IsEntry entry → get_or read j [] ≡ entry_payload entry
-        → ((whole : State) → IsSound whole → payloads whole ≡ all → CanCome (turns_of whole) (index_state here) entry → ⊥) → IsWrongPayload all read j
-    wrong_entry entry written spelled none = record {
-      before = before_is;
-      wrong = λ whole sound is of_index.
-          let next = comes_next whole sound is of_index in
-          let same : next.entry ≡ entry = payload_has_one_entry next.entry entry next.written written (next.spelled ∙ spelled) in
-          none whole sound is (subst (λ (e : IndexEntry). CanCome (turns_of whole) (index_state here) e) same next.come);
-    }
+        → NoneCanCome all (index_state here) entry → IsWrongPayload all read j
+    wrong_entry entry written spelled none =
+        wrong_payload (λ other is said. subst (NoneCanCome all (index_state here)) (sym (payload_has_one_entry other entry is written (sym said ∙ spelled))) none)
 
   -- a batch that flushes no commit more, or more than there are
-  pub none_later : (through synced : ℕ) (batch : Batch) → through ≤ (index_state here).flushed → NoneCanSeal all (index_state here) through synced batch
+  pub none_later : (through synced : ℕ) (batch : Batch) → through ≤ (index_state here).flushed → NoneCanCome all (index_state here) (sealed through synced batch)
   none_later through synced batch most whole sound is can = let later = can.later in omega (arith, later, most)
 
-  pub none_made : (through synced : ℕ) (batch : Batch) → length all ≤ through → NoneCanSeal all (index_state here) through synced batch
+  pub none_made : (through synced : ℕ) (batch : Batch) → length all ≤ through → NoneCanCome all (index_state here) (sealed through synced batch)
   none_made through synced batch many whole sound is can =
       let made = can.made in
       omega (arith, made, many, turns_count no_rows whole.commits, ap length is, length-map whole.commits commit_payload)
 
   -- one that can't come over the commits that were read, of which it covers no more
   pub none_here : (through synced : ℕ) (batch : Batch) → through ≤ length here.commits → (CanSeal turns_here (index_state here) through synced batch → ⊥)
-      → NoneCanSeal all (index_state here) through synced batch
+      → NoneCanCome all (index_state here) (sealed through synced batch)
   none_here through synced batch most none whole sound is can =
       let front = front_turns whole sound is in
       none (seal_less turns_here front.more (index_state here) through synced batch (omega (arith, most, turns_count no_rows here.commits))
@@ -294,3 +289,26 @@ all_sound all read j r l whole = record {
   sound = l.of_rows.sound;
   same = l.of_rows.loaded ∙ ap (λ (n : ℕ). take n all) whole ∙ take_all (length all) all (omega arith);
 }
+
+-- what of a batch's words is known once they are read
+pub words_read : (through synced : ℕ) (batch : Batch) → IsEntry (sealed through synced batch) → AreRead batch
+unfolding is_form_from
+words_read through synced batch written =
+    let groups = written.3 in
+    record {
+      ascend = groups.ascend;
+      filled = λ k d less. word_filled _ (groups.each k d less).word;
+      nodes = λ k d less. (groups.each k d less).nodes.ascend;
+      ids = λ k d less. nodes_ids 0 _ (groups.each k d less).nodes.ascend (each_ids _ (groups.each k d less).nodes.each);
+    }
+  where
+    word_filled : (word : List ℕ) → IsWord word → word ≢ []
+    word_filled word is none = absurd (let form : is_form [] ≡ true = subst (λ (w : List ℕ). is_form w ≡ true) none is.form in cc)
+
+    postings_ids : (low : ℕ) (docs : List Posting) → PostingsAfter low docs → IdsAfter low docs
+    postings_ids low [] after = tt
+    postings_ids low (p ∷ ps) after = (after.0, postings_ids p.id ps after.3)
+
+    each_ids : (nodes : List Docs) → All IsNode nodes → AllByRecursion (λ docs. IdsAfter 0 docs) nodes
+    each_ids [] each = tt
+    each_ids (docs ∷ nodes) each = (postings_ids 0 docs (All-head IsNode docs nodes each).are, each_ids nodes (All-tail IsNode docs nodes each))

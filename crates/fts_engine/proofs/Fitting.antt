@@ -1,6 +1,6 @@
 -- The rows that an accepted commit leaves are those of a table, those that it bears can be indexed, and its payload can
 -- be written.
-use Rattle.std.proofs.Common.{◌≡◌, ℕ, suc, ◌+◌, ◌<◌, ◌≤◌, ◌^◌, List, [], ◌∷◌, ◌++◌, refl, ap, subst, sym, ◌∙◌, length, arith, Option, Some, None}
+use Rattle.std.proofs.Common.{◌≡◌, ℕ, suc, ◌+◌, ◌<◌, ◌≤◌, ◌^◌, List, [], ◌∷◌, refl, ap, subst, sym, ◌∙◌, length, arith, Option, Some, None}
 use Rattle.std.proofs.lemmas.List.Sums.{sum_by-cons}
 use Rattle.std.proofs.lemmas.List.Elements.{All-nil, All-cons, All-append, All-head, All-tail, All-filter, All-weaker}
 use Rattle.std.specs.Prelude.{Bool, true, false, nat_lt, not, ◌==◌, Result, Ok, Err, sum_by, All, IsOk, fold}

@@ -1,5 +1,5 @@
 -- What the bytes of a log are that was opened.
-use Rattle.std.proofs.Common.{◌≡◌, ℕ, ◌<◌, Bool, true, false, List, [], ◌∷◌, ◌++◌, refl, subst, sym, ap, ◌∙◌, length, take, inl, inr, arith}
+use Rattle.std.proofs.Common.{◌≡◌, ℕ, ◌+◌, ◌<◌, Bool, true, false, List, [], ◌∷◌, ◌++◌, refl, subst, sym, ap, ◌∙◌, length, take, inl, inr, arith}
 use Rattle.std.specs.Prelude.{Result, Ok, Err, IfOk, IfErr}
 use Rattle.fts_log.specs.declared.found.Found.{Found}
 use Rattle.fts_log.specs.Record.{IsLog, IsBrokenBehind, IsDamagedAt, front}
@@ -62,7 +62,7 @@ none_torn (payload ∷ entries) at file none broken = absurd (omega (arith, none
 -- payloads of which there are some, and that are no sound database's, are none of a rows log
 not_of_rows : (entries : List (List ℕ)) → 0 < length entries → AreNoRows entries → AreOfRows entries → ⊥
 not_of_rows entries some none (inl nothing) = omega (arith, some, ap length nothing)
-not_of_rows entries some none (inr is) = none is.0 is.1.0 is.1.1
+not_of_rows entries some none (inr is) = none is.0 is.1 is.2
 
 -- a wrong entry is the first place at fault
 pub wrong_damaged : (entries : List (List ℕ)) (at : ℕ) (file : List ℕ) (found : Found) → IsFoundIn rows_magic entries file found → IsWrongEntry rows_magic entries at → IsDamaged at file

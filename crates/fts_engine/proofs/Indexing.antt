@@ -1,8 +1,8 @@
 -- That an index in memory still stands for commits.
-use Rattle.std.proofs.Common.{◌≡◌, ℕ, ◌+◌, ◌<◌, ◌≤◌, List, [], ◌∷◌, ◌++◌, refl, ap, subst, sym, ◌∙◌, length, arith, cond}
+use Rattle.std.proofs.Common.{◌≡◌, ℕ, ◌<◌, ◌≤◌, List, [], ◌∷◌, ◌++◌, refl, ap, subst, sym, ◌∙◌, length, arith, cond}
 use Rattle.std.proofs.lemmas.List.Sums.{fold-append}
 use Rattle.std.proofs.lemmas.Bool.{and_parts, leb-true}
-use Rattle.std.proofs.Math.Logic.{∥∥₁_map, ∥∥₁_elim}
+use Rattle.std.proofs.Math.Logic.{∥∥₁_elim}
 use Rattle.std.specs.Prelude.{Ok, fold, nat_eq, Bool, true, false, nat_le, if◌then◌else◌, Option, Some, None, filter, not, ◌==◌}
 use Rattle.std.specs.List.{IsDistinct, list_any}
 use Rattle.fts_types.specs.declared.settings.Settings.{Settings}
@@ -16,7 +16,7 @@ use Rattle.fts_words.specs.Indexed.{Rules}
 use Rattle.fts_commits.specs.Commit.{Commit, Rows, no_rows, after_commit, rows_after, replay}
 use Rattle.fts_commits.specs.Turn.{Turn, RowsAscend, AreTurns, rows_but, rows_by, turn_between, turns_from, deaths_of}
 use Rattle.fts_rows.specs.Rows.{Held, rows_of}
-use Rattle.fts_entries.specs.Entry.{Batch, IndexState, no_entries, sealed, after_entry}
+use Rattle.fts_entries.specs.Entry.{Batch, IndexState, sealed, after_entry}
 use Rattle.fts_entries.specs.Batch.{IsBatch, largest_after, after_batch}
 use Rattle.fts_entries.specs.Exact.{FitsTurns}
 use Rattle.fts_entries.proofs.Commits.{one_fits}

@@ -7,9 +7,11 @@ pub mod Gates
 pub mod Single
 pub mod Steps
 pub mod Causes
+pub mod BothLogs
 pub mod Candidates
 pub mod Indexing
 pub mod Props
 pub mod Syncing
 pub mod Covering
 pub mod Replaying
+pub mod Opened

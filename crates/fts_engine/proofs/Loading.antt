@@ -150,7 +150,7 @@ module _ (all : List (List ℕ)) (k : ℕ) (settings : Settings) (rows : Rows) (
         (subst (λ (rows : Rows). IsNoPlan (after_commit standard_limits commit rows) error) l.kept refused) ok
 
     -- one commit more is loaded
-    pub one_more : (commit : Commit) (rows' : Rows) → IsWritten (length settings.columns) commit → commit_payload commit ≡ get_or all k []
+    abbrev pub one_more : (commit : Commit) (rows' : Rows) → IsWritten (length settings.columns) commit → commit_payload commit ≡ get_or all k []
         → after_commit standard_limits commit rows ≡ Ok rows' → AreLoaded all (k + 1) settings rows'
     one_more commit rows' written spelled ok =
         let accepted : after_commit standard_limits commit (replay l.state.commits) ≡ Ok rows' = ap (λ (rows : Rows). after_commit standard_limits commit rows) (sym l.kept) ∙ ok in
@@ -251,18 +251,6 @@ pub settings_begin : (all : List (List ℕ)) (payload : List ℕ) (settings : Se
 settings_begin [] payload settings some is right spelled = absurd (omega arith)
 settings_begin (first ∷ all) payload settings some is right spelled =
     record { right = right; first = ap (λ (p : List ℕ). p ∷ []) (sym spelled ∙ is) }
-
--- nothing but the settings is loaded
-pub first_loaded : (all : List (List ℕ)) (settings settings' : Settings) (rows : Rows) → BeginsWith settings all → settings' ≡ settings → rows ≡ no_rows
-    → AreLoaded all 1 settings' rows
-first_loaded all settings settings' rows begins same none = record {
-  state = record { settings = settings; commits = []; entries = [] };
-  sound = record { settings = begins.right; written = λ k d less. absurd (omega arith); accepted = tt };
-  same = sym same;
-  loaded = begins.first;
-  count = refl;
-  kept = none;
-}
 
 -- all is loaded
 pub loaded_all : (all : List (List ℕ)) (settings : Settings) (rows : Rows) (l : AreLoaded all (length all) settings rows) → payloads l.state ≡ all

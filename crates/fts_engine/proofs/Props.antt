@@ -1,5 +1,5 @@
 -- That a batch fits an index can be so in one way.
-use Rattle.std.proofs.Common.{ℕ, ◌+◌, ◌≤◌, ◌<◌, List, [], ◌∷◌}
+use Rattle.std.proofs.Common.{ℕ, ◌+◌, List, [], ◌∷◌}
 use Rattle.std.proofs.Props.{props}
 use Rattle.std.proofs.lemmas.Map.Keys.{IsStrictlySortedBy-prop}
 use Rattle.fts_ids.specs.Ids.{AscendFrom}

@@ -1,9 +1,10 @@
 -- What is kept while the entries of an index log are read, one commit or one batch further.
-use Rattle.std.proofs.Common.{◌≡◌, ℕ, ◌+◌, ◌<◌, ◌≤◌, List, [], ◌∷◌, ◌++◌, refl, ap, subst, sym, ◌∙◌, length, arith, take, drop, length-append}
+use Rattle.std.proofs.Common.{◌≡◌, ℕ, ◌+◌, ◌≤◌, List, [], ◌∷◌, ◌++◌, refl, ap, subst, sym, ◌∙◌, length, arith, take, drop, length-append}
 use Rattle.std.proofs.lemmas.List.{take_all, take-append-le, take-append-drop, drop-append-le, drop_all, length-take, length-drop}
-use Rattle.std.specs.Prelude.{Ok}
+use Rattle.std.specs.Prelude.{Result, Ok, Err, IsErr, OnOk, OnErr}
 use Rattle.fts_types.specs.declared.settings.Settings.{Settings}
 use Rattle.fts_types.specs.Rules.{rules_of}
+use Rattle.fts_words.specs.Indexed.{Rules}
 use Rattle.fts_types.specs.Limits.{standard_limits}
 use Rattle.fts_commits.specs.Commit.{Commit, Rows, no_rows, after_commit, replay}
 use Rattle.fts_commits.specs.Turn.{Turn, AreTurns, turn_between, turns_from}
@@ -15,14 +16,16 @@ use Rattle.fts_entries.proofs.Commits.{none_fits}
 use Rattle.fts_entries.proofs.Coming.{seal_fits}
 use Rattle.fts_index.specs.declared.index.Index.{Index}
 use Rattle.fts_index.specs.declared.restore.Covered.{Covered}
+use Rattle.fts_types.specs.Row.{Row}
+use Rattle.fts_index.specs.Births.{turn_of}
 use Rattle.fts_index.specs.Index.{StandsFor}
 use Rattle.fts_index.specs.Restore as restore
 use Rattle.fts_index.specs.Restore.{Covers, Restores}
 use Rattle.fts_steps.proofs.Growing.{turns_more}
 use Rattle.fts_engine.specs.Indexed.{IsIndexOf}
-use Rattle.fts_engine.specs.Covered.{Covering}
+use Rattle.fts_engine.specs.Covered.{Covering, HasCovered}
 use Rattle.fts_engine.proofs.Accepting.{replay_accepted}
-use Rattle.fts_engine.proofs.Indexing.{AreLaws, rows_ascend_more}
+use Rattle.fts_engine.proofs.Indexing.{AreLaws, rows_ascend_more, turns_count}
 
 -- nothing was read
 pub none_covered : (settings : Settings) (rows : Rows) (index : Index) (covered : Covered) → rows ≡ no_rows → StandsFor (rules_of settings) [] no_entries index → Covers [] covered → AreLaws
@@ -34,6 +37,25 @@ none_covered settings rows index covered none stands covers laws = record {
   are = record { ascend = tt; once = laws.once [] };
   lead = laws.rows [];
   ascend = omega arith;
+}
+
+-- what stands for the same covers the same
+pub still_covered : (settings : Settings) (rows rows' : Rows) (index index' : Index) (covered covered' : Covered) (count : ℕ) (commits : List Commit) (s : IndexState) → rows' ≡ rows
+    → ((rules : Rules) (turns : List Turn) (s : IndexState) → StandsFor rules turns s index → StandsFor rules turns s index') → ((turns : List Turn) → Covers turns covered → Covers turns covered')
+    → Covering settings rows index covered count commits s → Covering settings rows' index' covered' count commits s
+still_covered settings rows rows' index index' covered covered' count commits s same stands covers is = record {
+  same = same ∙ is.same;
+  counted = is.counted;
+  restores = record {
+    stands = stands (rules_of settings) (take s.flushed (turns_from no_rows commits)) s is.restores.stands;
+    flushed = is.restores.flushed;
+    fits = is.restores.fits;
+    ascend = is.restores.ascend;
+    covers = covers (drop s.flushed (turns_from no_rows commits)) is.restores.covers;
+  };
+  are = is.are;
+  lead = is.lead;
+  ascend = is.ascend;
 }
 
 -- a state that fits commits fits more
@@ -75,7 +97,7 @@ module _ (settings : Settings) (rows : Rows) (index : Index) (covered : Covered)
     accepted' : after_commit standard_limits commit (replay commits) ≡ Ok after
     accepted' = ap (λ (rows : Rows). after_commit standard_limits commit rows) (sym is.same) ∙ accepted
 
-    turn : Turn
+    abbrev turn : Turn
     turn = turn_between (replay commits) after
 
     grown : turns_from no_rows (commits ++ commit ∷ []) ≡ turns ++ turn ∷ []
@@ -131,6 +153,22 @@ module _ (settings : Settings) (rows : Rows) (index : Index) (covered : Covered)
         ascend = is.ascend;
       }
 
+  -- where nothing is noted, all that was read is flushed
+  pub none_noted : covered.count ≡ 0 → count ≤ s.flushed
+  none_noted none =
+      let noted = is.restores.covers.count in
+      let counted = is.counted in
+      omega (arith, noted, none, counted, length-drop s.flushed turns, turns_count no_rows commits)
+
+  -- a batch that flushes no more than what was read can't come, if it can't behind what was noted
+  pub none_can : (through synced : ℕ) (batch : Batch) → length commits ≤ through
+      → (length (front ++ rest) ≤ through → CanSeal (front ++ rest) s through synced batch → ⊥) → CanSeal turns s through synced batch → ⊥
+  none_can through synced batch most none can =
+      none (omega (arith, most, ap length whole, turns_count no_rows commits)) (subst (λ (ts : List Turn). CanSeal ts s through synced batch) (sym whole) can)
+
+  pub can_whole : (through synced : ℕ) (batch : Batch) → CanSeal (front ++ rest) s through synced batch → CanSeal turns s through synced batch
+  can_whole through synced batch can = subst (λ (ts : List Turn). CanSeal ts s through synced batch) whole can
+
   -- where all commits are flushed the index stands for all
   pub all_flushed : covered.count ≡ 0 → IsIndexOf settings rows index commits s
   all_flushed none =
@@ -144,3 +182,41 @@ module _ (settings : Settings) (rows : Rows) (index : Index) (covered : Covered)
         fits = subst (λ (ts : List Turn). FitsTurns ts s) all is.restores.fits;
         ascend = is.ascend;
       }
+
+-- behind a call that installs a batch or refuses it something is covered still
+pub still_has : {T E : Type 0} (settings : Settings) (rows : Rows) (index new : Index) (covered covered' : Covered) (count through synced : ℕ) (batch : Batch) (result : Result T E)
+    → OnOk result ((rules : Rules) (turns more : List Turn) (s : IndexState) → Restores rules turns more s index covered → restore.IsRestored rules (turns ++ more) s through synced batch new)
+    → OnOk result (Covers [] covered') → (IsErr result → (rules : Rules) (turns : List Turn) (s : IndexState) → StandsFor rules turns s index → StandsFor rules turns s new)
+    → OnErr result (covered' ≡ covered) → HasCovered settings rows index covered count → HasCovered settings rows new covered' count
+still_has settings rows index new covered covered' count through synced batch (Ok done) restored none stays same has =
+    let turns = turns_from no_rows has.commits in
+    let s = has.state in
+    record {
+      commits = has.commits;
+      state = after_entry turns s (sealed through synced batch);
+      is = one_installed settings rows index covered count has.commits s has.is through synced batch new covered'
+          (restored (rules_of settings) (take s.flushed turns) (drop s.flushed turns) s has.is.restores) none;
+    }
+still_has settings rows index new covered covered' count through synced batch (Err error) restored none stays same has = record {
+  commits = has.commits;
+  state = has.state;
+  is = still_covered settings rows rows index new covered covered' count has.commits has.state refl (stays refl)
+      (λ turns covers. subst (λ (c : Covered). Covers turns c) (sym same) covers) has.is;
+}
+
+-- a commit was replayed: who was born in it and who died was noted, and its rows were installed
+pub replay_covers : (settings : Settings) (rows held new : Rows) (index : Index) (covered covered' : Covered) (count count' : ℕ) (commit : Commit) (after : Rows)
+    (births : List Row) (deaths : List ℕ) (largest : ℕ) → AreLaws → after_commit standard_limits commit rows ≡ Ok after → held ≡ rows
+    → births ≡ (turn_between held after).births → deaths ≡ (turn_between held after).deaths → largest ≡ (turn_between held after).largest
+    → ((more : List Turn) → Covers more covered → Covers (more ++ turn_of births deaths largest ∷ []) covered') → new ≡ after → count' ≡ count + 1
+    → (commits : List Commit) (s : IndexState) → Covering settings rows index covered count commits s → Covering settings new index covered' count' (commits ++ commit ∷ []) s
+replay_covers settings rows held new index covered covered' count count' commit after births deaths largest laws accepted same born died used noted installed counted commits s is =
+    let turn : turn_of births deaths largest ≡ turn_between rows after =
+    ap (λ (bs : List Row). turn_of bs deaths largest) born
+    ∙ ap (λ (ds : List ℕ). turn_of (turn_between held after).births ds largest) died
+    ∙ ap (λ (n : ℕ). turn_of (turn_between held after).births (turn_between held after).deaths n) used
+    ∙ ap (λ (rows : Rows). turn_between rows after) same in
+    subst (λ (n : ℕ). Covering settings new index covered' n (commits ++ commit ∷ []) s) (sym counted)
+    (subst (λ (rows : Rows). Covering settings rows index covered' (count + 1) (commits ++ commit ∷ []) s) (sym installed)
+    (one_noted settings rows index covered count commits s is commit after accepted covered'
+    (λ more covers. subst (λ (turn : Turn). Covers (more ++ turn ∷ []) covered') turn (noted more covers)) laws))

@@ -1,5 +1,5 @@
 -- Rows that a table can have.
-use Rattle.std.specs.Prelude.{◌≡◌, ℕ, ◌<◌, ◌≤◌, ◌^◌, List, length, sum_by, All}
+use Rattle.std.specs.Prelude.{◌≡◌, ℕ, ◌<◌, ◌≤◌, ◌^◌, length, sum_by, All}
 use Rattle.fts_types.specs.Row.{Row}
 use Rattle.fts_types.specs.declared.settings.Settings.{Settings}
 use Rattle.fts_commits.specs.Commit.{Rows}

@@ -10,5 +10,6 @@ pub mod Opening
 pub mod Covered
 pub mod Restoring
 pub mod Loading
+pub mod ReadBatch
 pub mod Reading
 pub mod Looking

@@ -5,8 +5,8 @@ use Rattle.fts_types.specs.declared.settings.Settings.{Settings}
 use Rattle.fts_types.specs.Settings.{AreSettings}
 use Rattle.fts_types.specs.Limits.{standard_limits}
 use Rattle.fts_commits.specs.Commit.{Commit, Rows, replay}
-use Rattle.fts_entries.specs.Entry.{Batch, IndexState}
-use Rattle.fts_entries.specs.Coming.{CanSeal}
+use Rattle.fts_entries.specs.Entry.{IndexEntry, IndexState}
+use Rattle.fts_entries.specs.Coming.{CanCome}
 use Rattle.fts_rowcodec.specs.Payload.{settings_payload, commit_payload, IsWritten}
 use Rattle.fts_steps.specs.State.{State, payloads, index_payloads, turns_of, index_state, IsSound, HasEntries}
 use Rattle.fts_steps.specs.Fault.{AreOfRows}
@@ -77,10 +77,9 @@ pub record AreSound (all : List (List ℕ)) : Type 0 where
   pub sound : IsSound state
   pub same : payloads state ≡ all
 
--- a batch can't come over the commits of a database with these payloads
-abbrev pub NoneCanSeal : List (List ℕ) → IndexState → ℕ → ℕ → Batch → Type 0
-NoneCanSeal all s through synced batch = (state : State) → IsSound state → payloads state ≡ all
-    → CanSeal (turns_of state) s through synced batch → ⊥
+-- an entry can't come over the commits of a database with these payloads
+abbrev pub NoneCanCome : List (List ℕ) → IndexState → IndexEntry → Type 0
+NoneCanCome all s entry = (state : State) → IsSound state → payloads state ≡ all → CanCome (turns_of state) s entry → ⊥
 
 -- payload j of the index log, whose gate stands at this place, is the first at fault
 pub record IsWrongAmong (magic : List ℕ) (all read : List (List ℕ)) (at : ℕ) : Type 0 where

@@ -1,5 +1,5 @@
 -- The rows whose texts a search looks into.
-use Rattle.std.specs.Prelude.{ℕ, List, [], ◌∷◌, ◌++◌, Option, Some, None}
+use Rattle.std.specs.Prelude.{ℕ, List, [], ◌∷◌, Option, Some, None}
 use Rattle.std.specs.List.{flat_map}
 use Rattle.fts_types.specs.Row.{Row}
 use Rattle.fts_rows.specs.Rows.{texts_with_id}

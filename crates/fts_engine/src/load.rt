@@ -7,13 +7,16 @@ ghost use Rattle.fts_log.specs.Records.{record_count};
 ghost use Rattle.fts_log.specs.Record.{gate_at};
 ghost use Rattle.fts_rowcodec.specs.Payload.{IsWritten, commit_payload};
 ghost use Rattle.fts_types.specs.Settings.{AreSettings};
-ghost use Rattle.fts_index.specs.Restore as restore;
 ghost use Rattle.fts_ixcodec.specs.Payload.{IsEntry, entry_payload};
-ghost use Rattle.fts_entries.specs.Entry.{sealed};
+ghost use Rattle.fts_commits.specs.Turn.{Turn};
+ghost use Rattle.fts_entries.specs.Entry.{IndexEntry, IndexState};
+ghost use Rattle.fts_entries.specs.Coming.{CanCome};
 ghost use Rattle.fts_steps.specs.State.{index_state};
 ghost use Rattle.fts_engine.specs.Loading.{BeginsWith, IsRestored, StillRestored, IsLoaded};
 ghost use Rattle.fts_engine.specs.Loading.{IsWrongEntry, AreSound, IsNoCommit};
-ghost use Rattle.fts_engine.specs.Loading.{NoneCanSeal, IsWrongAmong};
+ghost use Rattle.fts_engine.specs.Loading.{NoneCanCome, IsWrongAmong};
+ghost use Rattle.fts_engine.specs.ReadBatch.{batch_read};
+ghost use Rattle.fts_engine.specs.declared.load.ReadBatch.{ReadBatch};
 ghost use Rattle.fts_engine.specs.Reading.{ReadsBoth, IsWrongPayload};
 ghost use Rattle.fts_engine.specs.Restoring.{restoring_commits, IsFlushed};
 
@@ -23,14 +26,14 @@ use crate::restoring::Restoring;
 use crate::{Device, OpenError};
 use fts_commits::Changes;
 use fts_disk::Disk;
-use fts_ilist::WordNodes;
+use fts_ilist::Nodes;
 use fts_index::RestoreError;
 use fts_ixcodec::{Entry, decode};
 use fts_log::Records;
 use fts_rowcodec::{DecodeError, decode_commit, decode_settings};
 use fts_rows::PlanError;
 use fts_types::{DocId, Settings};
-use std::alloc::Global;
+use std::alloc::{AllocError, Global};
 
 // A payload that is longer is no settings.
 const MOST_OF_SETTINGS: u64 = 300;
@@ -52,7 +55,8 @@ pub fn load<D: Disk, E: Disk>(
         → (all read : List (List ℕ)) → Hold all rows.old → Hold read entries.old
         → IsLoaded all (length all) read kept) }
     ensures damaged_rows { (file at : ℕ) → IsErrOf result (OpenError.Damaged Device.Rows file at)
-        → (file ≡ 0) × (IsTrue D.tells → (all : List (List ℕ)) → Hold all rows.old
+        → (file ≡ 0) × (IsTrue D.tells → IsTrue E.tells → (all read : List (List ℕ))
+        → Hold all rows.old → Hold read entries.old
         → IsWrongEntry (records_magic rows.old) all at) }
     ensures damaged_index { (file at : ℕ) → IsErrOf result (OpenError.Damaged Device.Index file at)
         → (file ≡ 0) × (IsTrue D.tells → IsTrue E.tells → (all read : List (List ℕ))
@@ -95,7 +99,10 @@ fn load_rest<D: Disk>(
     ensures faults { CountsFault (IsErrOf result OpenError.DiskFault)
         (D.faults (records_device rows.old)) (D.faults (records_device rows.new)) }
 {
-    let next = restoring.commits().saturating_add(1);
+    let next = match restoring.commits().checked_add(1) {
+        Some(next) => next,
+        None => return Err(OpenError::NoMemory),
+    };
     let mut kept = restoring.keep();
     match load_commits(alloc, rows, next, &mut kept) {
         Ok(()) => Ok(kept),
@@ -207,20 +214,47 @@ fn restore_entry<D: Disk, E: Disk>(
         Ok(payload) => payload,
         Err(error) => return Err(error.on(Device::Index)),
     };
-    match decode(alloc, &payload) {
-        Ok(
-            Entry::Sealed {
-                through,
-                synced,
-                nodes,
-            },
-        ) => match restore_batch(alloc, rows, restoring, through, synced, &nodes) {
+    match batch_in(alloc, &payload) {
+        Ok(Some(batch)) => match restore_batch(alloc, rows, restoring, &batch) {
             Ok(restored) => Ok(restored),
             Err(error) => Err(error.on(Device::Rows)),
         },
-        Ok(_) => Ok(false),
-        Err(fts_ixcodec::DecodeError::NoMemory) => Err(OpenError::NoMemory),
-        Err(fts_ixcodec::DecodeError::Bad { .. }) => Ok(false),
+        Ok(None) => Ok(false),
+        Err(AllocError) => Err(OpenError::NoMemory),
+    }
+}
+
+/// A batch that was read: through which commit and up to which id it flushes, and its nodes.
+#[derive(Drop)]
+struct ReadBatch {
+    through: u64,
+    synced: DocId,
+    nodes: Nodes,
+}
+
+// The batch that a payload is. Where it is none, no entry of a database has it.
+fn batch_in(alloc: Global, payload: &[u8]) -> Result<Option<ReadBatch>, AllocError>
+    ensures batch { (batch : ReadBatch) → result ≡ Ok (Some batch) → IsEntry (batch_read batch)
+        × (payload.now ≡ entry_payload (batch_read batch)) }
+    ensures none { result ≡ Ok None → (entry : IndexEntry) → IsEntry entry
+        → payload.now ≡ entry_payload entry → (turns : List Turn) (s : IndexState)
+        → CanCome turns s entry → ⊥ }
+{
+    match decode(alloc, payload) {
+        Ok(Entry::Sealed {
+            through,
+            synced,
+            nodes,
+        }) => Ok(Some(ReadBatch {
+            through,
+            synced,
+            nodes,
+        })),
+        Ok(Entry::Begun) => Ok(None),
+        Ok(Entry::Worked { word: _, nodes: _ }) => Ok(None),
+        Ok(Entry::Finished) => Ok(None),
+        Err(fts_ixcodec::DecodeError::NoMemory) => Err(AllocError),
+        Err(fts_ixcodec::DecodeError::Bad { at: _ }) => Ok(None),
     }
 }
 
@@ -245,23 +279,19 @@ fn restore_batch<D: Disk>(
     alloc: Global,
     rows: &mut Records<D>,
     restoring: &mut Restoring,
-    through: u64,
-    synced: DocId,
-    nodes: &[WordNodes],
+    batch: &ReadBatch,
 ) -> Result<bool, LogError>
-    requires words { restore.AreRead nodes.now }
+    requires written { IsEntry (batch_read batch.now) }
     requires flushed { IsFlushed restoring.old }
     ensures restored { result ≡ Ok true → IsTrue D.tells → (all read : List (List ℕ)) (j : ℕ)
         → Hold all rows.old → IsRestored all read j restoring.old
-        → IsEntry (sealed through synced nodes.now)
-        → take (j + 1) read
-        ≡ take j read ++ entry_payload (sealed through synced nodes.now) ∷ []
+        → take (j + 1) read ≡ take j read ++ entry_payload (batch_read batch.now) ∷ []
         → IsRestored all read (j + 1) restoring.new }
     ensures flushed { result ≡ Ok true → IsFlushed restoring.new }
     ensures refused { result ≡ Ok false → IsTrue D.tells → (all read : List (List ℕ)) (j : ℕ)
         → Hold all rows.old → (old : IsRestored all read j restoring.old)
         → IsRestored all read j restoring.new
-        × NoneCanSeal all (index_state old.of_rows.state) through synced nodes.now }
+        × NoneCanCome all (index_state old.of_rows.state) (batch_read batch.now) }
     ensures damaged { (at : ℕ) → IsErrOf result (LogError.Damaged at) → IsTrue D.tells
         → (all read : List (List ℕ)) (j : ℕ) → Hold all rows.old
         → IsRestored all read j restoring.old → IsWrongEntry (records_magic rows.old) all at }
@@ -271,14 +301,17 @@ fn restore_batch<D: Disk>(
     ensures faults { CountsFault (IsErrOf result LogError.DiskFault)
         (D.faults (records_device rows.old)) (D.faults (records_device rows.new)) }
 {
-    if through <= restoring.flushed() || through >= rows.count() {
+    if batch.through <= restoring.flushed() {
         return Ok(false);
     }
-    match cover_commits(alloc, rows, through, restoring) {
+    if batch.through >= rows.count() {
+        return Ok(false);
+    }
+    match cover_commits(alloc, rows, batch.through, restoring) {
         Ok(()) => {}
         Err(error) => return Err(error),
     }
-    match restoring.restore(through, synced, nodes) {
+    match restoring.restore(batch.through, batch.synced, &batch.nodes) {
         Ok(()) => Ok(true),
         Err(RestoreError::NoMemory) => Err(LogError::NoMemory),
         Err(RestoreError::Bad) => Ok(false),

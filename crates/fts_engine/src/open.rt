@@ -1,5 +1,5 @@
-ghost use Rattle.std.specs.Prelude.{◌≡◌, ◌≢◌, ◌⊎◌, ◌+◌, ◌<◌, ℕ, List, IsTrue, IsErrAnd, IfOk};
-ghost use Rattle.std.specs.Prelude.{IfErr};
+ghost use Rattle.std.specs.Prelude.{◌≡◌, ◌≢◌, ◌⊎◌, ◌↔◌, ◌+◌, ◌<◌, ℕ, List};
+ghost use Rattle.std.specs.Prelude.{IsTrue, IsErrAnd, IfOk, IfErr};
 ghost use Rattle.fts_faults.specs.Count.{CountsFault};
 ghost use Rattle.fts_disk.specs.Moments.{Looks};
 ghost use Rattle.fts_log.specs.Records.{Hold, records_device, records_magic, record_count};
@@ -24,9 +24,9 @@ use std::alloc::Global;
 
 /// Opens the database on two devices: reads the gates of its rows log and of its index log, then
 /// the payloads of both, and writes nothing. Words are made of the rows of the commits behind the
-/// last entry alone: those before it stand in the index log. `limits` are those of later steps; what
-/// was written before need only be within the standard ones. A crash at any moment leaves what it
-/// could leave before.
+/// last entry alone: those before it stand in the index log. `limits` are those of later steps;
+/// what was written before need only be within the standard ones. A crash at any moment leaves what
+/// it could leave before.
 ///
 /// What is opened stands for the two logs, whatever entries they have that the format allows. That
 /// searches find what a scan does is known of devices on which `create_engine` made the database,
@@ -130,11 +130,8 @@ fn open_records<D: Disk, E: Disk>(
     let rows = match rows.into_log(limits.log_bytes) {
         Ok(rows) => rows,
         Err((at, rows)) => {
-            return Err((
-                LogError::Damaged { at }.on(Device::Rows),
-                rows,
-                entries.close(),
-            ));
+            let error = LogError::Damaged { at }.on(Device::Rows);
+            return Err((error, rows, entries.close()));
         }
     };
     match entries.into_log(limits.log_bytes) {
@@ -149,11 +146,8 @@ fn open_records<D: Disk, E: Disk>(
             })
         }
         Err((at, index)) => {
-            Err((
-                LogError::Damaged { at }.on(Device::Index),
-                rows.close(),
-                index,
-            ))
+            let error = LogError::Damaged { at }.on(Device::Index);
+            Err((error, rows.close(), index))
         }
     }
 }
@@ -234,31 +228,30 @@ fn refuse_index<D: Disk>(alloc: Global, rows: Records<D>, at: u64) -> (OpenError
 // A fault of the index log is told where the rows log is whole; else the place where it is torn.
 fn told_first<D: Disk>(rows: Records<D>, error: OpenError) -> (OpenError, D)
     requires magic { records_magic rows ≡ rows_magic }
-    ensures told { ((result.0 ≡ error) × ((file at : ℕ)
-        → error ≡ OpenError.Damaged Device.Index file at → IsTrue D.tells
-        → (all : List (List ℕ)) → Hold all rows
-        → IsLog rows_magic all (D.seen (records_device rows) 0)))
-        ⊎ ((at : ℕ) × (result.0 ≡ OpenError.Damaged Device.Rows 0 at)
-        × ((file place : ℕ) × (error ≡ OpenError.Damaged Device.Index file place))
+    ensures created { result.0 ≡ OpenError.NotCreated → error ≡ OpenError.NotCreated }
+    ensures fault { (result.0 ≡ OpenError.DiskFault) ↔ (error ≡ OpenError.DiskFault) }
+    ensures damaged_rows { (file at : ℕ) → result.0 ≡ OpenError.Damaged Device.Rows file at
+        → (error ≡ OpenError.Damaged Device.Rows file at)
+        ⊎ ((file ≡ 0) × ((place : ℕ) × (last : ℕ)
+        × (error ≡ OpenError.Damaged Device.Index place last))
         × (IsTrue D.tells → (all : List (List ℕ)) → Hold all rows
         → IsBrokenBehind rows_magic all at (D.seen (records_device rows) 0))) }
+    ensures damaged_index { (file at : ℕ) → result.0 ≡ OpenError.Damaged Device.Index file at
+        → (error ≡ OpenError.Damaged Device.Index file at) × (IsTrue D.tells
+        → (all : List (List ℕ)) → Hold all rows
+        → IsLog rows_magic all (D.seen (records_device rows) 0)) }
     ensures device { result.1 ≡ records_device rows }
 {
     match error {
-        OpenError::Damaged {
-            device: Device::Index,
-            file,
-            at,
-        } => match rows.into_log(LARGEST_LOG) {
-            Ok(log) => (
-                OpenError::Damaged {
-                    device: Device::Index,
-                    file,
-                    at,
-                },
-                log.close(),
-            ),
-            Err((at, device)) => (LogError::Damaged { at }.on(Device::Rows), device),
+        OpenError::Damaged { device, file, at } => match device {
+            Device::Index => match rows.into_log(LARGEST_LOG) {
+                Ok(log) => (OpenError::Damaged { device, file, at }, log.close()),
+                Err((at, rows)) => {
+                    let error = LogError::Damaged { at }.on(Device::Rows);
+                    (error, rows)
+                }
+            },
+            Device::Rows => (OpenError::Damaged { device, file, at }, rows.close()),
         },
         error => (error, rows.close()),
     }

@@ -142,8 +142,13 @@ impl Restoring {
             (s : IndexState) → IsCovering self.old commits s → length commits ≤ through
             → CanSeal (turns_from no_rows commits) s through synced nodes.now → ⊥ }
     {
-        self.index
+        match self
+            .index
             .restore(&mut self.covered, through, synced, nodes)
+        {
+            Ok(()) => Ok(()),
+            Err(error) => Err(error),
+        }
     }
 
     /// What is kept of the database, where all commits that were read are flushed.

@@ -1,5 +1,5 @@
 -- Ids without a gap.
-use Rattle.std.proofs.Common.{◌≡◌, ℕ, suc, ◌+◌, ◌-◌, ◌<◌, ◌≤◌, Bool, true, false, ◌&&◌, ◌||◌, List, [], ◌∷◌, length, get_or, nat_le, nat_eq, refl, sym, ap, ap₂, ◌∙◌, arith, ⊎_elim}
+use Rattle.std.proofs.Common.{◌≡◌, ℕ, suc, ◌+◌, ◌-◌, ◌<◌, ◌≤◌, Bool, true, false, ◌&&◌, ◌||◌, List, [], ◌∷◌, length, get_or, nat_le, nat_eq, sym, ap, ap₂, ◌∙◌, arith, ⊎_elim}
 use Rattle.std.proofs.lemmas.Bool.{false≢true, cases_lt, eq-eqb, eqb-true, leb-true, le-leb, and_parts, or_cases, or_right, or_left}
 use Rattle.fts_ids.specs.Ids.{has, AscendFrom}
 use Rattle.fts_index.proofs.Syncing.{same_truth}

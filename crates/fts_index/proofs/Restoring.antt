@@ -19,18 +19,18 @@ use Rattle.fts_ids.specs.Ids.{has, AscendFrom}
 use Rattle.fts_ids.proofs.Ascending.{same_ids, has-filter}
 use Rattle.fts_lists.specs.Ids.{with_ids}
 use Rattle.fts_lists.specs.State.{ids_of}
-use Rattle.fts_lists.specs.declared.lists.DeleteList.TheVariants.{Deleted, BeingDeleted, DeletedCache}
+use Rattle.fts_lists.specs.declared.lists.DeleteList.TheVariants.{Deleted}
 use Rattle.fts_lists.proofs.Merging.{has-with_ids, AscendFrom-with_ids}
 use Rattle.fts_ilist.specs.Spelling.{Posting}
 use Rattle.fts_ilist.specs.Node.{Docs, nodes_for, NodesAfter, last_of}
 use Rattle.fts_ilist.specs.Packing.{packed, joined, are_loose}
 use Rattle.fts_ilist.proofs.Loose.{keeps, told_loose}
 use Rattle.fts_aux.specs.Tables as tables
-use Rattle.fts_commits.specs.Turn.{Turn, RowsAscend, AreTurns, births_of, deaths_of}
+use Rattle.fts_commits.specs.Turn.{Turn, RowsAscend, births_of, deaths_of}
 use Rattle.fts_entries.specs.Entry.{Batch, IndexState, sealed, after_entry, unflushed, unflushed_through, flushed_deaths}
 use Rattle.fts_entries.specs.Batch.{largest_after}
 use Rattle.fts_entries.specs.Coming.{CanSeal, born_ids}
-use Rattle.fts_entries.specs.Exact.{FitsTurns, IdsAfter}
+use Rattle.fts_entries.specs.Exact.{IdsAfter}
 use Rattle.fts_entries.specs.Words.{rows_postings}
 use Rattle.fts_entries.proofs.Batches.{fails}
 use Rattle.fts_entries.proofs.Filters.{leads, all_joined}
@@ -41,7 +41,7 @@ use Rattle.fts_index.specs.declared.restore.Covered.{Covered}
 use Rattle.fts_index.specs.Index.{StandsFor, pending_seen, pending_of, cached_row}
 use Rattle.fts_index.specs.Births.{turn_of}
 use Rattle.fts_index.specs.Parts.{HasSame}
-use Rattle.fts_index.specs.Restore.{Covers, AreRead, begins_above, are_born, is_fit, is_next, can_restore, Restores, IsRestored, IsAdded}
+use Rattle.fts_index.specs.Restore.{Covers, AreRead, begins_above, are_born, is_fit, is_next, can_restore, Restores, IsAdded}
 use Rattle.fts_index.proofs.Commits.{stands_still}
 use Rattle.fts_entries.proofs.Groups.{own_nodes, no_nodes_for, word_apart}
 

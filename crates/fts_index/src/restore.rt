@@ -240,13 +240,7 @@ fn can_restore(
 }
 
 /// Adds what a batch does to each part of an index that has nothing in its cache.
-fn add_batch(
-    index: &mut Index,
-    through: u64,
-    synced: DocId,
-    nodes: &[WordNodes],
-    dead: &[DocId],
-)
+fn add_batch(index: &mut Index, through: u64, synced: DocId, nodes: &[WordNodes], dead: &[DocId])
     requires words { IsStrictlySortedBy byte_order (keys_of nodes.now) }
     requires room { tables.HasRoom index.old.tables nodes.now }
     requires after { tables.ComesAfter index.old.tables nodes.now }

@@ -4,12 +4,16 @@ ghost use Rattle.fts_types.specs.Row.{row_of};
 ghost use Rattle.fts_entries.specs.Rows.{CanIndex};
 ghost use Rattle.fts_index.specs.Births.{AreBirths};
 ghost use Rattle.fts_index.specs.Made.{IsMade};
+ghost use Rattle.fts_ilist.specs.Node.{NodesAfter};
+ghost use Rattle.fts_ilist.specs.Packing.{joined};
+ghost use Rattle.fts_entries.specs.Exact.{IdsAfter};
+ghost use Rattle.fts_index.specs.Restore.{AreRead};
 
-use crate::Index;
-use fts_ilist::Node;
+use crate::{Covered, Index, RestoreError, SyncPlan};
+use fts_ilist::{Ilist, Node, Nodes, WordNodes};
 use fts_listing::{Listing, ListingKind};
 use fts_query::Leaf;
-use fts_types::{Names, Row, RowTexts, Settings, Texts};
+use fts_types::{Names, Row, RowTexts, Settings, Texts, Word};
 use std::alloc::Global;
 use std::process::Abort;
 use std::sync::Arc;
@@ -407,5 +411,281 @@ fn the_cache_counts_occurrences(rt: HostRuntime) -> Result<(), Fail> {
     assert_eq!(rt; index.cache_size(), 1_000);
     sync(&mut index, &settings, 1)?;
     assert_eq!(rt; index.cache_size(), 0);
+    Ok(())
+}
+
+// The next batch of one document, to be made.
+fn planned(index: &mut Index, settings: &Settings) -> Result<SyncPlan, Fail>
+    requires { (last : ℕ) × (dead : List ℕ) × IsMade (rules_of settings.now) last dead index.old }
+    ensures read { IfOk result (λ plan. AreRead plan.nodes.items) }
+    ensures made { OnOk result ((last : ℕ) (dead : List ℕ)
+        → IsMade (rules_of settings.now) last dead index.old
+        → IsMade (rules_of settings.now) last dead index.new) }
+{
+    match index.plan_sync(1)? {
+        Some(plan) => Ok(plan),
+        None => Err(Fail::from("no batch")),
+    }
+}
+
+// Whether an index takes a batch; or else the batch is bad.
+fn takes(
+    index: &mut Index,
+    covered: &mut Covered,
+    numbers: (u64, u64),
+    nodes: &[WordNodes],
+) -> Result<bool, Fail>
+    requires { AreRead nodes.now }
+{
+    match index.restore(covered, numbers.0, numbers.1, nodes) {
+        Ok(()) => Ok(true),
+        Err(RestoreError::Bad) => Ok(false),
+        Err(RestoreError::NoMemory) => Err(Fail::from("no memory")),
+    }
+}
+
+// Makes the next batch of an index, and restores it in another one.
+fn restore_next(
+    made: &mut Index,
+    settings: &Settings,
+    index: &mut Index,
+    covered: &mut Covered,
+) -> Result<bool, Fail>
+    requires { (last : ℕ) × (dead : List ℕ) × IsMade (rules_of settings.now) last dead made.old }
+    ensures { OnOk result ((last : ℕ) (dead : List ℕ)
+        → IsMade (rules_of settings.now) last dead made.old
+        → IsMade (rules_of settings.now) last dead made.new) }
+{
+    let plan = planned(made, settings)?;
+    let numbers = (plan.through(), plan.synced());
+    let taken = takes(index, covered, numbers, plan.nodes())?;
+    sync(made, settings, 1)?;
+    Ok(taken)
+}
+
+// A commit with the row 1, `apple`.
+fn note_first(rt: &impl Abort, alloc: Global, covered: &mut Covered) -> Result<(), Fail> {
+    let births = one_row(rt, alloc, 0, 1, b"apple")?;
+    covered.note(&births, &[], 1)?;
+    Ok(())
+}
+
+// One with the row 2, `apple pie`, in which these die.
+fn note_second(
+    rt: &impl Abort,
+    alloc: Global,
+    covered: &mut Covered,
+    dead: &[u64],
+) -> Result<(), Fail> {
+    let births = one_row(rt, alloc, 1, 2, b"apple pie")?;
+    covered.note(&births, dead, 2)?;
+    Ok(())
+}
+
+// That of the first one.
+fn first_covered(rt: &impl Abort, alloc: Global) -> Result<Covered, Fail> {
+    let mut covered = Covered::new(alloc);
+    note_first(rt, alloc, &mut covered)?;
+    Ok(covered)
+}
+
+// That of the second one, in which the row 1 dies, and of a third in which the row 2 does.
+fn dying_covered(rt: &impl Abort, alloc: Global) -> Result<Covered, Fail> {
+    let mut covered = Covered::new(alloc);
+    note_second(rt, alloc, &mut covered, &[1])?;
+    covered.note(&[], &[2], 2)?;
+    Ok(covered)
+}
+
+// The index of the first commit, restored.
+fn restored_first(
+    rt: &impl Abort,
+    alloc: Global,
+    made: &mut Index,
+    settings: &Settings,
+) -> Result<Index, Fail>
+    requires { (last : ℕ) × (dead : List ℕ) × IsMade (rules_of settings.now) last dead made.old }
+    ensures { OnOk result ((last : ℕ) (dead : List ℕ)
+        → IsMade (rules_of settings.now) last dead made.old
+        → IsMade (rules_of settings.now) last dead made.new) }
+{
+    let mut index = Index::new(alloc);
+    let mut covered = first_covered(rt, alloc)?;
+    assert!(rt; restore_next(made, settings, &mut index, &mut covered)?);
+    assert_eq!(rt; (index.flushed(), covered.count()), (1, 0));
+    Ok(index)
+}
+
+// The index of both commits, restored.
+fn restored(rt: &impl Abort, alloc: Global) -> Result<Index, Fail> {
+    let settings = settings(alloc);
+    let mut made = with_apples(rt, alloc, &settings)?;
+    let mut index = restored_first(rt, alloc, &mut made, &settings)?;
+    let mut covered = Covered::new(alloc);
+    note_second(rt, alloc, &mut covered, &[])?;
+    assert!(rt; restore_next(&mut made, &settings, &mut index, &mut covered)?);
+    Ok(index)
+}
+
+// As with the index that was made, in `each_batch_has_its_own_nodes`.
+#[test]
+fn a_restored_index_is_the_one_that_was_made(rt: HostRuntime) -> Result<(), Fail> {
+    let index = restored(&rt, rt.alloc())?;
+    let nodes: [(&[u8], usize, usize); 2] = [(b"apple", 2, 2), (b"pie", 1, 1)];
+    lists(&rt, rt.alloc(), &index, ListingKind::IndexTable, &nodes)?;
+    finds_apples(&rt, rt.alloc(), &index)?;
+    Ok(())
+}
+
+// The batch of the first commit.
+fn first_plan(rt: &impl Abort, alloc: Global) -> Result<SyncPlan, Fail>
+    ensures { IfOk result (λ plan. AreRead plan.nodes.items) }
+{
+    let settings = settings(alloc);
+    let mut made = with_apples(rt, alloc, &settings)?;
+    planned(&mut made, &settings)
+}
+
+// Whether an index of no commits takes this batch under these numbers.
+fn takes_first(
+    rt: &impl Abort,
+    alloc: Global,
+    covered: &mut Covered,
+    numbers: (u64, u64),
+) -> Result<bool, Fail> {
+    let plan = first_plan(rt, alloc)?;
+    let mut index = Index::new(alloc);
+    takes(&mut index, covered, numbers, plan.nodes())
+}
+
+#[test]
+fn a_batch_of_other_numbers_is_refused(rt: HostRuntime) -> Result<(), Fail> {
+    let alloc = rt.alloc();
+    let mut covered = first_covered(&rt, alloc)?;
+    assert!(rt; !takes_first(&rt, alloc, &mut covered, (2, 1))?);
+    assert!(rt; !takes_first(&rt, alloc, &mut covered, (1, 2))?);
+    assert!(rt; takes_first(&rt, alloc, &mut covered, (1, 1))?);
+    // No commit is covered any more.
+    assert!(rt; !takes_first(&rt, alloc, &mut covered, (0, 0))?);
+    Ok(())
+}
+
+#[test]
+fn a_document_that_was_not_born_is_refused(rt: HostRuntime) -> Result<(), Fail> {
+    let alloc = rt.alloc();
+    let mut covered = Covered::new(alloc);
+    note_second(&rt, alloc, &mut covered, &[])?;
+    assert!(rt; !takes_first(&rt, alloc, &mut covered, (1, 2))?);
+    // Births with a gap.
+    covered.note(&later_rows(&rt, alloc)?, &[], 900)?;
+    assert!(rt; !takes_first(&rt, alloc, &mut covered, (2, 900))?);
+    Ok(())
+}
+
+// The word `apple` with these nodes.
+fn apples(alloc: Global, nodes: Vec<Node>) -> Result<Nodes, Fail>
+    requires after { NodesAfter 0 nodes.items }
+    requires ids { IdsAfter 0 (joined nodes.items) }
+    ensures { IfOk result (λ words. AreRead words.items) }
+{
+    let word = Word::copied(alloc, b"apple")?;
+    let mut words = Vec::new(alloc);
+    words.push(WordNodes::new(word, nodes))?;
+    Ok(words)
+}
+
+// The documents 1 and 2 as two nodes, which packing makes one.
+fn apart(alloc: Global) -> Result<Vec<Node>, Fail>
+    ensures after { IfOk result (λ nodes. NodesAfter 0 nodes.items) }
+    ensures ids { IfOk result (λ nodes. IdsAfter 0 (joined nodes.items)) }
+{
+    let mut first = Ilist::new(alloc);
+    first.push(1, &[7])?;
+    let mut second = Ilist::new(alloc);
+    second.push(2, &[7])?;
+    let mut nodes = Vec::new(alloc);
+    nodes.push(Node::new(first))?;
+    nodes.push(Node::new(second))?;
+    Ok(nodes)
+}
+
+// The same documents as one node.
+fn together(alloc: Global) -> Result<Vec<Node>, Fail>
+    ensures after { IfOk result (λ nodes. NodesAfter 0 nodes.items) }
+    ensures ids { IfOk result (λ nodes. IdsAfter 0 (joined nodes.items)) }
+{
+    let mut both = Ilist::new(alloc);
+    both.push(1, &[7])?;
+    both.push(2, &[7])?;
+    let mut nodes = Vec::new(alloc);
+    nodes.push(Node::new(both))?;
+    Ok(nodes)
+}
+
+// What was noted of both commits.
+fn both_covered(rt: &impl Abort, alloc: Global) -> Result<Covered, Fail> {
+    let mut covered = first_covered(rt, alloc)?;
+    note_second(rt, alloc, &mut covered, &[])?;
+    Ok(covered)
+}
+
+// Whether an index takes a batch of both commits with these nodes.
+fn takes_both(
+    rt: &impl Abort,
+    alloc: Global,
+    index: &mut Index,
+    through: u64,
+    nodes: &[WordNodes],
+) -> Result<bool, Fail>
+    requires { AreRead nodes.now }
+{
+    let mut covered = both_covered(rt, alloc)?;
+    takes(index, &mut covered, (through, 2), nodes)
+}
+
+#[test]
+fn loose_nodes_are_refused(rt: HostRuntime) -> Result<(), Fail> {
+    let alloc = rt.alloc();
+    let mut index = Index::new(alloc);
+    let loose = apples(alloc, apart(alloc)?)?;
+    assert!(rt; !takes_both(&rt, alloc, &mut index, 2, &loose)?);
+    Ok(())
+}
+
+#[test]
+fn nodes_are_taken_once(rt: HostRuntime) -> Result<(), Fail> {
+    let alloc = rt.alloc();
+    let mut index = Index::new(alloc);
+    let packed = apples(alloc, together(alloc)?)?;
+    assert!(rt; takes_both(&rt, alloc, &mut index, 2, &packed)?);
+    assert!(rt; !takes_both(&rt, alloc, &mut index, 4, &packed)?);
+    Ok(())
+}
+
+// The ids in DELETED and DELETED_CACHE are these.
+fn deleted(rt: &impl Abort, alloc: Global, index: &Index, expected: &[u64]) -> Result<(), Fail> {
+    let Listing::Ids { ids } = index.listing(&settings(alloc), ListingKind::Deleted)? else {
+        return Err(Fail::from("no ids"));
+    };
+    assert_eq!(rt; ids.as_slice(), expected);
+    Ok(())
+}
+
+// The index of both commits and a third, restored.
+fn restored_dead(rt: &impl Abort, alloc: Global) -> Result<Index, Fail> {
+    let settings = settings(alloc);
+    let mut made = with_apples(rt, alloc, &settings)?;
+    let mut index = restored_first(rt, alloc, &mut made, &settings)?;
+    let mut covered = dying_covered(rt, alloc)?;
+    let plan = planned(&mut made, &settings)?;
+    assert!(rt; takes(&mut index, &mut covered, (3, 2), plan.nodes())?);
+    Ok(index)
+}
+
+// The row 2 is not: it dies in the commits that bear it.
+#[test]
+fn a_flushed_document_that_dies_is_deleted(rt: HostRuntime) -> Result<(), Fail> {
+    let index = restored_dead(&rt, rt.alloc())?;
+    deleted(&rt, rt.alloc(), &index, &[1])?;
     Ok(())
 }

@@ -1,6 +1,6 @@
 -- The entry of a batch of rows' words can be written.
 use Rattle.std.proofs.Common.{◌≡◌, ◌≢◌, ℕ, ◌-◌, ◌<◌, ◌≤◌, ◌^◌, List, [], ◌++◌, length, length-append, take, sym, ap, subst, ◌∙◌, arith}
-use Rattle.std.specs.Prelude.{All}
+use Rattle.std.specs.Prelude.{All, fold}
 use Rattle.std.specs.List.{flat_map}
 use Rattle.std.specs.List.Sorted.{IsStrictlySortedBy}
 use Rattle.std.specs.Map.{keys_of}
@@ -10,7 +10,8 @@ use Rattle.fts_codec.proofs.Puts.{piece_short}
 use Rattle.fts_words.specs.Indexed.{Rules}
 use Rattle.fts_words.specs.Order.{byte_order}
 use Rattle.fts_types.specs.Row.{Row}
-use Rattle.fts_commits.specs.Turn.{Turn, RowsAscend, AreTurns, births_of}
+use Rattle.fts_commits.specs.Commit.{no_rows}
+use Rattle.fts_commits.specs.Turn.{Turn, RowsAscend, AreTurns, rows_by}
 use Rattle.fts_ilist.specs.Node.{Docs, NodesAfter, nodes_for}
 use Rattle.fts_ilist.specs.Packing.{packed}
 use Rattle.fts_entries.specs.Entry.{Batch, IndexState, sealed, unflushed_through}
@@ -19,7 +20,7 @@ use Rattle.fts_entries.specs.Words.{rows_postings}
 use Rattle.fts_entries.specs.Rows.{CanIndex}
 use Rattle.fts_entries.proofs.Packing.{packed_ascend, nodes_lower}
 use Rattle.fts_entries.proofs.Postings.{rows_after}
-use Rattle.fts_entries.proofs.Alive.{alive_ascend, alive_each}
+use Rattle.fts_entries.proofs.Alive.{alive_ascend, alive_among}
 use Rattle.fts_entries.proofs.Groups.{own_nodes}
 use Rattle.fts_entries.proofs.Spelled.{spelled_lower, rows_spelled, IsPackedNode, packed_each, of_word}
 use Rattle.fts_ixcodec.specs.Payload.{node_payload, nodes_payload, node_count, IsWord, IsNode, IsGroup, IsEntry, FitsRecord}
@@ -74,13 +75,13 @@ module _ (rules : Rules) (rows : List Row) (low high : ℕ) (most : rules.max �
         },
       )
 
--- so can that of the next batch of an index
+-- so can that of the next batch of an index, whose rows can be indexed
 pub next_is_entry : (rules : Rules) (limit : ℕ) (turns : List Turn) (s : IndexState) (through synced : ℕ) (batch : Batch) → IsBatch rules limit turns s through synced batch
-    → rules.max ≤ 84 → AreTurns 0 turns → All CanIndex (births_of turns) → through < 2 ^ 64 → synced < 2 ^ 64
+    → rules.max ≤ 84 → AreTurns 0 turns → All CanIndex (fold rows_by no_rows turns).list → through < 2 ^ 64 → synced < 2 ^ 64
     → FitsRecord (sealed through synced batch) → IsEntry (sealed through synced batch)
 next_is_entry rules limit turns s through synced batch is most are can =
     let covered = unflushed_through through turns s in
     let low = largest_after 0 (take s.flushed turns) in
     batch_is_entry rules (alive_of turns covered) low (largest_after low covered) most
-    (alive_ascend turns s.flushed (through - s.flushed) are) (alive_each turns s.flushed (through - s.flushed) CanIndex can)
+    (alive_ascend turns s.flushed (through - s.flushed) are) (alive_among turns s.flushed (through - s.flushed) CanIndex can)
     through synced batch is.words is.filled is.nodes

@@ -1,9 +1,11 @@
-use Rattle.std.proofs.Common.{sym, ◌∙◌, ap, length, arith}
+use Rattle.std.proofs.Common.{[], sym, ◌∙◌, ap, length, arith}
 use Rattle.std.specs.Prelude.{IsTrue}
 use Rattle.std.proofs.lemmas.Bool.{false≢true}
+use Rattle.std.proofs.lemmas.Result.{IfOk-weaker}
 use Rattle.fts_disk.specs.Moments.{Looks}
 use Rattle.fts_rowcodec.proofs.Sizes.{settings_size}
 use Rattle.fts_steps.specs.State.{IsCreated}
+use Rattle.fts_steps.proofs.Growing.{none_stand}
 use Rattle.fts_engine.proofs.Gates.{always, always_err}
 use Rattle.fts_engine.proofs.create.create_engine.Goals as goal
 
@@ -19,7 +21,10 @@ returns-in-Ok-false-clause-fresh g c =
     (λ told created. false≢true (sym c.in-Ok-false.field-0-test ∙ (c.in-Ok-false.ensures.begun told).1 created))
 
 pub returns-in-Ok-false-clause-index : goal.returns-in-Ok-false-clause-index
-returns-in-Ok-false-clause-index g c = c.make.ensures.index
+returns-in-Ok-false-clause-index g c =
+    IfOk-weaker c.make.result _ _
+    (λ made leads_to told. let is = leads_to told in (record { sound = none_stand c.args.settings.now []; log = is.0 }, is.1))
+    c.make.ensures.index
 
 pub returns-in-Ok-false-clause-stays_rows : goal.returns-in-Ok-false-clause-stays_rows
 returns-in-Ok-false-clause-stays_rows g c =

@@ -1,4 +1,4 @@
-use Rattle.std.proofs.Common.{sym, ap, ◌∙◌, arith, length}
+use Rattle.std.proofs.Common.{ap, ◌∙◌, arith}
 use Rattle.std.proofs.lemmas.List.{take_at}
 use Rattle.fts_log.specs.Framing.{inner}
 use Rattle.fts_engine.proofs.Framing.{front_within}

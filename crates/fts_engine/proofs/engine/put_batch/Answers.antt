@@ -1,4 +1,4 @@
-use Rattle.std.proofs.Common.{List, ℕ, refl, subst, take, drop, ◌-◌, length, arith}
+use Rattle.std.proofs.Common.{refl, subst, take, drop, ◌-◌, length, arith}
 use Rattle.fts_codec.specs.Writing.{Puts}
 use Rattle.fts_entries.specs.Entry.{IndexEntry}
 use Rattle.fts_ixcodec.specs.Payload.{entry_payload}

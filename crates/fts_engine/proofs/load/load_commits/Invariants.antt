@@ -5,7 +5,7 @@ use Rattle.fts_engine.proofs.load.load_commits.Given as goal
 
 abbrev pub invariant-loop-k : goal.invariant-loop-k
 invariant-loop-k g l = record {
-  loaded : IsTrue g.D.Disk.tells → (all : List (List ℕ)) → Hold all l.initial.records → IsLoaded all 1 l.initial.kept → IsLoaded all l.k l.kept;
+  loaded : IsTrue g.D.Disk.tells → (all read : List (List ℕ)) → Hold all l.initial.records → IsLoaded all l.next read l.initial.kept → IsLoaded all l.k read l.kept;
   read : IsTrue g.D.Disk.tells → AreRead l.initial.records l.records;
   same : AreAsMany l.initial.records l.records;
   calm : g.D.Disk.faults (records_device l.records) ≡ g.D.Disk.faults (records_device l.initial.records);

@@ -1,4 +1,4 @@
-use Rattle.std.proofs.Common.{List, [], ◌∷◌, ◌++◌, subst, sym, length, arith}
+use Rattle.std.proofs.Common.{[], ◌∷◌, ◌++◌, subst, sym, length, arith}
 use Rattle.std.proofs.Math.Logic.{∥∥₁_map}
 use Rattle.fts_types.specs.declared.limits.Limits.{Limits}
 use Rattle.fts_types.specs.Limits.{standard_limits}

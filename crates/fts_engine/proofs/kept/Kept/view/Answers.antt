@@ -1,6 +1,6 @@
 use Rattle.std.proofs.Common.{List, map, ap, sym, subst, ◌∙◌}
 use Rattle.fts_types.specs.Rules.{rules_of}
-use Rattle.fts_commits.specs.Commit.{Rows, replay, no_rows}
+use Rattle.fts_commits.specs.Commit.{Rows, no_rows}
 use Rattle.fts_commits.specs.Turn.{turns_from, RowsAscend}
 use Rattle.fts_rows.specs.Rows.{rows_of}
 use Rattle.fts_index.specs.Index.{Indexes}

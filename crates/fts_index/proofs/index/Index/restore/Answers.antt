@@ -1,5 +1,4 @@
-use Rattle.std.proofs.Common.{◌≡◌, ℕ, List, false, true, length, ap, sym, subst, ◌∙◌}
-use Rattle.fts_aux.specs.Tables as tables
+use Rattle.std.proofs.Common.{◌≡◌, ℕ, List, false, true, ap, sym, ◌∙◌}
 use Rattle.fts_ids.specs.Ids.{has}
 use Rattle.fts_index.specs.Restore.{can_restore}
 use Rattle.fts_index.proofs.Restoring.{comes, through_at, seals, stands_restored, cannot}

@@ -1,0 +1,76 @@
+-- Reading the records of both logs, one call after another.
+use Rattle.std.proofs.Common.{ℕ, ◌+◌, IsTrue, refl, ap, subst, inl, inr, ◌∙◌, arith}
+use Rattle.fts_disk.specs.declared.disk.Disk.{Ghosts}
+use Rattle.fts_faults.specs.Count.{Rose, CountsFault}
+use Rattle.fts_log.specs.Records.{AreRead, AreAsMany, records_device}
+use Rattle.fts_log.specs.declared.records.Records.{Records}
+use Rattle.fts_log.proofs.Reading.{read_more}
+use Rattle.fts_engine.specs.Reading.{ReadsBoth}
+use Rattle.fts_engine.proofs.Causes.{counts_as}
+
+-- a count that a fault raised, or that stands
+counts_more : (fault : Type 0) (old mid new : ℕ) → CountsFault ⊥ old mid → CountsFault fault mid new → CountsFault fault old new
+counts_more fault old mid new first then_ =
+    let calm = first.calm (λ none. none) in record {
+      rose = λ told. subst (λ (n : ℕ). Rose n new) calm (then_.rose told);
+      calm = λ none. then_.calm none ∙ calm;
+      never_falls = omega (arith, first.never_falls, then_.never_falls);
+    }
+
+many_more : {D : Type 0} {disk : Ghosts D} (old mid new : Records D disk) → AreAsMany old mid → AreAsMany mid new → AreAsMany old new
+many_more old mid new first then_ = record { count = then_.count ∙ first.count; magic = then_.magic ∙ first.magic }
+
+module _ {D E : Type 0} {disk : Ghosts D} {disk' : Ghosts E} where
+  -- nothing was read yet
+  pub both_none : (rows : Records D disk) (index : Records E disk') → (IsTrue disk.tells → AreRead rows rows) → (IsTrue disk'.tells → AreRead index index) → ReadsBoth ⊥ rows index rows index
+  both_none rows index of_rows of_index = record {
+    of_rows = of_rows;
+    of_index = of_index;
+    many_rows = record { count = refl; magic = refl };
+    many_index = record { count = refl; magic = refl };
+    faults = record { rose = λ none. absurd none; calm = λ none. refl; never_falls = omega arith };
+  }
+
+  -- a reading without a fault, and one behind it
+  pub both_more : (fault : Type 0) (rows rows_mid rows_new : Records D disk) (index index_mid index_new : Records E disk')
+      → ReadsBoth ⊥ rows index rows_mid index_mid → ReadsBoth fault rows_mid index_mid rows_new index_new → ReadsBoth fault rows index rows_new index_new
+  both_more fault rows rows_mid rows_new index index_mid index_new first then_ = record {
+    of_rows = λ told. read_more rows rows_mid rows_new (first.of_rows told) (then_.of_rows told);
+    of_index = λ told. read_more index index_mid index_new (first.of_index told) (then_.of_index told);
+    many_rows = many_more rows rows_mid rows_new first.many_rows then_.many_rows;
+    many_index = many_more index index_mid index_new first.many_index then_.many_index;
+    faults = counts_more fault _ _ _ first.faults then_.faults;
+  }
+
+  -- what tells of a fault otherwise
+  pub both_told : (fault fault' : Type 0) (rows rows_new : Records D disk) (index index_new : Records E disk') → (fault' → fault) → (fault → fault')
+      → ReadsBoth fault rows index rows_new index_new → ReadsBoth fault' rows index rows_new index_new
+  both_told fault fault' rows rows_new index index_new down up reads = record {
+    of_rows = reads.of_rows;
+    of_index = reads.of_index;
+    many_rows = reads.many_rows;
+    many_index = reads.many_index;
+    faults = counts_as fault fault' _ _ down up reads.faults;
+  }
+
+  -- a reading of the rows log alone
+  pub rows_alone : (fault : Type 0) (rows rows_new : Records D disk) (index : Records E disk') → (IsTrue disk.tells → AreRead rows rows_new) → AreAsMany rows rows_new
+      → CountsFault fault (disk.faults (records_device rows)) (disk.faults (records_device rows_new)) → (IsTrue disk'.tells → AreRead index index) → ReadsBoth fault rows index rows_new index
+  rows_alone fault rows rows_new index of_rows many faults of_index = record {
+    of_rows = of_rows;
+    of_index = of_index;
+    many_rows = many;
+    many_index = record { count = refl; magic = refl };
+    faults = counts_beside fault _ _ (disk'.faults (records_device index)) faults;
+  }
+    where
+      rose_beside : (a a' b : ℕ) → Rose a a' → Rose (a + b) (a' + b)
+      rose_beside a a' b (inl rose) = inl (omega (arith, rose))
+      rose_beside a a' b (inr last) = inr (omega (arith, last))
+
+      counts_beside : (fault : Type 0) (a a' b : ℕ) → CountsFault fault a a' → CountsFault fault (a + b) (a' + b)
+      counts_beside fault a a' b counts = record {
+        rose = λ told. rose_beside a a' b (counts.rose told);
+        calm = λ none. ap (λ (n : ℕ). n + b) (counts.calm none);
+        never_falls = omega (arith, counts.never_falls);
+      }
