@@ -72,6 +72,7 @@ wrong_damaged entries at file found is wrong = record {
   place = inr (inl (record {
     entries = entries;
     rest = is.rest;
+    fit = is.fit;
     bytes = is.bytes;
     k = wrong.k;
     within = wrong.within;
@@ -99,6 +100,7 @@ pub wrong_index : (state : State) → IsSound state → (all entries : List (Lis
 wrong_index state sound all entries at file found is found_in wrong = inr (inl (record {
   entries = entries;
   rest = found_in.rest;
+  fit = found_in.fit;
   bytes = found_in.bytes;
   k = wrong.j;
   within = wrong.within;

@@ -10,7 +10,7 @@ use Rattle.fts_rowcodec.proofs.Unique.{payload_has_one_commit, payload_has_one_s
 use Rattle.fts_entries.specs.Entry.{IndexEntry}
 use Rattle.fts_ixcodec.specs.Payload.{entry_payload, IsEntry}
 use Rattle.fts_ixcodec.proofs.Entries.{payload_has_one_entry}
-use Rattle.fts_steps.specs.State.{State, payloads, index_payloads, rows_magic, index_magic, IsDatabase}
+use Rattle.fts_steps.specs.State.{State, payloads, index_payloads, rows_magic, index_magic, IsRows, IsDatabase}
 
 -- commits with the same payloads are the same
 same_commits : (columns : ℕ) (a b : List Commit) → All (IsWritten columns) a → All (IsWritten columns) b → map commit_payload a ≡ map commit_payload b → a ≡ b
@@ -33,18 +33,21 @@ one_entries (entry ∷ a) (other ∷ b) is is' same =
     let tail : a ≡ b = one_entries a b (All-tail IsEntry entry a is) (All-tail IsEntry other b is') (ap (drop 1) same) in
     ap (λ (e : IndexEntry). e ∷ a) head ∙ ap (λ (l : List IndexEntry). other ∷ l) tail
 
--- files are the two logs of one state alone
-pub one_database : (a b : State) (rows index : List ℕ) → IsDatabase a rows index → IsDatabase b rows index → a ≡ b
-one_database a b rows index database database' =
-    let log = database.of_rows in
-    let log' = database'.of_rows in
+-- a file is the rows log of one list of commits alone, and of one settings
+pub one_rows : (a b : State) (rows : List ℕ) → IsRows a rows → IsRows b rows → (a.settings ≡ b.settings) × (a.commits ≡ b.commits)
+one_rows a b rows log log' =
     let same : payloads a ≡ payloads b = one_list rows_magic (payloads a) (payloads b) rows log.log log'.log in
     let settings : a.settings ≡ b.settings =
     payload_has_one_settings a.settings b.settings log.sound.settings log'.sound.settings (ap (λ (l : List (List ℕ)). get_or l 0 []) same) in
     let written : All (IsWritten (length b.settings.columns)) a.commits = subst (λ (s : Settings). All (IsWritten (length s.columns)) a.commits) settings log.sound.written in
-    let commits : a.commits ≡ b.commits = same_commits (length b.settings.columns) a.commits b.commits written log'.sound.written (ap (drop 1) same) in
+    (settings, same_commits (length b.settings.columns) a.commits b.commits written log'.sound.written (ap (drop 1) same))
+
+-- files are the two logs of one state alone
+pub one_database : (a b : State) (rows index : List ℕ) → IsDatabase a rows index → IsDatabase b rows index → a ≡ b
+one_database a b rows index database database' =
+    let same = one_rows a b rows database.of_rows database'.of_rows in
     let told : index_payloads a ≡ index_payloads b = one_list index_magic (index_payloads a) (index_payloads b) index database.of_index.log database'.of_index.log in
     let entries : a.entries ≡ b.entries = one_entries a.entries b.entries database.of_index.sound.written database'.of_index.sound.written told in
-    ap (λ (s : Settings). record { settings = s; commits = a.commits; entries = a.entries }) settings
-    ∙ ap (λ (c : List Commit). record { settings = b.settings; commits = c; entries = a.entries }) commits
+    ap (λ (s : Settings). record { settings = s; commits = a.commits; entries = a.entries }) same.0
+    ∙ ap (λ (c : List Commit). record { settings = b.settings; commits = c; entries = a.entries }) same.1
     ∙ ap (λ (e : List IndexEntry). record { settings = b.settings; commits = b.commits; entries = e }) entries

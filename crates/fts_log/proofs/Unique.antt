@@ -60,6 +60,26 @@ one_list magic entries others file one other =
     (closed_not_whole one.gate one.rest one.closed) (closed_not_whole other.gate other.rest other.closed)
     (behind_magic magic file entries others (one.gate ∷ one.rest) (other.gate ∷ other.rest) one.bytes other.bytes)).0
 
+-- records that stand at the head of records are the first of these
+heads : (entries others : List (List ℕ)) (r s : List ℕ) → All Fits entries → All Fits others → NotWhole r → records entries ++ r ≡ records others ++ s
+    → (more : List (List ℕ)) × (entries ≡ others ++ more)
+unfolding NotWhole
+heads entries [] r s fit other not_r e = (entries, refl)
+heads [] (q ∷ others) r s fit other not_r e =
+    absurd (not_r q (records others ++ s) (head_fits q others other) (e ∙ append_assoc (record_of q) (records others) s))
+heads (p ∷ entries) (q ∷ others) r s fit other not_r e =
+    let both = same_record p q (records entries ++ r) (records others ++ s) (head_fits p entries fit) (head_fits q others other)
+    (sym (append_assoc (record_of p) (records entries) r) ∙ e ∙ append_assoc (record_of q) (records others) s) in
+    let rest = heads entries others r s (tail_fits p entries fit) (tail_fits q others other) not_r both.1 in
+    (rest.0, ap (λ (first : List ℕ). first ∷ entries) both.0 ∙ ap (λ (more : List (List ℕ)). q ∷ more) rest.1)
+
+-- and so of a log
+pub first_ones : (magic : List ℕ) (entries others : List (List ℕ)) (file rest : List ℕ) → IsLog magic entries file → All Fits others → file ≡ front magic others ++ rest
+    → (more : List (List ℕ)) × (entries ≡ others ++ more)
+first_ones magic entries others file rest log other bytes =
+    heads entries others (log.gate ∷ log.rest) rest log.fit other (closed_not_whole log.gate log.rest log.closed)
+    (behind_magic magic file entries others (log.gate ∷ log.rest) rest log.bytes bytes)
+
 -- a log is damaged at no place
 pub not_damaged : (magic : List ℕ) (entries : List (List ℕ)) (file : List ℕ) (at : ℕ) → IsLog magic entries file → IsDamagedAt magic at file → ⊥
 unfolding NotWhole

@@ -107,8 +107,8 @@ module _ {S : Type 0} (sight : Sight S) (line : List ℕ) where
     alone = λ e. tt;
     follows = λ running stands. tt;
     stands = λ running stands. stands;
-    crash = λ e told running stands. inl refl;
-    index = λ e told running stands. inl refl;
+    crash = λ e told running sure stands. inl refl;
+    index = λ e told running sure stands. inl refl;
     settings = refl;
     limits = refl;
     faults = record { rose = λ is. absurd (calm is); calm = λ no. refl; never_falls = omega arith };
@@ -150,8 +150,8 @@ module _ {S : Type 0} (sight : Sight S) (line : List ℕ) where
       alone = λ single. (made.made.alone single, tt);
       follows = λ running stands. (made.made.may running stands, tt);
       stands = λ running stands. made.made.stands running stands;
-      crash = λ single told running stands. made.made.crash single told running stands;
-      index = made.made.index;
+      crash = λ single told running sure stands. made.made.crash single told running stands;
+      index = λ single told running sure stands. made.made.index single told running stands;
       settings = made.made.settings;
       limits = made.made.limits;
       faults = told_fault made.answer reply (sight.faults old) (sight.faults new) made.told made.made.faults;

@@ -1,5 +1,5 @@
 -- The batches of a SYNC, one behind another.
-use Rattle.std.proofs.Common.{◌≡◌, ℕ, ◌+◌, ◌<◌, ◌≤◌, List, [], ◌∷◌, ◌++◌, length, refl, ap, subst, sym, ◌∙◌, inl, inr, ⊎_elim, arith}
+use Rattle.std.proofs.Common.{◌≡◌, ℕ, ◌+◌, ◌<◌, ◌≤◌, List, [], ◌∷◌, ◌++◌, length, refl, ap, subst, ◌∙◌, sym, inl, arith}
 use Rattle.std.proofs.lemmas.Bool.{false≢true}
 use Rattle.std.proofs.lemmas.Bool.Decides.{nat_tests}
 use Rattle.std.proofs.lemmas.List.{length-append}
@@ -7,133 +7,20 @@ use Rattle.std.specs.Prelude.{Bool, true, false, ◌&&◌, nat_lt, if◌then◌e
 use Rattle.fts_faults.specs.Count.{CountsFault}
 use Rattle.fts_types.specs.declared.settings.Settings.{Settings}
 use Rattle.fts_types.specs.declared.limits.Limits.{Limits}
-use Rattle.fts_commits.specs.Commit.{Commit}
-use Rattle.fts_disk.specs.Device.{Files}
-use Rattle.fts_disk.specs.Crash.{Images}
-use Rattle.fts_disk.specs.Moments.{LeavesOnly}
-use Rattle.fts_disk.specs.declared.disk.Disk.{Ghosts}
-use Rattle.fts_disk.proofs.Runs.{leaves_weaker}
 use Rattle.fts_schema.specs.declared.reply.Reply.{Reply}
 use Rattle.fts_schema.specs.declared.reply.Reply.TheVariants.{Synced, DiskFault}
-use Rattle.fts_steps.specs.State.{State, with_commits, IsRows}
-use Rattle.fts_steps.specs.Running.{Running, Entry, grown}
-use Rattle.fts_steps.specs.Crash.{IsBetween, HoldsIndex}
-use Rattle.fts_steps.specs.Step.{Ask, to_sync, Answer, committed, refused, full, flushed, all_flushed, viewed, found, listed, measured, disk_fault, stopped, no_memory}
-use Rattle.fts_steps.specs.Step.{is_disk_fault, Below, Sight, Leaves, Steps, Call, after, after_call, after_all, Follows, AreAlone}
+use Rattle.fts_steps.specs.Running.{Running, IsSure}
+use Rattle.fts_steps.specs.Step.{to_sync, Answer, flushed}
+use Rattle.fts_steps.specs.Step.{is_disk_fault, Sight, Steps, Call, after_call, after_all, Follows}
 use Rattle.fts_steps.specs.Answers.{sync_answer_of}
 use Rattle.fts_steps.specs.declared.sync.SyncError.{SyncError}
 use Rattle.fts_steps.specs.declared.sync.SyncError.TheVariants as sync
+use Rattle.fts_steps.proofs.Adding.{Adds, adds, grown_call, grows, sure_call, between_more, index_more}
 use Rattle.fts_sessions.specs.Request.{syncs}
-use Rattle.fts_sessions.specs.Conversation.{asks, ends, next, sync_next, last_answer, Converses, reply_to}
+use Rattle.fts_sessions.specs.Conversation.{asks, ends, next, sync_next, last_answer, reply_to}
 use Rattle.fts_sessions.specs.Execute.{GoesOn}
 use Rattle.fts_sessions.proofs.Executing.{told_fault}
 use Rattle.fts_sessions.proofs.Naming.{and_false}
-
--- ---- what a SYNC asks
-
-if_asks : (goes : Bool) (through : ℕ) (ask : Ask) → (if goes then asks to_sync else ends (Synced through)) ≡ asks ask → ask ≡ to_sync
-if_asks true through ask is = cc
-if_asks false through ask is = absurd cc
-
-answer_asks : (target count : ℕ) (answer : Answer) (ask : Ask) → sync_next target count answer ≡ asks ask → ask ≡ to_sync
-answer_asks target count (flushed through commits) ask is = if_asks (nat_lt through target && nat_lt count target) through ask is
-answer_asks target count (committed number) ask is = absurd cc
-answer_asks target count (refused why) ask is = absurd cc
-answer_asks target count (full end_) ask is = absurd cc
-answer_asks target count (all_flushed commits) ask is = absurd cc
-answer_asks target count (viewed view) ask is = absurd cc
-answer_asks target count (found number docs) ask is = absurd cc
-answer_asks target count (listed number listing) ask is = absurd cc
-answer_asks target count (measured size) ask is = absurd cc
-answer_asks target count (disk_fault faults) ask is = absurd cc
-answer_asks target count (stopped faults) ask is = absurd cc
-answer_asks target count no_memory ask is = absurd cc
-
-asks_sync : (settings : Settings) (answers : List Answer) (ask : Ask) → next settings syncs answers ≡ asks ask → ask ≡ to_sync
-asks_sync settings [] ask is = cc
-asks_sync settings (answer ∷ answers) ask is = answer_asks _ _ (last_answer answer answers) ask is
-
--- ---- a batch changes neither commits nor what is in doubt
-
--- two engines have the same commits, on the logs and in doubt
-record AreAlike (old new : Running) : Type 0 where
-  state : new.state ≡ old.state
-  doubt : new.doubt ≡ old.doubt
-
-alike : (running : Running) → AreAlike running running
-alike running = record { state = refl; doubt = refl }
-
-alike_more : (old mid new : Running) → AreAlike old mid → AreAlike mid new → AreAlike old new
-alike_more old mid new first later = record { state = later.state ∙ first.state; doubt = later.doubt ∙ first.doubt }
-
-batch_alike : (running : Running) (answer : Answer) → AreAlike running (after running to_sync answer)
-batch_alike running (flushed through commits) = record { state = refl; doubt = refl }
-batch_alike running (committed number) = alike running
-batch_alike running (refused why) = alike running
-batch_alike running (full end_) = alike running
-batch_alike running (all_flushed commits) = alike running
-batch_alike running (viewed view) = alike running
-batch_alike running (found number docs) = alike running
-batch_alike running (listed number listing) = alike running
-batch_alike running (measured size) = alike running
-batch_alike running (disk_fault faults) = alike running
-batch_alike running (stopped faults) = alike running
-batch_alike running no_memory = alike running
-
-call_alike : (running : Running) (more : List Entry) (ask : Ask) (answer : Answer) → more ≡ [] → ask ≡ to_sync → AreAlike running (after (grown running more) ask answer)
-call_alike running more ask answer alone is =
-    subst (λ (entries : List Entry). AreAlike running (after (grown running entries) ask answer)) (sym alone)
-    (subst (λ (asked : Ask). AreAlike running (after running asked answer)) (sym is) (batch_alike running answer))
-
-calls_alike : (settings : Settings) (running : Running) (answers : List Answer) (calls : List Call) (reply : Reply) → Converses settings syncs answers calls reply → AreAlone calls
-    → AreAlike running (after_all running calls)
-calls_alike settings running answers [] reply says alone = alike running
-calls_alike settings running answers (call ∷ calls) reply says alone =
-    alike_more running (after_call running call) (after_all running (call ∷ calls))
-    (call_alike running call.more call.ask call.answer alone.0 (asks_sync settings answers call.ask says.0))
-    (calls_alike settings (after_call running call) (answers ++ call.answer ∷ []) calls reply says.1 alone.1)
-
--- ---- what a crash leaves
-
--- one run behind another
-pub joined : {D : Type 0} (disk : Ghosts D) (old mid new : D) (P : Images) → LeavesOnly disk old mid P → LeavesOnly disk mid new P → LeavesOnly disk old new P
-joined disk old mid new P first then_ = record {
-  later = let a = first.later in let b = then_.later in omega arith;
-  each = λ c left. ⊎_elim (λ past. first.each c past) (λ held. held) (then_.before (disk.moment old) c first.later left);
-  before = λ t c le left. ⊎_elim (λ past. first.before t c le past) inr (then_.before t c (let a = first.later in omega (arith, le, a)) left);
-}
-
--- what is left of one run and of one behind it
-pub leaves_more : {S : Type 0} (below : Below S) (before mid new : S) (P Q R : Images) → ((c : Files) → P c → R c) → ((c : Files) → Q c → R c)
-    → Leaves below P before mid → Leaves below Q mid new → Leaves below R before new
-leaves_more below before mid new P Q R sooner later (inl same) (inl again) = inl (again ∙ same)
-leaves_more below before mid new P Q R sooner later (inl same) (inr left) =
-    inr (subst (λ (d : below.Device). LeavesOnly below.disk d (below.device new) R) same
-    (leaves_weaker below.disk (below.device mid) (below.device new) Q R later left))
-leaves_more below before mid new P Q R sooner later (inr left) (inl same) =
-    inr (subst (λ (d : below.Device). LeavesOnly below.disk (below.device before) d R) (sym same)
-    (leaves_weaker below.disk (below.device before) (below.device mid) P R sooner left))
-leaves_more below before mid new P Q R sooner later (inr first) (inr then_) =
-    inr (joined below.disk (below.device before) (below.device mid) (below.device new) R
-    (leaves_weaker below.disk (below.device before) (below.device mid) P R sooner first)
-    (leaves_weaker below.disk (below.device mid) (below.device new) Q R later then_))
-
--- what is between a start and a middle that is like the end, and between a middle that is like the start and the end
-earlier : (start mid now : Running) (c : Files) → AreAlike mid now → IsBetween start mid c → IsBetween start now c
-earlier start mid now c same between = record {
-  front = between.front;
-  rest = between.rest;
-  added = ap (λ (state : State). state.commits ++ now.doubt) same.state ∙ ap (λ (doubt : List Commit). mid.state.commits ++ doubt) same.doubt ∙ between.added;
-  rows = between.rows;
-}
-
-behind : (start mid now : Running) (c : Files) → AreAlike start mid → IsBetween mid now c → IsBetween start now c
-behind start mid now c same between = record {
-  front = between.front;
-  rest = between.rest;
-  added = between.added ∙ ap (λ (state : State). state.commits ++ (between.front ++ between.rest)) same.state;
-  rows = subst (λ (state : State). IsRows (with_commits state between.front) (c 0)) same.state between.rows;
-}
 
 -- ---- the steps of a SYNC
 
@@ -146,8 +33,8 @@ module _ {S : Type 0} (sight : Sight S) (settings : Settings) (answers : List An
     alone = λ single. tt;
     follows = λ running stands. tt;
     stands = λ running stands. stands;
-    crash = λ single told running stands. inl refl;
-    index = λ single told running stands. inl refl;
+    crash = λ single told running sure stands. inl refl;
+    index = λ single told running sure stands. inl refl;
     settings = refl;
     limits = refl;
     faults = record { rose = λ is. absurd (calm is); calm = λ no. refl; never_falls = omega arith };
@@ -159,11 +46,11 @@ module _ {S : Type 0} (sight : Sight S) (settings : Settings) (answers : List An
 
     -- one batch more, and what is behind it
     module _ (reply : Reply) (new : S) (rest : GoesOn sight settings syncs (answers ++ answer ∷ []) mid reply new) where
-      same_call : sight.is_shared ≡ false → (running : Running) → AreAlike running (after_call running call)
-      same_call single running = call_alike running step.more to_sync answer (step.alone single) refl
-
-      same_rest : sight.is_shared ≡ false → (running : Running) → AreAlike running (after_all running rest.calls)
-      same_rest single running = calls_alike settings running (answers ++ answer ∷ []) rest.calls reply rest.says (rest.alone single)
+      -- where nothing was in doubt, what is behind the batch is added behind what it added
+      added : sight.is_shared ≡ false → (running : Running) → IsSure running → sight.stands running old → Adds (after_call running call) (after_all running (call ∷ rest.calls))
+      added single running sure stands =
+          adds (sight.limits mid) (after_call running call) rest.calls (sure_call running call sure) (rest.alone single)
+          (rest.follows (after_call running call) (step.stands running stands))
 
       pub behind_batch : is_disk_fault answer ≡ false → GoesOn sight settings syncs answers old reply new
       behind_batch calm = record {
@@ -176,16 +63,15 @@ module _ {S : Type 0} (sight : Sight S) (settings : Settings) (answers : List An
               (rest.follows (after_call running call) (step.stands running stands)),
         );
         stands = λ running stands. rest.stands (after_call running call) (step.stands running stands);
-        crash = λ single told running stands.
-            leaves_more sight.rows old mid new (IsBetween running (after_call running call)) (IsBetween (after_call running call) (after_all running (call ∷ rest.calls)))
-            (IsBetween running (after_all running (call ∷ rest.calls)))
-            (λ c. earlier running (after_call running call) (after_all running (call ∷ rest.calls)) c (same_rest single (after_call running call)))
-            (λ c. behind running (after_call running call) (after_all running (call ∷ rest.calls)) c (same_call single running))
-            (step.crash single told running stands) (rest.crash single told (after_call running call) (step.stands running stands));
-        index = λ single told running stands.
-            leaves_more sight.index old mid new (HoldsIndex running.state) (HoldsIndex (after_call running call).state) (HoldsIndex running.state) (λ c held. held)
-            (λ c held. subst (λ (state : State). HoldsIndex state c) (same_call single running).state held)
-            (step.index single told running stands) (rest.index single told (after_call running call) (step.stands running stands));
+        crash = λ single told running sure stands.
+            between_more sight old mid new running (after_call running call) (after_all running (call ∷ rest.calls)) (grown_call running call) (added single running sure stands)
+            (step.crash single told running stands)
+            (rest.crash single told (after_call running call) (sure_call running call sure) (step.stands running stands));
+        index = λ single told running sure stands.
+            index_more sight old mid new running (after_call running call) (after_all running (call ∷ rest.calls)) (grown_call running call)
+            (grows (after_call running call) rest.calls) (added single running sure stands)
+            (step.index single told running stands)
+            (rest.index single told (after_call running call) (sure_call running call sure) (step.stands running stands));
         settings = rest.settings ∙ step.settings;
         limits = rest.limits ∙ step.limits;
         faults = subst (λ (count : ℕ). CountsFault (reply ≡ DiskFault) count (sight.faults new))
@@ -200,8 +86,8 @@ module _ {S : Type 0} (sight : Sight S) (settings : Settings) (answers : List An
       alone = λ single. (step.alone single, tt);
       follows = λ running stands. (step.may running stands, tt);
       stands = λ running stands. step.stands running stands;
-      crash = λ single told running stands. step.crash single told running stands;
-      index = step.index;
+      crash = λ single told running sure stands. step.crash single told running stands;
+      index = λ single told running sure stands. step.index single told running stands;
       settings = step.settings;
       limits = step.limits;
       faults = told_fault answer reply (sight.faults old) (sight.faults mid) told step.faults;
@@ -221,6 +107,8 @@ ended settings first target rest answer is =
 
 pub refusal_ends : (error : SyncError) (goal count : ℕ) → sync_next goal count (sync_answer_of (Err error)) ≡ ends (reply_to (sync_answer_of (Err error)))
 refusal_ends sync.NoMemory goal count = refl
+refusal_ends (sync.LogFull end_) goal count = refl
+refusal_ends (sync.DiskFault faults) goal count = refl
 refusal_ends (sync.Stopped faults) goal count = refl
 
 -- behind the first batch so many answers were given together, the last of which flushed through so many commits

@@ -18,7 +18,7 @@ use Rattle.fts_sessions.specs.Found.{IsFoundIn, TellsFound}
 use Rattle.fts_sessions.specs.Execute.{Makes}
 use Rattle.fts_eval.proofs.Answering.{ascend_from_increasing}
 use Rattle.fts_steps.specs.State.{State}
-use Rattle.fts_steps.specs.Running.{Running, What, made, batched, failed, Entry, with_what, grown}
+use Rattle.fts_steps.specs.Running.{Running, What, made, batched, failed, loosened, Entry, with_what, grown}
 use Rattle.fts_steps.specs.Step.{Answer, viewed, found, no_memory, is_disk_fault, to_view, to_find, state_view, MayAnswer, Sight, Steps}
 
 -- what was added keeps the settings
@@ -26,6 +26,7 @@ with_settings : (running : Running) (what : What) → (with_what running what).s
 with_settings running (made commit) = refl
 with_settings running batched = refl
 with_settings running (failed faults doubt) = refl
+with_settings running (loosened faults) = refl
 
 grown_settings : (running : Running) (entries : List Entry) → (grown running entries).state.settings ≡ running.state.settings
 grown_settings running [] = refl

@@ -11,7 +11,8 @@ use Rattle.fts_sql.proofs.Laws.{one_statement}
 use Rattle.fts_sql.proofs.Single.{one_fault, statement_or_fault, blank_or_statement}
 use Rattle.fts_listing.specs.declared.listing.Listing.{Listing}
 use Rattle.fts_listing.proofs.One.{listed_one}
-use Rattle.fts_steps.specs.Running.{Running, Entry, grown, turns_of}
+use Rattle.fts_steps.specs.State.{turns_of}
+use Rattle.fts_steps.specs.Running.{Running, Entry, grown}
 use Rattle.fts_steps.specs.Step.{Ask, to_commit, to_sync, to_view, to_find, to_list, to_measure, Answer, Call, MayAnswer, Lists, Follows, AreAlone, plain_answer, after_call}
 use Rattle.fts_steps.specs.Step.{committed, refused, full, flushed, all_flushed, viewed, found, listed, measured, disk_fault, stopped, no_memory}
 use Rattle.fts_sessions.specs.Query.{Search, IsSearch}

@@ -4,8 +4,8 @@ use Rattle.fts_io.specs.Text.{Line}
 use Rattle.fts_types.specs.declared.settings.Settings.{Settings}
 use Rattle.fts_schema.specs.declared.reply.Reply.{Reply}
 use Rattle.fts_schema.specs.declared.reply.Reply.TheVariants.{NoMemory, DiskFault}
-use Rattle.fts_steps.specs.Running.{Running}
-use Rattle.fts_steps.specs.Crash.{IsBetween, HoldsIndex}
+use Rattle.fts_steps.specs.Running.{Running, IsSure}
+use Rattle.fts_steps.specs.Crash.{IsBetween, IsIndexBetween}
 use Rattle.fts_steps.specs.Step.{Ask, Answer, Call, Sight, Leaves, Steps, Follows, AreAlone, after_all}
 use Rattle.fts_sessions.specs.Query.{Search, IsSearch}
 use Rattle.fts_sessions.specs.Request.{Request, IsRequest, searches}
@@ -18,8 +18,9 @@ Says settings line calls reply =
     ⊎ ((calls ≡ []) × (reply ≡ NoMemory))
 
 -- steps are made, and then a reply is given, of which `Told` says what they are. On each engine for which the steps
--- stood they answered as they may, and stand then for what these made of it; where there are no others, a crash at any
--- moment leaves what was before them or what is behind them, and the index log as it was
+-- stood they answered as they may, and stand then for what these made of it; where there are no others, and nothing is
+-- in doubt that did not stop it, a crash at any moment leaves of each log what was before them and a front of what they
+-- added
 pub record Proceeds {S : Type 0} (sight : Sight S) (Told : List Call → Reply → Type 0) (old : S) (reply : Reply)
     (new : S) : Type 0 where
   pub calls : List Call
@@ -27,10 +28,10 @@ pub record Proceeds {S : Type 0} (sight : Sight S) (Told : List Call → Reply �
   pub alone : sight.is_shared ≡ false → AreAlone calls
   pub follows : (running : Running) → sight.stands running old → Follows (sight.limits old) running calls
   pub stands : (running : Running) → sight.stands running old → sight.stands (after_all running calls) new
-  pub crash : sight.is_shared ≡ false → IsTrue sight.rows.disk.tells → (running : Running)
+  pub crash : sight.is_shared ≡ false → IsTrue sight.rows.disk.tells → (running : Running) → IsSure running
       → sight.stands running old → Leaves sight.rows (IsBetween running (after_all running calls)) old new
-  pub index : sight.is_shared ≡ false → IsTrue sight.index.disk.tells → (running : Running)
-      → sight.stands running old → Leaves sight.index (HoldsIndex running.state) old new
+  pub index : sight.is_shared ≡ false → IsTrue sight.index.disk.tells → (running : Running) → IsSure running
+      → sight.stands running old → Leaves sight.index (IsIndexBetween running (after_all running calls)) old new
   pub settings : sight.settings new ≡ sight.settings old
   pub limits : sight.limits new ≡ sight.limits old
   pub faults : CountsFault (reply ≡ DiskFault) (sight.faults old) (sight.faults new)

@@ -53,6 +53,8 @@ fn not_synced(error: SyncError) -> Reply
 {
     match error {
         SyncError::NoMemory => Reply::NoMemory,
+        SyncError::LogFull { end } => Reply::LogFull { end },
+        SyncError::DiskFault { .. } => Reply::DiskFault,
         SyncError::Stopped { faults } => Reply::Stopped { faults },
     }
 }

@@ -26,8 +26,8 @@ pub trait EngineSteps {
         ensures { Steps sight (to_commit changes.now) (commit_answer_of result)
             self.old self.new };
 
-    /// Puts the words of the next commits that are not flushed into the tables of the index, if
-    /// there are such commits.
+    /// Makes the next batch of the index, if there are commits that are not flushed: its entry is
+    /// written to the index log, and their words go into the tables.
     fn sync_batch(&mut self) -> Result<SyncBatch, SyncError>
         ensures { Steps sight to_sync (sync_answer_of result) self.old self.new };
 

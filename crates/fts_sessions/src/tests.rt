@@ -1,7 +1,7 @@
 ghost use Rattle.std.specs.Prelude.{IfOk};
 ghost use Rattle.fts_steps.specs.State.{State};
 ghost use Rattle.fts_steps.specs.Running.{opened};
-ghost use Rattle.fts_engine.specs.Stands.{Stands};
+ghost use Rattle.fts_engine.specs.Stands.{Holds};
 
 use crate::insert::insert_of;
 use crate::names::{
@@ -12,7 +12,7 @@ use crate::update::update_of;
 use crate::view::view_of_schema;
 use crate::{Direct, Session};
 use fts_commits::Change;
-use fts_disk::MemDisk;
+use fts_disk::{Kind, MemDisk};
 use fts_engine::{Engine, create_engine, open_engine};
 use fts_io::OpenGate;
 use fts_listing::ListingKind;
@@ -269,15 +269,16 @@ fn settings_of(alloc: Global, columns: &[&str]) -> Result<Settings, AllocError> 
     })
 }
 
-/// A database without commits of a table with a title and a body.
-fn created(alloc: Global) -> Result<(MemDisk, MemDisk), AllocError> {
+/// A database without commits of a table with a title and a body, whose index device fails at these
+/// calls.
+fn created(alloc: Global, fails: Vec<(Kind, u64)>) -> Result<(MemDisk, MemDisk), AllocError> {
     let Ok(settings) = settings_of(alloc, &COLUMNS) else {
         return Err(AllocError);
     };
     let Ok(rows) = MemDisk::from_files(alloc, Vec::new(alloc), Vec::new(alloc)) else {
         return Err(AllocError);
     };
-    let Ok(index) = MemDisk::from_files(alloc, Vec::new(alloc), Vec::new(alloc)) else {
+    let Ok(index) = MemDisk::from_files(alloc, Vec::new(alloc), fails) else {
         return Err(AllocError);
     };
     if settings.check().is_err() {
@@ -291,9 +292,9 @@ fn created(alloc: Global) -> Result<(MemDisk, MemDisk), AllocError> {
 
 /// The engine over it.
 fn engine(alloc: Global) -> Result<Engine<MemDisk, MemDisk>, AllocError>
-    ensures { IfOk result (λ engine. (state : State) × Stands (opened state) engine) }
+    ensures { IfOk result (λ engine. (state : State) × Holds (opened state) engine) }
 {
-    let (rows, index) = created(alloc)?;
+    let (rows, index) = created(alloc, Vec::new(alloc))?;
     match open_engine(alloc, rows, index, Limits::standard()) {
         Ok(engine) => Ok(engine),
         Err(_) => Err(AllocError),
@@ -588,6 +589,85 @@ fn a_sync_flushes_what_is_cached(rt: HostRuntime) -> Result<(), Fail> {
     for (line, want) in FLUSHING {
         let reply = told_by(rt.alloc(), &mut steps, line)?;
         assert!(rt; reply.as_slice().ends_with(want.as_bytes()), "of {line}");
+    }
+    Ok(())
+}
+
+/// An INSERT behind which the rows log ends at 79, and its batch the index log at 81.
+const FOUR_WORDS: &str = "INSERT INTO docs (id, title, body) VALUES (1, '', 'pie plum pear fig')";
+
+/// The steps of a new database, whose logs have at most so many bytes, and whose index device fails
+/// at these calls.
+fn new_steps(
+    alloc: Global,
+    log_bytes: u64,
+    fails: Vec<(Kind, u64)>,
+) -> Result<Direct<MemDisk, MemDisk>, AllocError> {
+    let (rows, index) = created(alloc, fails)?;
+    let limits = Limits {
+        log_bytes: log_bytes.min(4_294_967_296),
+        ..Limits::standard()
+    };
+    match open_engine(alloc, rows, index, limits) {
+        Ok(engine) => Ok(Direct { engine }),
+        Err(_) => Err(AllocError),
+    }
+}
+
+/// The replies to this INSERT, to a SYNC and to one more, one behind another.
+fn told_syncs(alloc: Global, steps: &mut Direct<MemDisk, MemDisk>) -> Result<Vec<u8>, AllocError> {
+    let mut all = told_by(alloc, steps, FOUR_WORDS)?;
+    all.extend_from_slice(&told_by(alloc, steps, "SYNC")?)?;
+    all.extend_from_slice(&told_by(alloc, steps, "SYNC")?)?;
+    Ok(all)
+}
+
+/// Those of such a database.
+fn synced_twice(
+    alloc: Global,
+    log_bytes: u64,
+    fails: Vec<(Kind, u64)>,
+) -> Result<Vec<u8>, AllocError> {
+    let mut steps = new_steps(alloc, log_bytes, fails)?;
+    told_syncs(alloc, &mut steps)
+}
+
+/// The most bytes of a log, and the replies.
+const FULL: [(u64, &str); 2] = [
+    (
+        80,
+        "OK commit 1\nERROR log full at 81\nERROR log full at 81\n",
+    ),
+    (81, "OK commit 1\nOK sync as of 1\nOK sync as of 1\n"),
+];
+
+#[test]
+fn a_full_index_log_refuses_a_sync(rt: HostRuntime) -> Result<(), Fail> {
+    let alloc = rt.alloc();
+    for (log_bytes, want) in FULL {
+        let told = synced_twice(alloc, log_bytes, Vec::new(alloc))?;
+        assert_eq!(rt; told.as_slice(), want.as_bytes(), "of {log_bytes}");
+    }
+    Ok(())
+}
+
+const FAULT: &str = "OK commit 1\nERROR disk fault\nERROR stopped after 1 disk faults\n";
+
+/// Calls of the index device by which a batch fails: its record and its gate are written, each with
+/// a sync. The creation has written once, and synced once; the opening synced.
+const FAULTS: [(Kind, u64); 4] = [
+    (Kind::Write, 2),
+    (Kind::Sync, 3),
+    (Kind::Write, 3),
+    (Kind::Sync, 4),
+];
+
+#[test]
+fn a_fault_in_a_sync_stops_the_engine(rt: HostRuntime) -> Result<(), Fail> {
+    let alloc = rt.alloc();
+    for fails in FAULTS {
+        let told = synced_twice(alloc, 4_096, vec![in alloc; fails]?)?;
+        assert_eq!(rt; told.as_slice(), FAULT.as_bytes(), "at {fails:?}");
     }
     Ok(())
 }

@@ -1,1 +1,4 @@
 pub mod Growing
+pub mod Leaving
+pub mod Adding
+pub mod Faults

@@ -1,7 +1,7 @@
 -- Where the bytes of the two logs are at fault.
-use Rattle.std.specs.Prelude.{◌≡◌, ◌≢◌, ◌⊎◌, ℕ, ◌+◌, ◌<◌, List, [], ◌++◌, length, map, take}
+use Rattle.std.specs.Prelude.{◌≡◌, ◌≢◌, ◌⊎◌, ℕ, ◌+◌, ◌<◌, List, [], ◌++◌, length, map, take, All}
 use Rattle.fts_entries.specs.Entry.{IndexEntry}
-use Rattle.fts_log.specs.Record.{IsBrokenBehind, front, gate_at}
+use Rattle.fts_log.specs.Record.{Fits, IsBrokenBehind, front, gate_at}
 use Rattle.fts_ixcodec.specs.Payload.{entry_payload}
 use Rattle.fts_steps.specs.State.{State, payloads, rows_magic, index_magic, IsSound, HasEntries}
 
@@ -9,6 +9,7 @@ use Rattle.fts_steps.specs.State.{State, payloads, rows_magic, index_magic, IsSo
 pub record IsWrongAt (magic : List ℕ) (Are : List (List ℕ) → Type 0) (at : ℕ) (file : List ℕ) : Type 0 where
   pub entries : List (List ℕ)
   pub rest : List ℕ
+  pub fit : All Fits entries
   pub bytes : file ≡ front magic entries ++ rest
   pub k : ℕ
   pub within : k < length entries

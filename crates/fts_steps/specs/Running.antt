@@ -1,5 +1,5 @@
 -- An engine as its steps see it, and what they add to it.
-use Rattle.std.specs.Prelude.{ℕ, List, [], ◌∷◌, length, Option, Some, None}
+use Rattle.std.specs.Prelude.{◌≡◌, ℕ, List, [], ◌∷◌, Option, Some, None}
 use Rattle.fts_types.specs.Rules.{rules_of}
 use Rattle.fts_commits.specs.Commit.{Commit}
 use Rattle.fts_commits.specs.Turn.{births_of}
@@ -20,6 +20,10 @@ pub record Running : Type 0 where
 -- an engine that was just opened
 abbrev pub opened : State → Running
 opened state = record { state = state; index = index_state state; stopped = None; doubt = []; loose = [] }
+
+-- where no fault stopped it, nothing is in doubt
+abbrev pub IsSure : Running → Type 0
+IsSure running = running.stopped ≡ None → (running.doubt ≡ []) × (running.loose ≡ [])
 
 -- the state of the index behind its next batch, through which commit that flushes, and its entry
 abbrev pub next_index : State → IndexState → IndexState

@@ -6,8 +6,9 @@ use Rattle.fts_disk.specs.Moments.{LeavesAsBefore}
 use Rattle.fts_engine.specs.Stands.{OnRows, OnIndex}
 use Rattle.fts_faults.specs.Count.{CountsFault}
 use Rattle.fts_io.specs.Text.{Line}
+use Rattle.fts_steps.specs.State.{IsRight}
 use Rattle.fts_steps.specs.Running.{Running}
-use Rattle.fts_steps.specs.Crash.{IsBetween, HoldsIndex}
+use Rattle.fts_steps.specs.Crash.{IsBetween, IsIndexBetween}
 use Rattle.fts_steps.specs.Step.{Sight, Follows, after_all}
 use Rattle.fts_top.specs.declared.ends.Health.{Health}
 use Rattle.fts_top.specs.declared.ends.Health.TheVariants.{Failed}
@@ -25,7 +26,7 @@ pub record Looked {S : Type 0} (sight : Sight S) (first : Devices sight.rows.Dev
 
 module _ {S : Type 0} (sight : Sight S) (single : sight.is_shared ≡ false) (settings : Settings) (limits : Limits)
     (held : (running : Running) (s : S) → sight.stands running s
-    → OnRows sight.rows.disk running (sight.rows.device s) × OnIndex sight.index.disk running (sight.index.device s))
+    → IsRight running.state × OnRows sight.rows.disk running (sight.rows.device s) × OnIndex sight.index.disk running (sight.index.device s))
     (start : Running) (script : List Line) (before now : Sides S)
     (first : Devices sight.rows.Device sight.index.Device) (looked : Looked sight first before.steps)
     (same_settings : sight.settings before.steps ≡ settings) (same_limits : sight.limits before.steps ≡ limits)
@@ -66,9 +67,9 @@ module _ {S : Type 0} (sight : Sight S) (single : sight.is_shared ≡ false) (se
     crash = λ e told sure.
         inr (crash_behind sight.rows.disk first.rows (sight.rows.device before.steps) (sight.rows.device now.steps) (IsBetween start (after_all start front.calls)) looked.rows
         (front.crash single told sure));
-    index = λ e told.
-        inr (crash_behind sight.index.disk first.index (sight.index.device before.steps) (sight.index.device now.steps) (HoldsIndex start.state) looked.index
-        (front.index single told));
+    index = λ e told sure.
+        inr (crash_behind sight.index.disk first.index (sight.index.device before.steps) (sight.index.device now.steps) (IsIndexBetween start (after_all start front.calls))
+        looked.index (front.index single told sure));
   }
 
   abbrev reads_on : (met : Health) → Reads sight met start script before now → Reads (device_sight both settings limits) met start script begun done

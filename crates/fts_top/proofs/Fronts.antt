@@ -18,7 +18,8 @@ use Rattle.fts_top.specs.Batches.{MakesSteps, MakesBatches}
 use Rattle.fts_top.specs.Health.{health_of, health_of_steps, worse, end_of, read_end}
 use Rattle.fts_top.specs.Talk.{AreBatches, most_behind, committed_by}
 use Rattle.fts_top.specs.Run.{MayCrash, MayCrashIndex, Sides, Stays, Front, IsWhole, IsCut, Reads, IsDone, OneLine, Outcome}
-use Rattle.fts_top.proofs.Crashing.{grows, stays_sure, adds, crash_more, index_more}
+use Rattle.fts_steps.proofs.Adding.{grows, stays_sure, adds}
+use Rattle.fts_top.proofs.Crashing.{crash_more, index_crash_more}
 use Rattle.fts_top.proofs.Health.{failed_before, failed_now, counted_more, counted_reply, worse_sound}
 use Rattle.fts_top.proofs.Making.{no_steps, steps_of, both}
 use Rattle.fts_top.proofs.Talking.{after_more, follows_more, alone_more, talks_more, texts_more, line_still, steps_still}
@@ -43,7 +44,7 @@ module _ {S : Type 0} (sight : Sight S) (start : Running) (script : List Line) w
     going = λ e calm. refl;
     counted = record { rose = λ is. absurd cc; calm = λ no. refl; never_falls = omega arith };
     crash = λ e told sure. inl refl;
-    index = λ e told. inl refl;
+    index = λ e told sure. inl refl;
   }
 
   -- the same front, seen by equal lines, and by what holds as much
@@ -67,8 +68,8 @@ module _ {S : Type 0} (sight : Sight S) (start : Running) (script : List Line) w
     counted = subst (λ (s : S). CountsFault (front.met ≡ Failed) (sight.faults before.steps) (sight.faults s)) (sym stays.unmade) front.counted;
     crash = λ single told sure.
         subst (λ (s : S). Leaves sight.rows (MayCrash sight start (after_all start front.calls) before.steps) before.steps s) (sym stays.unmade) (front.crash single told sure);
-    index = λ single told.
-        subst (λ (s : S). Leaves sight.index (MayCrashIndex sight start before.steps) before.steps s) (sym stays.unmade) (front.index single told);
+    index = λ single told sure.
+        subst (λ (s : S). Leaves sight.index (MayCrashIndex sight start (after_all start front.calls) before.steps) before.steps s) (sym stays.unmade) (front.index single told sure);
   }
 
   -- one line more was executed, a part of its reply written, and these batches were made
@@ -114,12 +115,15 @@ module _ {S : Type 0} (sight : Sight S) (start : Running) (script : List Line) w
         crash = λ single told sure.
             let sure' = stays_sure start front.calls sure in
             subst (λ (now_is : Running). Leaves sight.rows (MayCrash sight start now_is before.steps) before.steps now.steps) (sym (after_more start front.calls here))
-            (crash_more sight before.steps middle.steps now.steps start mid (grows start front.calls) (after_all mid here)
+            (crash_more sight before.steps middle.steps now.steps start mid (after_all mid here) (grows start front.calls)
             (adds (sight.limits middle.steps) mid here sure' (steps.alone single) (steps.follows mid front.stands))
             (front.crash single told sure) (steps.crash single told mid sure' front.stands));
-        index = λ single told.
-            index_more sight before.steps middle.steps now.steps start mid (grows start front.calls)
-            (front.index single told) (steps.index single told mid front.stands);
+        index = λ single told sure.
+            let sure' = stays_sure start front.calls sure in
+            subst (λ (now_is : Running). Leaves sight.index (MayCrashIndex sight start now_is before.steps) before.steps now.steps) (sym (after_more start front.calls here))
+            (index_crash_more sight before.steps middle.steps now.steps start mid (after_all mid here) (grows start front.calls)
+            (adds (sight.limits middle.steps) mid here sure' (steps.alone single) (steps.follows mid front.stands)) (grows mid here)
+            (front.index single told sure) (steps.index single told mid sure' front.stands));
       }
 
   -- a line whose reply was not sent whole: no batch follows

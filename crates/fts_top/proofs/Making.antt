@@ -4,11 +4,11 @@ use Rattle.fts_types.specs.declared.limits.Limits.{Limits}
 use Rattle.fts_io.specs.Text.{Line}
 use Rattle.fts_schema.specs.declared.reply.Reply.{Reply}
 use Rattle.fts_steps.specs.Running.{Running}
-use Rattle.fts_steps.specs.Crash.{IsBetween}
+use Rattle.fts_steps.specs.Crash.{IsBetween, IsIndexBetween}
 use Rattle.fts_steps.specs.Step.{Ask, Answer, Call, Sight, Leaves, Steps, Follows, after_all}
 use Rattle.fts_sessions.specs.Execute.{Executes}
 use Rattle.fts_top.specs.Batches.{MakesSteps}
-use Rattle.fts_top.proofs.Crashing.{adds, grows, stays_sure, between_more, index_both}
+use Rattle.fts_steps.proofs.Adding.{adds, grows, stays_sure, between_more, index_more}
 use Rattle.fts_top.proofs.Talking.{after_more, follows_more, alone_more}
 
 module _ {S : Type 0} (sight : Sight S) where
@@ -18,7 +18,7 @@ module _ {S : Type 0} (sight : Sight S) where
     follows = λ running stands. tt;
     stands = λ running stands. stands;
     crash = λ single told running sure stands. inl refl;
-    index = λ single told running stands. inl refl;
+    index = λ single told running sure stands. inl refl;
     settings = refl;
     limits = refl;
   }
@@ -33,7 +33,7 @@ module _ {S : Type 0} (sight : Sight S) where
     follows = λ running stands. (made.may running stands, tt);
     stands = made.stands;
     crash = λ single told running sure stands. made.crash single told running stands;
-    index = made.index;
+    index = λ single told running sure stands. made.index single told running stands;
     settings = made.settings;
     limits = made.limits;
   }
@@ -44,7 +44,7 @@ module _ {S : Type 0} (sight : Sight S) where
     alone = executes.alone;
     follows = executes.follows;
     stands = executes.stands;
-    crash = λ single told running sure stands. executes.crash single told running stands;
+    crash = executes.crash;
     index = executes.index;
     settings = executes.settings;
     limits = executes.limits;
@@ -68,10 +68,14 @@ module _ {S : Type 0} (sight : Sight S) where
         (between_more sight old mid new running here (after_all here more) (grows running calls)
         (adds (sight.limits mid) here more sure' (behind.alone single) (behind.follows here stands'))
         (first.crash single told running sure stands) (behind.crash single told here sure' stands'));
-    index = λ single told running stands.
+    index = λ single told running sure stands.
         let here = after_all running calls in
-        index_both sight old mid new running here (grows running calls) (first.index single told running stands)
-        (behind.index single told here (first.stands running stands));
+        let stands' = first.stands running stands in
+        let sure' = stays_sure running calls sure in
+        subst (λ (now : Running). Leaves sight.index (IsIndexBetween running now) old new) (sym (after_more running calls more))
+        (index_more sight old mid new running here (after_all here more) (grows running calls) (grows here more)
+        (adds (sight.limits mid) here more sure' (behind.alone single) (behind.follows here stands'))
+        (first.index single told running sure stands) (behind.index single told here sure' stands'));
     settings = behind.settings ∙ first.settings;
     limits = behind.limits ∙ first.limits;
   }

@@ -1,10 +1,16 @@
-use Rattle.std.proofs.Common.{◌≡◌, ℕ, List, refl}
-use Rattle.fts_steps.specs.State.{IsCreated}
+-- Why no database was opened, and what is made.
+use Rattle.std.proofs.Common.{◌≡◌, ℕ, List, [], refl, inr}
+use Rattle.fts_types.specs.declared.settings.Settings.{Settings}
+use Rattle.fts_steps.specs.State.{State, IsCreated, IsDatabase, IsRight, created_with}
+use Rattle.fts_steps.proofs.Growing.{none_right}
+use Rattle.fts_steps.proofs.Faults.{is_created, not_at_fault}
 use Rattle.fts_engine.specs.declared.error.Device.TheVariants.{Rows, Index}
 use Rattle.fts_engine.specs.declared.error.OpenError.{OpenError}
 use Rattle.fts_engine.specs.declared.error.OpenError.TheVariants as opening
 use Rattle.fts_engine.specs.Opening.{IsDamaged, IsIndexDamaged}
-use Rattle.fts_top.specs.Once.{IsWhy}
+use Rattle.fts_engine.proofs.Single.{one_rows}
+use Rattle.fts_top.specs.Ends.{status_of_opening}
+use Rattle.fts_top.specs.Once.{IsWhy, Finishes}
 
 -- why no database was opened, by its cases
 pub is_why : (error : OpenError) (rows index : List ℕ) → (error ≡ opening.NotCreated → IsCreated rows → ⊥)
@@ -15,3 +21,22 @@ is_why (opening.Damaged Rows file at) rows index not_created of_rows of_index = 
 is_why (opening.Damaged Index file at) rows index not_created of_rows of_index = of_index file at refl
 is_why opening.NoMemory rows index not_created of_rows of_index = tt
 is_why opening.DiskFault rows index not_created of_rows of_index = tt
+
+-- ---- what stands in the way of an opening
+
+-- a database is opened, unless memory runs out or a device fails
+pub can_open : (error : OpenError) (rows index : List ℕ) (state : State) → IsDatabase state rows index → IsWhy error rows index → (error ≡ opening.DiskFault → ⊥)
+    → Finishes (status_of_opening error)
+can_open opening.NotCreated rows index state database why calm = absurd (why (is_created state rows database.of_rows))
+can_open (opening.Damaged Rows file place) rows index state database why calm = absurd (why.1.none state database.of_rows)
+can_open (opening.Damaged Index file place) rows index state database why calm =
+    let damaged = why.1 in
+    absurd (not_at_fault damaged.state state place index (one_rows state damaged.state rows database.of_rows damaged.of_rows).1 database.of_index damaged.place)
+can_open opening.NoMemory rows index state database why calm = inr refl
+can_open opening.DiskFault rows index state database why calm = absurd (calm refl)
+
+-- ---- what is made
+
+-- the index of a database that was just created is right
+pub created_right : (settings : Settings) → IsRight (created_with settings)
+created_right settings = none_right settings [] (record { ascend = tt; lead = refl })

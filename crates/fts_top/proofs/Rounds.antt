@@ -4,13 +4,13 @@ use Rattle.std.specs.Prelude.{Option, Some, None}
 use Rattle.std.proofs.lemmas.Bool.{false≢true, lt-ltb, le-ltb}
 use Rattle.std.proofs.lemmas.List.{append-nil}
 use Rattle.fts_faults.specs.Count.{CountsFault, Rose}
-use Rattle.fts_steps.specs.Step.{Answer, flushed, all_flushed, measured, stopped, no_memory, to_measure, to_sync, Call, Sight, Steps, is_disk_fault}
+use Rattle.fts_steps.specs.Step.{Answer, full, flushed, all_flushed, measured, disk_fault, stopped, no_memory, to_measure, to_sync, Call, Sight, Steps, is_disk_fault}
 use Rattle.fts_top.specs.declared.ends.Health.{Health}
 use Rattle.fts_top.specs.declared.ends.Health.TheVariants.{Sound, Short, Failed}
 use Rattle.fts_top.specs.Batches.{MakesSteps, MakesBatches, MakesRound}
 use Rattle.fts_top.specs.Health.{health_of_answer, health_of_steps, worse}
-use Rattle.fts_top.specs.Talk.{AreBatches, if_above}
-use Rattle.fts_top.proofs.Health.{worse_more}
+use Rattle.fts_top.specs.Talk.{AreBatches, if_above, unless_refused}
+use Rattle.fts_top.proofs.Health.{worse_sound, worse_more}
 use Rattle.fts_top.proofs.Making.{call_of, no_steps, one_step, both}
 
 -- two counts that no fault raised
@@ -82,56 +82,54 @@ module _ {S : Type 0} (sight : Sight S) (old mid : S) (size bytes : ℕ) (look :
       faults = calm_both (sight.faults old) (sight.faults mid) (sight.faults new) (is_disk_fault (measured size)) (is_disk_fault (flushed through commits)) refl refl (λ is. cc) look.faults batch.faults;
     }
 
+    -- the last batch, which flushed nothing
+    module _ (answer : Answer) (batch : Steps sight to_sync answer mid new) (met : Health) (is_met : health_of_answer answer ≡ met) where
+      abbrev as_last : ((most : ℕ) → unless_refused answer (AreBatches (sight.settings old).cache_bytes most) [])
+          → CountsFault (◌≡◌ {A = Option Health} (Some met) (Some Failed)) (sight.faults old) (sight.faults new) → MakesRound sight (Some met) old new
+      as_last ended counts = record {
+        calls = looked ∷ (made answer batch ∷ []);
+        is = (
+          worse_sound (health_of_answer answer) ∙ is_met,
+          λ most. (
+            size,
+            refl,
+            refl,
+            subst (λ (b : Bool). if_above b (AreBatches (sight.settings old).cache_bytes most) (made answer batch ∷ [])) (sym is_above) (refl, ended most),
+          ),
+        );
+        steps = steps_both answer batch;
+        faults = counts;
+      }
+
+      -- and met no fault
+      last_calm : is_disk_fault answer ≡ false → (◌≡◌ {A = Option Health} (Some met) (Some Failed) → ⊥)
+          → ((most : ℕ) → unless_refused answer (AreBatches (sight.settings old).cache_bytes most) []) → MakesRound sight (Some met) old new
+      last_calm no_fault calm ended =
+          as_last ended (calm_both (sight.faults old) (sight.faults mid) (sight.faults new) (is_disk_fault (measured size)) (is_disk_fault answer) refl no_fault calm look.faults batch.faults)
+
     -- all was flushed
     pub last_of_all : (commits : ℕ) → Steps sight to_sync (all_flushed commits) mid new → MakesRound sight (Some Sound) old new
-    last_of_all commits batch = record {
-      calls = looked ∷ (made (all_flushed commits) batch ∷ []);
-      is = (
-        refl,
-        λ most. (
-          size,
-          refl,
-          refl,
-          subst (λ (b : Bool). if_above b (AreBatches (sight.settings old).cache_bytes most) (made (all_flushed commits) batch ∷ [])) (sym is_above) (refl, refl),
-        ),
-      );
-      steps = steps_both (all_flushed commits) batch;
-      faults = calm_both (sight.faults old) (sight.faults mid) (sight.faults new) (is_disk_fault (measured size)) (is_disk_fault (all_flushed commits)) refl refl (λ is. cc) look.faults batch.faults;
-    }
+    last_of_all commits batch = last_calm (all_flushed commits) batch Sound refl refl (λ is. cc) (λ most. refl)
 
     -- there was no memory for it
     pub starved : Steps sight to_sync no_memory mid new → MakesRound sight (Some Short) old new
-    starved batch = record {
-      calls = looked ∷ (made no_memory batch ∷ []);
-      is = (
-        refl,
-        λ most. (
-          size,
-          refl,
-          refl,
-          subst (λ (b : Bool). if_above b (AreBatches (sight.settings old).cache_bytes most) (made no_memory batch ∷ [])) (sym is_above) (refl, refl),
-        ),
-      );
-      steps = steps_both no_memory batch;
-      faults = calm_both (sight.faults old) (sight.faults mid) (sight.faults new) (is_disk_fault (measured size)) (is_disk_fault no_memory) refl refl (λ is. cc) look.faults batch.faults;
-    }
+    starved batch = last_calm no_memory batch Short refl refl (λ is. cc) (λ most. refl)
+
+    -- the index log is full
+    pub has_no_room : (end : ℕ) → Steps sight to_sync (full end) mid new → MakesRound sight (Some Sound) old new
+    has_no_room end batch = last_calm (full end) batch Sound refl refl (λ is. cc) (λ most. refl)
 
     -- an earlier fault had stopped the engine
     pub refused : (faults : ℕ) → Steps sight to_sync (stopped faults) mid new → MakesRound sight (Some Sound) old new
-    refused faults batch = record {
-      calls = looked ∷ (made (stopped faults) batch ∷ []);
-      is = (
-        refl,
-        λ most. (
-          size,
-          refl,
-          refl,
-          subst (λ (b : Bool). if_above b (AreBatches (sight.settings old).cache_bytes most) (made (stopped faults) batch ∷ [])) (sym is_above) (refl, refl),
-        ),
-      );
-      steps = steps_both (stopped faults) batch;
-      faults = calm_both (sight.faults old) (sight.faults mid) (sight.faults new) (is_disk_fault (measured size)) (is_disk_fault (stopped faults)) refl refl (λ is. cc) look.faults batch.faults;
-    }
+    refused faults batch = last_calm (stopped faults) batch Sound refl refl (λ is. cc) (λ most. refl)
+
+    -- the index device failed
+    pub fails : (faults : ℕ) → Steps sight to_sync (disk_fault faults) mid new → MakesRound sight (Some Failed) old new
+    fails faults batch = as_last (disk_fault faults) batch Failed refl (λ most. refl) (record {
+      rose = λ is. subst (λ (n : ℕ). Rose n (sight.faults new)) (look.faults.calm (λ e. false≢true e)) (batch.faults.rose refl);
+      calm = λ no. absurd (no refl);
+      never_falls = let a = look.faults.never_falls in let b = batch.faults.never_falls in omega arith;
+    })
 
 -- ---- rounds one after another
 

@@ -23,8 +23,8 @@ module _ {S : Type 0} (sight : Sight S) where
     alone = λ e. tt;
     follows = λ running stands. tt;
     stands = λ running stands. stands;
-    crash = λ e told running stands. inl refl;
-    index = λ e told running stands. inl refl;
+    crash = λ e told running sure stands. inl refl;
+    index = λ e told running sure stands. inl refl;
     settings = refl;
     limits = refl;
     faults = record { rose = λ is. absurd cc; calm = λ no. refl; never_falls = omega arith };

@@ -1,29 +1,25 @@
 -- Batches that a run makes behind a reply.
-use Rattle.std.specs.Prelude.{◌≡◌, ℕ, suc, false, List, [], ◌++◌, Option, Some, None, IsTrue}
+use Rattle.std.specs.Prelude.{◌≡◌, ℕ, suc, false, List, ◌++◌, Option, Some, None, IsTrue}
 use Rattle.fts_faults.specs.Count.{CountsFault}
-use Rattle.fts_steps.specs.Running.{Running}
-use Rattle.fts_steps.specs.Crash.{IsBetween, HoldsIndex}
+use Rattle.fts_steps.specs.Running.{Running, IsSure}
+use Rattle.fts_steps.specs.Crash.{IsBetween, IsIndexBetween}
 use Rattle.fts_steps.specs.Step.{Call, Sight, Leaves, AreAlone, Follows, after_all}
 use Rattle.fts_top.specs.declared.ends.Health.{Health}
 use Rattle.fts_top.specs.declared.ends.Health.TheVariants.{Sound, Failed}
 use Rattle.fts_top.specs.Health.{health_of_steps}
 use Rattle.fts_top.specs.Talk.{AreBatches}
 
--- where no fault stopped it, nothing is in doubt
-abbrev pub IsSure : Running → Type 0
-IsSure running = running.stopped ≡ None → running.doubt ≡ []
-
 -- steps that were made one after another: on each engine for which they stood they answered as they may, and stand then
--- for what these made of it; where there are no others, a crash at any moment leaves what was before them or what is
--- behind them, and the index log as it was
+-- for what these made of it; where there are no others, a crash at any moment leaves of each log what was before them
+-- and a front of what they added
 pub record MakesSteps {S : Type 0} (sight : Sight S) (calls : List Call) (old new : S) : Type 0 where
   pub alone : sight.is_shared ≡ false → AreAlone calls
   pub follows : (running : Running) → sight.stands running old → Follows (sight.limits old) running calls
   pub stands : (running : Running) → sight.stands running old → sight.stands (after_all running calls) new
   pub crash : sight.is_shared ≡ false → IsTrue sight.rows.disk.tells → (running : Running) → IsSure running
       → sight.stands running old → Leaves sight.rows (IsBetween running (after_all running calls)) old new
-  pub index : sight.is_shared ≡ false → IsTrue sight.index.disk.tells → (running : Running)
-      → sight.stands running old → Leaves sight.index (HoldsIndex running.state) old new
+  pub index : sight.is_shared ≡ false → IsTrue sight.index.disk.tells → (running : Running) → IsSure running
+      → sight.stands running old → Leaves sight.index (IsIndexBetween running (after_all running calls)) old new
   pub settings : sight.settings new ≡ sight.settings old
   pub limits : sight.limits new ≡ sight.limits old
 

@@ -1,6 +1,6 @@
 use Rattle.std.specs.Prelude.{◌≡◌, ◌⊎◌, ◌≤◌, ◌+◌, ◌^◌, Bool, false, ℕ, List, ◌∷◌, [], ◌++◌, length, take, codes, IsTrue}
 use Rattle.fts_io.specs.Text.{lines_of}
-use Rattle.fts_steps.specs.State.{State, IsDatabase, IsCreated, created_with}
+use Rattle.fts_steps.specs.State.{State, IsDatabase, IsRight, IsCreated, created_with}
 use Rattle.fts_steps.specs.Running.{opened}
 use Rattle.fts_steps.specs.Step.{Sight}
 use Rattle.fts_types.specs.declared.limits.Limits.{Limits}
@@ -95,24 +95,27 @@ Holds disks state here = IsDatabase state (file_of disks.rows here.rows) (file_o
 abbrev pub seen_from : {D E : Type 0} → Outside D E → Sides (Devices D E)
 seen_from here = record { left = here.source.left; held = here.sink.held; steps = here.devices }
 
--- the steps of a run, seen by the devices alone
+-- the steps of a run, seen by the devices alone: they have the two logs of the database, whose index is right
 abbrev pub device_sight : {D E : Type 0} → Disks D E → Settings → Limits → Sight (Devices D E)
 device_sight {D} {E} disks settings limits = record {
   is_shared = false;
   settings = λ devices. settings;
   limits = λ devices. limits;
   faults = disk_faults disks;
-  stands = λ running here. OnRows disks.rows running here.rows × OnIndex disks.index running here.index;
+  stands = λ running here. IsRight running.state × OnRows disks.rows running here.rows
+      × OnIndex disks.index running here.index;
   rows = record { Device = D; disk = disks.rows; device = λ here. here.rows };
   index = record { Device = E; disk = disks.index; device = λ here. here.index };
 }
 
--- a script was executed on the database that the opening found, and ended so
+-- a script was executed on the database that the opening found, and ended so. What it did is told where the index was
+-- right before it, as `create` leaves it and each step keeps it: else its entries may be those of other words, and a
+-- search need not find what a scan does
 pub record Executed {D E : Type 0} (disks : Disks D E) (limits : Limits) (end : RunEnd) (before after : Outside D E)
     : Type 0 where
   pub found : DisksTell disks → (state : State) × Holds disks state before.devices
   pub outcome : IsTrue before.source.tells → IsTrue before.sink.tells → DisksTell disks
-      → (start : State) → Holds disks start before.devices
+      → (start : State) → Holds disks start before.devices → IsRight start
       → Outcome (device_sight disks start.settings limits) end (opened start) (lines_of before.source.left)
       (seen_from before) (seen_from after)
   pub whole : IsRead end → IsTrue before.source.tells → length before.source.left ≤ 2 ^ 40
@@ -150,10 +153,11 @@ RunEnds disks limits result unused before after =
 abbrev pub created_text : List ℕ
 created_text = codes "OK created" ++ 10 ∷ []
 
--- a database without commits was made where none was created, and a crash leaves it
+-- a database without commits was made where none was created, and a crash leaves it. Its index is right
 pub record Made {D E : Type 0} (disks : Disks D E) (settings : Settings) (before after : Devices D E) : Type 0 where
   pub fresh : IsCreated (file_of disks.rows before.rows) → ⊥
   pub database : Holds disks (created_with settings) after
+  pub right : IsRight (created_with settings)
   pub rows : Only (disks.rows.seen after.rows) (disks.rows.images after.rows)
   pub index : Only (disks.index.seen after.index) (disks.index.images after.index)
 

@@ -6,9 +6,9 @@ use Rattle.fts_io.specs.Reading.{OnlyBegun, lines_from}
 use Rattle.fts_schema.specs.declared.reply.Reply.{Reply}
 use Rattle.fts_schema.specs.declared.reply.Reply.TheVariants.{DiskFault}
 use Rattle.fts_schema.specs.Reply.{text_of}
-use Rattle.fts_steps.specs.Running.{Running}
+use Rattle.fts_steps.specs.Running.{Running, IsSure}
 use Rattle.fts_disk.specs.Crash.{Images}
-use Rattle.fts_steps.specs.Crash.{IsBetween, HoldsIndex}
+use Rattle.fts_steps.specs.Crash.{IsBetween, IsIndexBetween}
 use Rattle.fts_steps.specs.Step.{Call, Sight, Leaves, AreAlone, Follows, after_all}
 use Rattle.fts_sessions.specs.Execute.{Executes}
 use Rattle.fts_top.specs.declared.ends.Health.{Health}
@@ -21,7 +21,7 @@ use Rattle.fts_top.specs.declared.ends.Unsent.{Unsent}
 use Rattle.fts_top.specs.declared.ends.Unsent.TheVariants as unsent
 use Rattle.fts_top.specs.Health.{health_of, worse}
 use Rattle.fts_top.specs.Talk.{Talks, committed_by, texts_of}
-use Rattle.fts_top.specs.Batches.{IsSure, MakesBatches}
+use Rattle.fts_top.specs.Batches.{MakesBatches}
 
 -- a run at one time: what the source has left, what the sink holds, and the steps
 pub record Sides (S : Type 0) : Type 0 where
@@ -41,15 +41,15 @@ pub record Stays {S : Type 0} (before after : Sides S) : Type 0 where
 abbrev pub MayCrash : {S : Type 0} → Sight S → Running → Running → S → Images
 MayCrash sight start now before c = sight.rows.disk.images (sight.rows.device before) c ⊎ IsBetween start now c
 
--- what a crash could leave of the index log before, or that log
-abbrev pub MayCrashIndex : {S : Type 0} → Sight S → Running → S → Images
-MayCrashIndex sight start before c =
-    sight.index.disk.images (sight.index.device before) c ⊎ HoldsIndex start.state c
+-- what a crash could leave of the index log before, or that log with a front of what was added
+abbrev pub MayCrashIndex : {S : Type 0} → Sight S → Running → Running → S → Images
+MayCrashIndex sight start now before c =
+    sight.index.disk.images (sight.index.device before) c ⊎ IsIndexBetween start now c
 
 -- the lines from the front of the script that were executed, what is ahead, and the text that was written; `sent` says
 -- that the last reply was sent, and the batches behind it were made. While no line met a fault, commits are taken; a
--- fault was counted exactly where one met it. A crash at any moment leaves what it could leave before, or the rows log
--- with a front of the commits that were made, and the index log
+-- fault was counted exactly where one met it. A crash at any moment leaves of each log what it could leave before, or
+-- the log with a front of what was added: the commits, and the entries of batches
 pub record Front {S : Type 0} (sight : Sight S) (start : Running) (sent : Bool) (script ahead : List Line)
     (before after : Sides S) : Type 0 where
   pub lines : List Line
@@ -69,8 +69,8 @@ pub record Front {S : Type 0} (sight : Sight S) (start : Running) (sent : Bool) 
   pub counted : CountsFault (met ≡ health.Failed) (sight.faults before.steps) (sight.faults after.steps)
   pub crash : sight.is_shared ≡ false → IsTrue sight.rows.disk.tells → IsSure start
       → Leaves sight.rows (MayCrash sight start (after_all start calls) before.steps) before.steps after.steps
-  pub index : sight.is_shared ≡ false → IsTrue sight.index.disk.tells
-      → Leaves sight.index (MayCrashIndex sight start before.steps) before.steps after.steps
+  pub index : sight.is_shared ≡ false → IsTrue sight.index.disk.tells → IsSure start
+      → Leaves sight.index (MayCrashIndex sight start (after_all start calls) before.steps) before.steps after.steps
 
 -- each reply was written, to the end
 abbrev pub IsWhole : List Reply → List ℕ → Type 0

@@ -7,9 +7,10 @@ use fts_schema::Reply;
 use fts_sessions::EngineSteps;
 use fts_steps::{SyncBatch, SyncError};
 
-/// Makes the batches that follow a reply, and tells what they met. Behind a commit one batch after
-/// another is made while the index's cache is above its limit, up to the first that flushes
-/// nothing; behind other replies none.
+/// Makes the batches that follow a reply, and tells what they met: a fault of a device in one of
+/// them too, which the status of the run tells at its end. Behind a commit one batch after another
+/// is made while the index's cache is above its limit, up to the first that flushes nothing; behind
+/// other replies none.
 pub fn batches_behind<S: EngineSteps>(steps: &mut S, reply: &Reply) -> Health
     ensures { MakesBatches S.sight (committed_by reply.now) result steps.old steps.new }
 {
@@ -69,6 +70,8 @@ fn one_round<S: EngineSteps>(steps: &mut S) -> Option<Health>
         Ok(SyncBatch::Flushed { .. }) => None,
         Ok(SyncBatch::Nothing { .. }) => Some(Health::Sound),
         Err(SyncError::NoMemory) => Some(Health::Short),
+        Err(SyncError::LogFull { .. }) => Some(Health::Sound),
+        Err(SyncError::DiskFault { .. }) => Some(Health::Failed),
         Err(SyncError::Stopped { .. }) => Some(Health::Sound),
     }
 }

@@ -12,11 +12,12 @@ use fts_schema::Reply;
 /// How the execution of a script ends.
 #[derive(Clone, Copy, Debug, PartialEq, Eq)]
 pub enum RunEnd {
-    /// The script was read to its end, and no line was refused by a fault or for want of memory.
+    /// The script was read to its end, and no line was refused and no batch ended by a fault or for
+    /// want of memory.
     Done,
-    /// The script was read to its end. A line was refused for want of memory, and none by a fault.
+    /// The script was read to its end. A line or a batch met want of memory, and none a fault.
     ShortOfMemory,
-    /// The script was read to its end. A device failed at a line.
+    /// The script was read to its end. A device failed at a line, or in a batch behind its reply.
     DiskFault,
     /// Memory ran out for the bytes of a line or of a reply.
     NoMemory,
@@ -28,14 +29,14 @@ pub enum RunEnd {
     ScriptTooLong { lines: u64, bytes: u64 },
 }
 
-/// What the lines of a script met so far.
+/// What the lines of a script and the batches behind them met so far.
 #[derive(Clone, Copy, Debug, PartialEq, Eq)]
 pub enum Health {
     /// No want of memory, and no fault.
     Sound,
     /// Want of memory.
     Short,
-    /// A fault of a device.
+    /// A fault of a device. That of a batch behind a reply is told at the end, by the status.
     Failed,
 }
 

@@ -58,6 +58,7 @@ pub(crate) fn run_script<I: Source, O: Sink, D: Disk, E: Disk, G: Gate>(
 }
 
 // Makes a database, and says so.
+#[tactic(auto, using(crate::proofs::Opening::created_right))]
 fn create<O: Sink, D: Disk, E: Disk>(
     alloc: Global,
     settings: &Settings,

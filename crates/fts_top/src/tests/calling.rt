@@ -34,6 +34,11 @@ pub const LOG: &[u8] = b"FTSROWS1\x01\x00\x00\x00\x14\
 /// The index log of a database: it has no entry.
 pub const INDEX: &[u8] = b"FTSINDX1\x00";
 
+/// The index log of a database with that row, behind its batch.
+pub const BATCH: &[u8] = b"FTSINDX1\x01\x00\x00\x00\x22\
+\x01\x00\x00\x00\x00\x00\x00\x00\x01\x00\x00\x00\x00\x00\x00\x00\x01\x00\x00\x00\x01\
+\x05apple\x00\x00\x00\x03\x81\x81\x00\x00";
+
 /// What a call answered, wrote and left on the devices.
 #[derive(Drop)]
 pub struct Outcome {

@@ -1,6 +1,6 @@
 //! Logs of a database whose bytes were changed.
 use super::calling::{
-    FIND_APPLE, LOG, RUN, call, call_on, created, disk_of, empty_disk, ended, finds,
+    BATCH, FIND_APPLE, LOG, RUN, call, call_on, created, disk_of, empty_disk, ended, finds,
 };
 use crate::{Device, Status};
 use fts_disk::MemDisk;
@@ -45,13 +45,15 @@ fn the_first_place_at_fault_is_told(rt: HostRuntime) -> Result<(), Fail> {
     Ok(())
 }
 
-/// What stands in the index log beside a whole rows log, and how a run ends.
-const INDEX_DAMAGES: [(&[u8], Option<u64>); 7] = [
+/// What stands in the index log beside a rows log without commits, and how a run ends. A batch is
+/// wrong where its commit isn't there.
+const INDEX_DAMAGES: [(&[u8], Option<u64>); 8] = [
     (b"", Some(0)),
     (b"FTSROWS1\x00", Some(0)),
     (b"FTSINDX1", Some(8)),
     (b"FTSINDX1\x01\x00\x00\x00\x01", Some(8)),
     (b"FTSINDX1\x01\x00\x00\x00\x00\x00", Some(8)),
+    (BATCH, Some(8)),
     (b"FTSINDX1\x00", None),
     (b"FTSINDX1\x02\x01", None),
 ];

@@ -169,6 +169,45 @@ fn a_run_goes_on_behind_a_fault_and_takes_no_commit(rt: HostRuntime) -> Result<(
     finds(&rt, rt.alloc(), run.rows.file(0), "OK as of 2: 1 2\n")
 }
 
+/// An INSERT, a SYNC, an INSERT and a search.
+const SYNCED: &str = "INSERT INTO docs (id, body) VALUES (1, 'apple pie')\nSYNC\n\
+    INSERT INTO docs (id, body) VALUES (2, 'apple pie')\n\
+    SELECT FTS_DOC_ID FROM docs WHERE MATCH (body) AGAINST ('pie' IN BOOLEAN MODE)\n";
+
+/// Calls of the index device by which the SYNC fails, and how many bytes of its file 0 it leaves.
+const SYNC_FAULTS: [(Kind, u64, usize); 4] = [
+    (Kind::Write, 1, 9),
+    (Kind::Sync, 2, 59),
+    (Kind::Write, 2, 59),
+    (Kind::Sync, 3, 59),
+];
+
+/// A run ends with a disk fault where one call of the index device fails in a SYNC, which leaves so
+/// many bytes. A new opening finds the commit before it.
+fn sync_fails(rt: &impl Abort, alloc: Global, fails: (Kind, u64), left: usize) -> Result<(), Fail> {
+    let index = failing(alloc, INDEX, fails)?;
+    let run = call_on(alloc, RUN, SYNCED.as_bytes(), created(alloc)?, index)?;
+    ended(rt, &run, &Status::DiskFault, STOPPED, "a SYNC");
+    assert_eq!(rt; run.index.file(0).len(), left, "{fails:?}");
+    let again = call_on(alloc, RUN, SEARCH.as_bytes(), run.rows, run.index)?;
+    ended(
+        rt,
+        &again,
+        &Status::Done,
+        "OK as of 1: 1\n",
+        "behind a SYNC",
+    );
+    Ok(())
+}
+
+#[test]
+fn each_failing_call_of_a_sync_stops_the_engine(rt: HostRuntime) -> Result<(), Fail> {
+    for (kind, number, left) in SYNC_FAULTS {
+        sync_fails(&rt, rt.alloc(), (kind, number), left)?;
+    }
+    Ok(())
+}
+
 /// The index device of a database.
 fn index(alloc: Global) -> Result<MemDisk, AllocError> {
     disk_of(alloc, INDEX)

@@ -1,4 +1,8 @@
-use super::calling::{answers, call, created, empty_disk};
+use super::calling::{
+    BATCH, INDEX, INSERT, RUN, answers, call, call_on, created, empty_disk, ended, failing,
+};
+use crate::Status;
+use fts_disk::Kind;
 use std::alloc::AllocError;
 use std::test::Fail;
 
@@ -188,5 +192,73 @@ fn a_batch_follows_a_commit_while_the_cache_is_too_large(rt: HostRuntime) -> Res
     pears(&mut script, b'1', 82)?;
     pears(&mut script, b'2', 1)?;
     let _ = answers(&rt, alloc, rows, &script, OF_PEARS)?;
+    Ok(())
+}
+
+/// The second row of them is too large for the cache, and the index device fails as its batch is
+/// written: no reply tells it, but the next line that would write is refused.
+const OF_FAULT: &str = "OK commit 1
+KEY|VALUE
+max_token_size|84
+min_token_size|3
+optimize_word|
+synced_commit|0
+synced_doc_id|0
+use_stopword|1
+OK 6 rows as of 1
+ERROR stopped after 1 disk faults
+";
+
+#[test]
+fn a_fault_in_a_batch_behind_a_commit_is_the_status_of_the_run(
+    rt: HostRuntime,
+) -> Result<(), Fail> {
+    let alloc = rt.alloc();
+    let rows = call(alloc, SMALL_CACHE, b"", empty_disk(alloc)?)?.rows;
+    let mut script = Vec::new(alloc);
+    pears(&mut script, b'1', 83)?;
+    script.extend_from_slice(INSERT.as_bytes())?;
+    let index = failing(alloc, INDEX, (Kind::Write, 1))?;
+    let run = call_on(alloc, RUN, &script, rows, index)?;
+    ended(&rt, &run, &Status::DiskFault, OF_FAULT, "a batch");
+    Ok(())
+}
+
+const FLUSHED: &str = "INSERT INTO docs (id, body) VALUES (1, 'apple')
+SYNC
+";
+
+/// What a new opening tells of the index.
+const OPENED: &str =
+    "SELECT FTS_DOC_ID FROM docs WHERE MATCH (body) AGAINST ('apple' IN BOOLEAN MODE)
+SELECT * FROM INFORMATION_SCHEMA.INNODB_FT_INDEX_CACHE
+SELECT * FROM INFORMATION_SCHEMA.INNODB_FT_INDEX_TABLE
+SYNC
+";
+
+const OF_OPENED: &str = "OK as of 1: 1
+WORD|FIRST_DOC_ID|LAST_DOC_ID|DOC_COUNT|DOC_ID|POSITION
+OK 0 rows as of 1
+WORD|FIRST_DOC_ID|LAST_DOC_ID|DOC_COUNT|DOC_ID|POSITION
+apple|1|1|1|1|0
+OK 1 rows as of 1
+OK sync as of 1
+";
+
+#[test]
+fn a_batch_stands_in_the_index_log(rt: HostRuntime) -> Result<(), Fail> {
+    let alloc = rt.alloc();
+    let run = call(alloc, RUN, FLUSHED.as_bytes(), created(alloc)?)?;
+    ended(
+        &rt,
+        &run,
+        &Status::Done,
+        "OK commit 1\nOK sync as of 1\n",
+        "a SYNC",
+    );
+    assert_eq!(rt; run.index.file(0), BATCH);
+    let again = call_on(alloc, RUN, OPENED.as_bytes(), run.rows, run.index)?;
+    ended(&rt, &again, &Status::Done, OF_OPENED, "an opening");
+    assert_eq!(rt; again.index.file(0), BATCH);
     Ok(())
 }

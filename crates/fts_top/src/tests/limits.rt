@@ -93,3 +93,39 @@ fn a_commit_may_fill_the_log(rt: HostRuntime) -> Result<(), Fail> {
     };
     limited(&rt, rt.alloc(), limits, ONE, "OK commit 1\nOK as of 1: 1\n")
 }
+
+/// The row's commit ends the rows log at 66, and its batch the index log at 69.
+const FLUSHED: &str = "INSERT INTO docs (id, body) VALUES (1, 'fig pie plum')
+SYNC
+SELECT FTS_DOC_ID FROM docs WHERE MATCH (body) AGAINST ('pie' IN BOOLEAN MODE)
+";
+
+#[test]
+fn a_full_index_log_refuses_a_sync_and_tells_its_end(rt: HostRuntime) -> Result<(), Fail> {
+    let limits = Limits {
+        log_bytes: 68,
+        ..Limits::standard()
+    };
+    limited(
+        &rt,
+        rt.alloc(),
+        limits,
+        FLUSHED,
+        "OK commit 1\nERROR log full at 69\nOK as of 1: 1\n",
+    )
+}
+
+#[test]
+fn a_batch_may_fill_the_index_log(rt: HostRuntime) -> Result<(), Fail> {
+    let limits = Limits {
+        log_bytes: 69,
+        ..Limits::standard()
+    };
+    limited(
+        &rt,
+        rt.alloc(),
+        limits,
+        FLUSHED,
+        "OK commit 1\nOK sync as of 1\nOK as of 1: 1\n",
+    )
+}

@@ -78,3 +78,31 @@ fn a_stop_while_the_index_log_is_opened_leaves_the_database(rt: HostRuntime) -> 
     }
     Ok(())
 }
+
+/// A search of what a stop in this call of the index device left, beside all of the rows log.
+fn search_behind(alloc: Global, run: &Outcome, call: usize, choice: u64) -> Result<Outcome, Fail>
+    requires { call < length (mem_calls run.now.index) }
+{
+    let rows = disk_of(alloc, run.rows.file(0))?;
+    let index = run.index.pick_image(call, choice)?;
+    Ok(call_on(alloc, RUN, SEARCH.as_bytes(), rows, index)?)
+}
+
+/// An INSERT and a SYNC.
+const FLUSHED: &str = "INSERT INTO docs (id, body) VALUES (1, 'apple pie')\nSYNC\n";
+
+/// The index device has three calls in the opening and four for the batch.
+#[test]
+fn a_stop_in_a_sync_leaves_what_searches_find(rt: HostRuntime) -> Result<(), Fail> {
+    let made = created(rt.alloc())?;
+    let rows = disk_of(rt.alloc(), made.file(0))?;
+    let run = call(rt.alloc(), RUN, FLUSHED.as_bytes(), rows)?;
+    assert!(rt; run.rows.calls().len() == 8 && run.index.calls().len() == 7);
+    for call in 3..7 {
+        for choice in 0..16 {
+            let again = search_behind(rt.alloc(), &run, call, choice)?;
+            ended(&rt, &again, &Status::Done, FOUND[1], "a stop in a SYNC");
+        }
+    }
+    Ok(())
+}

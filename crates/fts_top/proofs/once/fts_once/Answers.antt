@@ -1,10 +1,13 @@
-use Rattle.std.proofs.Common.{◌≡◌, map, refl, subst, ⊎_elim, arith}
+use Rattle.std.proofs.Common.{◌≡◌, map, refl, subst, sym, ⊎_elim, arith}
 use Rattle.std.specs.String.{string_bytes}
 use Rattle.fts_types.specs.declared.settings.Settings.{Settings}
 use Rattle.fts_args.specs.Asked.{Asks}
+use Rattle.fts_args.proofs.One.{asks_one}
 use Rattle.fts_args.specs.declared.command.Command.TheVariants.{Create, Run}
 use Rattle.fts_top.specs.declared.ends.CreateEnd.TheVariants.{NoMemory}
-use Rattle.fts_top.specs.Once.{Creates, sink_seen, devices_of, disks_of}
+use Rattle.fts_top.specs.declared.status.Status.{Status}
+use Rattle.fts_top.specs.Once.{Creates, Finishes, sink_seen, devices_of, disks_of}
+use Rattle.fts_top.proofs.Opening.{can_open}
 use Rattle.fts_top.proofs.Asking.{not_asked, is_asked, one_settings}
 use Rattle.fts_top.proofs.once.fts_once.Goals as goal
 
@@ -55,3 +58,16 @@ returns-in-Err-clause-creates g c settings asks = (
     fault = record { rose = λ is. absurd cc; calm = λ no. refl; never_falls = omega arith };
   },
 )
+
+pub returns-in-Err-end-clause-complete : goal.returns-in-Err-end-clause-complete
+returns-in-Err-end-clause-complete g c can calm =
+    let words = map string_bytes c.args.words.now in
+    let asked : Asks words Run = is_asked (Asks words) c.in-Ok-Some-Run.field-0 c.in-Ok-Some-Run.field-0-0 Run c.in-Ok-Some-Run.field-0-is c.in-Ok-Some-Run.field-0-0-is c.in-Ok-Some-Run.ensures.found in
+    let unopened = rw c.in-Err-end.is at c.run_script-end.ensures.unopened in
+    ⊎_elim
+    (λ create. absurd (let same : Create create.0 ≡ Run = asks_one words (Create create.0) Run create.1 asked in cc))
+    (λ run.
+    subst (λ (status : Status). Finishes status) (sym c.from-in-Err-end.ensures)
+    (can_open c.in-Err-end.error (g.D.Disk.seen c.args.rows 0) (g.E.Disk.seen c.args.index 0) run.3.0 run.3.1 (unopened.why run.2)
+    (λ fault. calm.disk (unopened.fault.rose fault))))
+    can

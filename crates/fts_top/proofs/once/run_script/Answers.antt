@@ -1,9 +1,11 @@
 use Rattle.std.proofs.Common.{◌≡◌, ◌+◌, List, ℕ, refl, ap, subst, sym, ◌∙◌}
 use Rattle.fts_faults.specs.Count.{CountsFault}
 use Rattle.fts_io.specs.Text.{lines_of}
-use Rattle.fts_steps.specs.State.{State, IsRows, IsIndex}
+use Rattle.fts_steps.specs.State.{State, IsRows, IsIndex, IsDatabase, IsRight}
 use Rattle.fts_steps.specs.Running.{opened}
-use Rattle.fts_engine.specs.Stands.{engine_faults, rows_device, index_device}
+use Rattle.fts_disk.specs.declared.disk.Disk.{Ghosts}
+use Rattle.fts_engine.specs.declared.engine.Engine.{Engine}
+use Rattle.fts_engine.specs.Stands.{Holds, Stands, engine_faults, rows_device, index_device}
 use Rattle.fts_engine.proofs.Single.{one_database}
 use Rattle.fts_sessions.specs.Direct.{direct_sight}
 use Rattle.fts_top.specs.declared.ends.RunEnd.TheVariants.{DiskFault}
@@ -12,6 +14,19 @@ use Rattle.fts_top.specs.Once.{devices_of, disks_of, disk_faults, device_sight}
 use Rattle.fts_top.proofs.Filing.{outcome_on}
 use Rattle.fts_top.proofs.Opening.{is_why}
 use Rattle.fts_top.proofs.once.run_script.Goals as goal
+
+-- the files are the logs of the database, as they are read again
+database_read : (state : State) {rows rows' index index' : ℕ → List ℕ} → rows' ≡ rows → index' ≡ index → IsRows state (rows' 0) → IsIndex state (index' 0)
+    → IsDatabase state (rows 0) (index 0)
+database_read state seen seen' of_rows of_index = record {
+  of_rows = subst (λ (f : ℕ → List ℕ). IsRows state (f 0)) seen of_rows;
+  of_index = subst (λ (f : ℕ → List ℕ). IsIndex state (f 0)) seen' of_index;
+}
+
+-- an engine that was opened on a database whose index is right
+stands_right : {D E : Type 0} {rows : Ghosts D} {index : Ghosts E} (state : State) (engine : Engine D E rows index) → Holds (opened state) engine → IsRight state
+    → Stands (opened state) engine
+stands_right state engine holds right = record { holds = holds; right = right }
 
 pub returns-in-Ok-clause-executed : goal.returns-in-Ok-clause-executed
 returns-in-Ok-clause-executed g c =
@@ -24,23 +39,23 @@ returns-in-Ok-clause-executed g c =
     let last = devices_of c.close-rows.result.0 c.close-rows.result.1 in
     record {
       found = λ tells.
-          let state = (c.in-Ok.ensures.opened tells.0).0 in
-          let stands = (c.in-Ok.ensures.opened tells.0).1 in (
-            state,
-            record {
-              of_rows = subst (λ (f : ℕ → List ℕ). IsRows state (f 0)) (c.in-Ok.ensures.looks_rows tells.0).seen ((stands.on_rows tells.0).reads refl);
-              of_index = subst (λ (f : ℕ → List ℕ). IsIndex state (f 0)) (c.in-Ok.ensures.looks_index tells.1).seen (stands.on_index tells.1).reads;
-            },
+          let holds = (c.in-Ok.ensures.opened tells.0 tells.1).1 in (
+            (c.in-Ok.ensures.opened tells.0 tells.1).0,
+            database_read _ (c.in-Ok.ensures.looks_rows tells.0).seen (c.in-Ok.ensures.looks_index tells.1).seen
+                ((holds.on_rows tells.0).reads refl) ((holds.on_index tells.1).reads refl),
           );
-      outcome = λ tells_input tells_out tells start database.
-          let state = (c.in-Ok.ensures.opened tells.0).0 in
-          let stands = (c.in-Ok.ensures.opened tells.0).1 in
-          let same = one_database start state (g.D.Disk.seen c.args.rows 0) database.of_rows
-          (subst (λ (f : ℕ → List ℕ). IsRows state (f 0)) (c.in-Ok.ensures.looks_rows tells.0).seen ((stands.on_rows tells.0).reads refl)) in
-          let outcome = outcome_on direct_sight refl state.settings c.args.limits (λ running s stood. (stood.on_rows tells.0, stood.on_index tells.1))
+      outcome = λ tells_input tells_out tells start database right.
+          let state = (c.in-Ok.ensures.opened tells.0 tells.1).0 in
+          let holds = (c.in-Ok.ensures.opened tells.0 tells.1).1 in
+          let same = one_database start state (g.D.Disk.seen c.args.rows 0) (g.E.Disk.seen c.args.index 0) database
+          (database_read state (c.in-Ok.ensures.looks_rows tells.0).seen (c.in-Ok.ensures.looks_index tells.1).seen
+          ((holds.on_rows tells.0).reads refl) ((holds.on_index tells.1).reads refl)) in
+          let stands = stands_right state c.in-Ok.engine holds (subst IsRight same right) in
+          let outcome = outcome_on direct_sight refl state.settings c.args.limits
+          (λ running s stood. (stood.right, stood.holds.on_rows tells.0, stood.holds.on_index tells.1))
           (opened state) (lines_of left) (sides left held (record { engine = c.in-Ok.engine })) (sides left' held' c.run-end.new.steps) first
           (record { rows = (c.in-Ok.ensures.looks_rows tells.0).crash; index = (c.in-Ok.ensures.looks_index tells.1).crash })
-          (sym stands.keeps.settings) c.in-Ok.ensures.limits (c.in-Ok.ensures.faults.calm (λ no. no)) refl c.run-end.result
+          (sym holds.has.keeps.settings) c.in-Ok.ensures.limits (c.in-Ok.ensures.faults.calm (λ no. no)) refl c.run-end.result
           (c.run-end.ensures.runs tells_input tells_out (opened state) stands) in
           let closed = subst (λ (d : _). Outcome (device_sight both state.settings c.args.limits) c.run-end.result (opened state) (lines_of left)
           (sides left held first) (sides left' held' (devices_of d (index_device c.run-end.new.steps.engine)))) (sym c.close-rows.ensures.rows) outcome in
@@ -64,7 +79,7 @@ returns-in-Err-clause-unopened g c = record {
   rows = c.in-Err.ensures.looks_rows;
   index = c.in-Err.ensures.looks_index;
   why = λ tells. is_why c.in-Err.error (g.D.Disk.seen c.args.rows 0) (g.E.Disk.seen c.args.index 0) (λ e. c.in-Err.ensures.not_created e tells.0)
-      (λ file at_ e. let damaged = c.in-Err.ensures.damaged_rows file at_ e in (damaged.0, damaged.1 tells.0))
+      (λ file at_ e. let damaged = c.in-Err.ensures.damaged_rows file at_ e in (damaged.0, damaged.1 tells.0 tells.1))
       (λ file at_ e. let damaged = c.in-Err.ensures.damaged_index file at_ e in (damaged.0, damaged.1 tells.0 tells.1));
   fault = c.in-Err.ensures.faults;
 }
