@@ -241,11 +241,13 @@ fn batch_in(alloc: Global, payload: &[u8]) -> Result<Option<ReadBatch>, AllocErr
         → CanCome turns s entry → ⊥ }
 {
     match decode(alloc, payload) {
-        Ok(Entry::Sealed {
-            through,
-            synced,
-            nodes,
-        }) => Ok(Some(ReadBatch {
+        Ok(
+            Entry::Sealed {
+                through,
+                synced,
+                nodes,
+            },
+        ) => Ok(Some(ReadBatch {
             through,
             synced,
             nodes,

@@ -367,6 +367,36 @@ fn a_batch_is_listed(rt: HostRuntime) -> Result<(), Fail> {
     Ok(())
 }
 
+/// The engine that an opening makes of what another one wrote.
+fn opened_again(
+    alloc: Global,
+    engine: Engine<MemDisk, MemDisk>,
+) -> Option<Engine<MemDisk, MemDisk>> {
+    open(alloc, engine.close(), 2, 4_096).ok()
+}
+
+#[test]
+fn batches_are_found_again(rt: HostRuntime) -> Result<(), Fail> {
+    let alloc = rt.alloc();
+    let mut left = two_commits(alloc);
+    for (through, tables, cache) in [(1, 3, 3), (2, 4, 0), (3, 4, 0)] {
+        let Some(mut engine) = left else {
+            return Err(Fail::from("not opened"));
+        };
+        assert_eq!(rt; engine.sync_batch(), flushes(through));
+        let Some(again) = opened_again(alloc, engine) else {
+            return Err(Fail::from("not opened again"));
+        };
+        assert_eq!(rt;
+            listed_in_both(&again),
+            [Some((2, tables)), Some((2, cache))]
+        );
+        assert!(rt; finds_after(alloc, &again, 2, &FOUND));
+        left = Some(again);
+    }
+    Ok(())
+}
+
 /// A text of so many words.
 fn pears(alloc: Global, count: usize) -> Result<Vec<u8>, AllocError>
     ensures { IfOk result (λ text. IsText text.items) }
@@ -481,6 +511,102 @@ fn an_index_log_has_no_entry(rt: HostRuntime) -> Result<(), Fail> {
             at,
         });
         assert_eq!(rt; open(alloc, (rows, index), 2, 4_096).err(), damage);
+    }
+    Ok(())
+}
+
+/// The devices of a database of one row of one word, which is flushed.
+fn flushed_apple(alloc: Global) -> Option<(MemDisk, MemDisk)> {
+    let Ok(apple) = one_row(alloc, 7, b"apple", b"") else {
+        return None;
+    };
+    let mut engine = behind(new_engine(alloc, 1), &apple)?;
+    match engine.sync_batch() {
+        Ok(_) => Some(engine.close()),
+        Err(_) => None,
+    }
+}
+
+/// The index log of one batch of one word.
+const ONE_BATCH: &[u8] = b"FTSINDX1\x01\x00\x00\x00\x22\
+    \x01\x00\x00\x00\x00\x00\x00\x00\x01\x00\x00\x00\x00\x00\x00\x00\x01\
+    \x00\x00\x00\x01\x05apple\x00\x00\x00\x03\x81\x81\x00\x00";
+
+/// The first place at fault in an index log over the commit of this row, if one is.
+fn place_at_fault(alloc: Global, bytes: Vec<u8>) -> Result<Option<u64>, Fail> {
+    let Some((rows, _)) = flushed_apple(alloc) else {
+        return Err(Fail::from("no database"));
+    };
+    let files = vec![in alloc; bytes]?;
+    let index = MemDisk::from_files(alloc, files, Vec::new(alloc))?;
+    match open(alloc, (rows, index), 2, 4_096) {
+        Ok(_) => Ok(None),
+        Err(
+            OpenError::Damaged {
+                device: Device::Index,
+                file: 0,
+                at,
+            },
+        ) => Ok(Some(at)),
+        Err(_) => Err(Fail::from("not the index log")),
+    }
+}
+
+#[test]
+fn a_batch_is_written_so(rt: HostRuntime) -> Result<(), Fail> {
+    let Some((_, index)) = flushed_apple(rt.alloc()) else {
+        return Err(Fail::from("no database"));
+    };
+    assert_eq!(rt; index.file(0), ONE_BATCH);
+    Ok(())
+}
+
+#[test]
+fn a_batch_that_is_cut_is_damaged(rt: HostRuntime) -> Result<(), Fail> {
+    let alloc = rt.alloc();
+    for len in 0..48 {
+        let (front, _) = ONE_BATCH.split_at(len);
+        let place = match len {
+            0..=7 => 0,
+            8..=46 => 8,
+            _ => 47,
+        };
+        assert_eq!(rt;
+            place_at_fault(alloc, front.to_vec(alloc)?)?,
+            Some(place),
+            "cut at {len}"
+        );
+    }
+    Ok(())
+}
+
+/// A byte of the log that is another, and the first place at fault: of the words nothing tells
+/// which the rows have.
+const CHANGED: [(usize, u8, Option<u64>); 12] = [
+    (7, b'2', Some(0)),
+    (8, 0, None),
+    (12, 35, Some(8)),
+    (13, 5, Some(8)),
+    (21, 2, Some(8)),
+    (29, 2, Some(8)),
+    (33, 2, Some(8)),
+    (35, b'A', Some(8)),
+    (35, b'o', None),
+    (44, 0x82, Some(8)),
+    (47, 1, Some(47)),
+    (47, 2, None),
+];
+
+#[test]
+fn a_batch_of_other_bytes_is_damaged_or_another(rt: HostRuntime) -> Result<(), Fail> {
+    let alloc = rt.alloc();
+    for (place, byte, at) in CHANGED {
+        let mut bytes = ONE_BATCH.to_vec(alloc)?;
+        let Some(slot) = bytes.get_mut(place) else {
+            return Err(Fail::from("no such place"));
+        };
+        *slot = byte;
+        assert_eq!(rt; place_at_fault(alloc, bytes)?, at, "{byte} at {place}");
     }
     Ok(())
 }
