@@ -622,13 +622,9 @@ fn told_syncs(alloc: Global, steps: &mut Direct<MemDisk, MemDisk>) -> Result<Vec
     Ok(all)
 }
 
-/// Those of such a database.
-fn synced_twice(
-    alloc: Global,
-    log_bytes: u64,
-    fails: Vec<(Kind, u64)>,
-) -> Result<Vec<u8>, AllocError> {
-    let mut steps = new_steps(alloc, log_bytes, fails)?;
+/// Those of a database's first steps.
+fn synced_twice(alloc: Global, steps: Direct<MemDisk, MemDisk>) -> Result<Vec<u8>, AllocError> {
+    let mut steps = steps;
     told_syncs(alloc, &mut steps)
 }
 
@@ -645,7 +641,8 @@ const FULL: [(u64, &str); 2] = [
 fn a_full_index_log_refuses_a_sync(rt: HostRuntime) -> Result<(), Fail> {
     let alloc = rt.alloc();
     for (log_bytes, want) in FULL {
-        let told = synced_twice(alloc, log_bytes, Vec::new(alloc))?;
+        let steps = new_steps(alloc, log_bytes, Vec::new(alloc))?;
+        let told = synced_twice(alloc, steps)?;
         assert_eq!(rt; told.as_slice(), want.as_bytes(), "of {log_bytes}");
     }
     Ok(())
@@ -666,7 +663,8 @@ const FAULTS: [(Kind, u64); 4] = [
 fn a_fault_in_a_sync_stops_the_engine(rt: HostRuntime) -> Result<(), Fail> {
     let alloc = rt.alloc();
     for fails in FAULTS {
-        let told = synced_twice(alloc, 4_096, vec![in alloc; fails]?)?;
+        let steps = new_steps(alloc, 4_096, vec![in alloc; fails]?)?;
+        let told = synced_twice(alloc, steps)?;
         assert_eq!(rt; told.as_slice(), FAULT.as_bytes(), "at {fails:?}");
     }
     Ok(())

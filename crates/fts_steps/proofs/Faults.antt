@@ -1,5 +1,5 @@
 -- A rows log is a created one, and an index log has no place at fault.
-use Rattle.std.proofs.Common.{◌≡◌, ℕ, ◌+◌, List, [], ◌∷◌, ◌++◌, map, take, length, refl, ap, subst, sym, ◌∙◌, append_assoc, inl, inr, zero, suc, arith}
+use Rattle.std.proofs.Common.{◌≡◌, ℕ, ◌+◌, List, [], ◌∷◌, ◌++◌, map, take, refl, ap, subst, sym, ◌∙◌, append_assoc, inl, inr, zero, suc, arith}
 use Rattle.std.proofs.lemmas.List.{take-map, take-append-le}
 use Rattle.std.proofs.lemmas.List.Elements.{All-take}
 use Rattle.fts_commits.specs.Commit.{Commit, no_rows}

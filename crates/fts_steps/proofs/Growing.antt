@@ -7,7 +7,7 @@ use Rattle.fts_types.specs.declared.settings.Settings.{Settings}
 use Rattle.fts_types.specs.Rules.{rules_of}
 use Rattle.fts_commits.specs.Commit.{Commit, Rows, no_rows, rows_after, replay}
 use Rattle.fts_commits.specs.Turn.{Turn, AreTurns, rows_by, turn_between, turns_from}
-use Rattle.fts_entries.specs.Entry.{Batch, IndexEntry, IndexState, sealed, index_of, after_entry}
+use Rattle.fts_entries.specs.Entry.{Batch, IndexState, sealed, index_of}
 use Rattle.fts_entries.specs.Batch.{IsBatch, after_batch}
 use Rattle.fts_entries.specs.Coming.{AreEntries}
 use Rattle.fts_entries.specs.Exact.{FitsTurns, IsExact}
@@ -15,7 +15,7 @@ use Rattle.fts_entries.proofs.Commits.{one_exact, same_index, commits_exact}
 use Rattle.fts_entries.proofs.Kept.{still_exact, same_state, can_seal}
 use Rattle.fts_entries.proofs.Coming.{entries_more, entries_through, entries_fit, come_behind, index_behind}
 use Rattle.fts_ixcodec.specs.Payload.{IsEntry}
-use Rattle.fts_steps.specs.State.{State, HasEntries, IsRight, turns_of, index_state, with_commits, with_entries, created_with}
+use Rattle.fts_steps.specs.State.{State, HasEntries, IsRight, turns_of, index_state, with_commits, with_entries}
 
 -- the turns of more commits stand behind those of the commits
 pub turns_more : (rows : Rows) (commits more : List Commit)
@@ -59,10 +59,13 @@ right_stays state commit known knows has right =
   where
     s : IndexState
     s = index_state state
+
     turns : List Turn
     turns = turns_of state
+
     commits : List Commit
     commits = state.commits ++ commit ∷ []
+
     turn : Turn
     turn = turn_between (replay state.commits) (rows_after (replay state.commits) commit)
 
