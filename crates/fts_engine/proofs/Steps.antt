@@ -16,7 +16,8 @@ use Rattle.fts_steps.specs.State.{State, payloads, index_payloads, index_state, 
 use Rattle.fts_steps.specs.Crash.{MayHold, MayHoldIndex, IsBetween, IsIndexBetween}
 use Rattle.fts_steps.specs.Running.{Running, What, made, batched, failed, loosened, grown, with_what, next_index, next_batch, next_flushed}
 use Rattle.fts_steps.specs.Step.{Ask, to_commit, to_sync, Answer, disk_fault, committed, flushed, stopped, is_disk_fault, changes_of, after, unless_stopped, MayAnswer, Steps, plain_answer}
-use Rattle.fts_steps.proofs.Growing.{entries_stay, index_stays, right_stays}
+use Rattle.fts_steps.proofs.Adding.{rows_stay, index_stay}
+use Rattle.fts_steps.proofs.Growing.{index_stays, right_stays}
 use Rattle.fts_types.specs.declared.settings.Settings.{Settings}
 use Rattle.fts_engine.specs.declared.engine.Engine.{Engine}
 use Rattle.fts_engine.specs.Kept.{kept_settings, kept_rows, kept_limits, IsIndexed, StaysIndexed}
@@ -36,13 +37,6 @@ no_entry_more state file index =
     subst (λ (entries : List IndexEntry). IsIndex (record { settings = state.settings; commits = state.commits; entries = entries }) file) (sym (append-nil state.entries)) index
 
 -- the rows log is that of a state with more entries too, and the index log that of one with more commits
-rows_stay : (state : State) (more : List IndexEntry) (file : List ℕ) → IsRows state file → IsRows (with_entries state more) file
-rows_stay state more file rows =
-    record { sound = record { settings = rows.sound.settings; written = rows.sound.written; accepted = rows.sound.accepted }; log = rows.log }
-
-index_stay : (state : State) (more : List Commit) (file : List ℕ) → IsIndex state file → IsIndex (with_commits state more) file
-index_stay state more file index = record { sound = entries_stay state more index.sound; log = index.log }
-
 -- before a commit or behind it is between the two
 between_made : (running : Running) (commit : Commit) → running.doubt ≡ [] → (c : Files) → MayHold running.state (commit ∷ []) c
     → IsBetween running (with_what running (made commit)) c

@@ -9,8 +9,8 @@ use Rattle.fts_entries.specs.Exact.{FitsTurns}
 use Rattle.fts_index.specs.declared.index.Index.{Index}
 use Rattle.fts_index.specs.Index.{StandsFor, AreCommits}
 
--- the rows are those of these commits, and the index stands over them for this state, which fits them. It says nothing of
--- the texts behind the nodes
+-- the rows are those of these commits, and the index stands over them for this state, which fits them. It says nothing
+-- of the texts behind the nodes
 pub record IsIndexOf (settings : Settings) (rows : Rows) (index : Index) (commits : List Commit) (s : IndexState)
     : Type 0 where
   pub same : rows ≡ replay commits

@@ -39,8 +39,8 @@ pub record IsRestored (all read : List (List ℕ)) (j : ℕ) (r : Restoring) : T
   pub covers : IsCovering r of_rows.state.commits (index_state of_rows.state)
 
 -- the same entries were read, and perhaps more commits
-pub record StillRestored (all read : List (List ℕ)) (j : ℕ) {old : Restoring} (was : IsRestored all read j old) (r : Restoring)
-    : Type 0 where
+pub record StillRestored (all read : List (List ℕ)) (j : ℕ) {old : Restoring} (was : IsRestored all read j old)
+    (r : Restoring) : Type 0 where
   pub is : IsRestored all read j r
   pub state : index_state is.of_rows.state ≡ index_state was.of_rows.state
 

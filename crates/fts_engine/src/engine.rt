@@ -30,8 +30,8 @@ use fts_types::Settings;
 use std::alloc::{AllocError, Global};
 
 /// A database that is open: its rows log and its index log, and its settings, its rows and the
-/// index of their words in memory. After a fault of a commit or a batch it takes no more commits and
-/// makes no more batches, and views and listings go on.
+/// index of their words in memory. After a fault of a commit or a batch it takes no more commits
+/// and makes no more batches, and views and listings go on.
 #[derive(Drop)]
 pub struct Engine<D: Disk, E: Disk> {
     pub(crate) alloc: Global,
@@ -126,8 +126,8 @@ impl<D: Disk, E: Disk> Engine<D, E> {
     /// After each of them the engine keeps what it kept.
     ///
     /// - `NoMemory` if memory ran out, for a batch of 4 GiB too. The logs are untouched.
-    /// - `Stopped` exactly where an earlier step answered `DiskFault`, with the sum of the counts of
-    ///   faults at that answer. The logs are untouched.
+    /// - `Stopped` exactly where an earlier step answered `DiskFault`, with the sum of the counts
+    ///   of faults at that answer. The logs are untouched.
     /// - `LogFull` exactly where the index log would end above its limit. The logs are untouched.
     /// - `DiskFault` if the index device failed, with the sum of both devices' counts of faults.
     ///   Whether the batch is in the log is known from a new opening alone.

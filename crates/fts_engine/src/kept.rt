@@ -54,7 +54,8 @@ impl Kept {
     ghost use Rattle.fts_query.specs.Seen.{leaves_seen, view_seen};
     ghost use Rattle.fts_rows.specs.Refusal.{IsNoPlan};
     ghost use Rattle.fts_engine.specs.Kept.{kept_settings, kept_rows, kept_limits, WillKeep};
-    ghost use Rattle.fts_engine.specs.Kept.{IsIndexed, StaysIndexed, IsNextBatch, IsPlanned, CanSync};
+    ghost use Rattle.fts_engine.specs.Kept.{IsIndexed, StaysIndexed, IsNextBatch, IsPlanned};
+    ghost use Rattle.fts_engine.specs.Kept.{CanSync};
 
     /// The settings of the database.
     pub fn settings(&self) -> &Settings

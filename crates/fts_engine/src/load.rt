@@ -110,8 +110,8 @@ fn load_rest<D: Disk>(
     }
 }
 
-// The index log is at fault at this place: so it is told, unless the rows log is at fault behind the
-// commits that were read.
+// The index log is at fault at this place: so it is told, unless the rows log is at fault behind
+// the commits that were read.
 pub fn held_back<D: Disk>(
     alloc: Global,
     rows: &mut Records<D>,

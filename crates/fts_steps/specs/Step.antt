@@ -160,8 +160,8 @@ Leaves below P old new = (below.device new ≡ below.device old)
     ⊎ LeavesOnly below.disk (below.device old) (below.device new) P
 
 -- a step: `more` is what others added before it. It answers as it may on the engine grown so, and what stands then
--- stands for this engine after the answer. Where there are no others, a crash at any moment leaves of each log what stood
--- before it or what stands behind it
+-- stands for this engine after the answer. Where there are no others, a crash at any moment leaves of each log what
+-- stood before it or what stands behind it
 pub record Steps {S : Type 0} (sight : Sight S) (ask : Ask) (answer : Answer) (old new : S) : Type 0 where
   pub more : List Entry
   pub alone : sight.is_shared ≡ false → more ≡ []
