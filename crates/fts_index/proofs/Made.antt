@@ -1,30 +1,23 @@
 -- Commits and batches of an index, one after another.
-use Rattle.std.proofs.Common.{◌≡◌, ◌≢◌, ℕ, ◌<◌, ◌≤◌, List, [], ◌∷◌, ◌++◌, append-nil, map, length, nat_eq, refl, sym, ap, ap₂, subst, ◌∙◌, arith}
-use Rattle.std.specs.List.{All, AllByRecursion, IsDistinct}
-use Rattle.std.specs.List.Sorted.{IsStrictlySortedBy}
+use Rattle.std.proofs.Common.{◌≡◌, ℕ, ◌<◌, ◌≤◌, List, [], ◌∷◌, ◌++◌, append-nil, map, nat_eq, refl, sym, ap₂, subst, ◌∙◌, arith}
+use Rattle.std.specs.List.{All, IsDistinct}
 use Rattle.std.proofs.lemmas.Grind.{flat_map-append}
-use Rattle.std.proofs.lemmas.List.Elements.{All-from_recursion, recursion_from_All}
+use Rattle.std.proofs.lemmas.List.Elements.{All-from_recursion}
 use Rattle.fts_words.specs.Indexed.{Rules}
 use Rattle.fts_types.specs.Row.{Row, row_of}
 use Rattle.fts_types.specs.declared.row.Row.{Row as Kept}
 use Rattle.fts_commits.specs.Turn.{Turn, RowsAscend, AreTurns, deaths_of}
-use Rattle.fts_ilist.specs.Node.{Docs, NodesAfter, last_of, nodes_for}
-use Rattle.fts_ilist.specs.Packing.{packed, joined}
-use Rattle.fts_entries.specs.Entry.{Batch, no_entries, unflushed_through}
-use Rattle.fts_entries.specs.Batch.{IsBatch, alive_of, largest_after, after_batch}
-use Rattle.fts_entries.specs.Exact.{FitsTurns, IdsAfter}
+use Rattle.fts_entries.specs.Entry.{no_entries}
+use Rattle.fts_entries.specs.Batch.{IsBatch, largest_after, after_batch}
+use Rattle.fts_entries.specs.Exact.{FitsTurns}
 use Rattle.fts_entries.proofs.Commits.{one_fits, none_fits}
-use Rattle.fts_entries.proofs.Kept.{still_fits, same_state, comes_after, can_seal}
-use Rattle.fts_entries.proofs.Packing.{nodes_lower}
-use Rattle.fts_entries.proofs.Postings.{nothing_of_empty}
+use Rattle.fts_entries.proofs.Kept.{still_fits, same_state}
 use Rattle.fts_entries.proofs.Turns.{largest_behind}
 use Rattle.fts_index.specs.declared.index.Index.{Index}
 use Rattle.fts_index.specs.declared.sync.SyncPlan.{SyncPlan}
 use Rattle.fts_index.specs.Births.{AreBirths, turn_of}
 use Rattle.fts_index.specs.Index.{StandsFor, CanTurn, CanAdd}
 use Rattle.fts_index.proofs.Births.{ids_lower}
-use Rattle.fts_index.specs.Restore.{AreRead}
-use Rattle.fts_entries.proofs.Groups.{own_nodes}
 use Rattle.fts_index.specs.Made.{IsMade}
 
 turns_push : (n : ℕ) (turns : List Turn) (turn : Turn) → AreTurns n turns → RowsAscend (largest_after n turns) turn.largest turn.births → All (λ id. id ≤ largest_after n turns) turn.deaths → AreTurns n (turns ++ turn ∷ [])
@@ -122,37 +115,3 @@ made_without rules last id old new made low stands =
 -- births that are lent
 pub lent : (last largest : ℕ) (rows births : List Kept) → births ≡ rows → AreBirths last largest (map row_of rows) → AreBirths last largest (map row_of births)
 lent last largest rows births e are = subst (λ (rs : List Kept). AreBirths last largest (map row_of rs)) (sym e) are
-
--- the next batch of an index that was made has the words that an index log holds
-pub made_read : (rules : Rules) (last : ℕ) (dead : List ℕ) (index : Index) (made : IsMade rules last dead index) (limit through synced : ℕ) (batch : Batch)
-    → IsBatch rules limit made.turns made.state through synced batch → AreRead batch
-made_read rules last dead index made limit through synced batch is =
-    let covered = unflushed_through through made.turns made.state in
-    let empty : nodes_for [] batch ≡ [] = is.nodes [] ∙ ap packed (nothing_of_empty rules (alive_of made.turns covered) made.positive) in
-    let some : AllByRecursion (λ g. g.1 ≢ []) batch = recursion_from_All (λ (g : List ℕ × List Docs). g.1 ≢ []) batch is.filled in
-    record {
-      ascend = is.words;
-      filled = All-from_recursion (λ (g : List ℕ × List Docs). g.0 ≢ []) batch
-          (both batch some (own_nodes (λ word ns. word ≡ [] → ns ≡ []) batch is.words (λ word e. ap (λ (w : List ℕ). nodes_for w batch) e ∙ empty)));
-      nodes = All-from_recursion (λ (g : List ℕ × List Docs). NodesAfter 0 g.1) batch
-          (own_nodes (λ word ns. NodesAfter 0 ns) batch is.words
-          (λ word. nodes_lower 0 (last_of 0 (made.state.nodes word)) (nodes_for word batch) (omega arith)
-          (comes_after rules limit made.turns made.state through synced batch is made.commits.ascend made.fits word)));
-      ids = All-from_recursion (λ (g : List ℕ × List Docs). IdsAfter 0 (joined g.1)) batch
-          (own_nodes (λ word ns. IdsAfter 0 (joined ns)) batch is.words
-          (can_seal rules limit made.turns made.state through synced batch is made.positive made.commits.ascend made.fits).ascend);
-    }
-  where
-    both : (es : Batch) → AllByRecursion (λ g. g.1 ≢ []) es → AllByRecursion (λ g. g.0 ≡ [] → g.1 ≡ []) es → AllByRecursion (λ g. g.0 ≢ []) es
-    both [] some none = tt
-    both (g ∷ es) some none = ((λ e. some.0 (none.0 e)), both es some.1 none.1)
-
--- one word with its nodes
-pub one_word : (word : List ℕ) (nodes : List Docs) (batch : Batch) → batch ≡ (word, nodes) ∷ [] → 0 < length word → NodesAfter 0 nodes → IdsAfter 0 (joined nodes) → AreRead batch
-unfolding IsStrictlySortedBy
-one_word word nodes batch is some after ids = subst AreRead (sym is) (record {
-  ascend = (tt, tt);
-  filled = All-from_recursion (λ (g : List ℕ × List Docs). g.0 ≢ []) ((word, nodes) ∷ []) ((λ (e : word ≡ []). (let none : length word ≡ 0 = ap length e in omega (arith, some, none))), tt);
-  nodes = All-from_recursion (λ (g : List ℕ × List Docs). NodesAfter 0 g.1) ((word, nodes) ∷ []) (after, tt);
-  ids = All-from_recursion (λ (g : List ℕ × List Docs). IdsAfter 0 (joined g.1)) ((word, nodes) ∷ []) (ids, tt);
-})
