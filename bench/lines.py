@@ -60,10 +60,6 @@ class Model:
     def __init__(self, batch_docs, cache_bytes):
         self.batch_docs, self.cache_bytes = batch_docs, cache_bytes
         self.rows, self.turns, self.largest = {}, [], 0
-        self.open()
-
-    def open(self):
-        """The index is in memory: an opened database has nothing flushed."""
         self.flushed, self.synced, self.deleted, self.nodes = 0, 0, set(), {}
 
     # changes of rows
@@ -296,7 +292,6 @@ def tried(seed, count):
         if subprocess.run([SCRIPT, folder, "create"] + words, stdout=subprocess.DEVNULL).returncode:
             return None
         for done in range(0, count, RUN_LINES):
-            model.open()
             chunk = [lines.next() for _ in range(min(RUN_LINES, count - done))]
             script = "".join(line + "\n" for line, _ in chunk)
             ran = subprocess.run([SCRIPT, folder, "run"], input=script, capture_output=True, text=True)
