@@ -2,9 +2,11 @@
 """Times changes of a database that has rows already: bench/churn.py [ROWS ..]
 
 Mails as in bench/queries.py, each INSERT a commit, into a database with the default cache. Then changes, of each kind as many
-as a twentieth of the rows, but at most 3,000: an INSERT, an UPDATE of a random row and a DELETE of another, in turn.
-Told is the processor's time of one of each kind, batches that follow it included, and that of a search for a word before any
-change, behind them, and behind a tenth of the rows died and all is flushed. It needs Python 3 and Linux, and works below TMPDIR.
+as a twentieth of the rows, but at most 3,000: an INSERT, an UPDATE of a random row and a DELETE of another, in turn. Then rows
+die until a tenth has, all is flushed, and OPTIMIZE works up to the finish of its pass.
+Told is the processor's time of one of each kind, batches that follow it included, that of a word of the pass and how much the
+index log grew in it, and that of a search for a word before any change, behind them, with a tenth dead and behind the pass. With
+--churn OPTIMIZE stands among the changes too, behind each hundred of each kind. It needs Python 3 and Linux, and works below TMPDIR.
 """
 import argparse
 import os
@@ -16,6 +18,7 @@ from queries import MATCH, TOP, Fts, texts_of, word_of
 
 UPDATE = "UPDATE docs SET body = '%s' WHERE id = %d\n"
 DELETE = "DELETE FROM docs WHERE id = %d\n"
+OPTIMIZE = "OPTIMIZE TABLE docs\n"
 WORDS = {"a rare word": (5_000, 40_000), "a word of the middle": (300, 1_500), "a frequent word": (100, 200)}
 LEAST_OF = 5
 
@@ -30,12 +33,31 @@ def searches(fts):
     return told
 
 
-def changes(fts, texts, rows, count):
-    """The mean times of an INSERT, an UPDATE and a DELETE, made in turn, hundred by hundred."""
+def optimized(fts):
+    """How many words an OPTIMIZE worked on, the microseconds that it took, and whether its pass has ended."""
+    replies, took = fts.ask([OPTIMIZE])
+    reply = replies[0].decode().split()
+    if reply[2] == "nothing":
+        return 0, took, True
+    return int(reply[2]), took, reply[-1] == "finished"
+
+
+def whole_pass(fts):
+    """The words of a pass, and the microseconds that all its OPTIMIZEs took."""
+    words, spent, is_finished = 0, 0, False
+    while not is_finished:
+        more, took, is_finished = optimized(fts)
+        words, spent = words + more, spent + took
+    return words, spent
+
+
+def changes(fts, texts, rows, count, is_churn):
+    """The mean times of an INSERT, an UPDATE and a DELETE, made in turn, hundred by hundred, and of a word of OPTIMIZE."""
     draw = random.Random(4)
     keys = list(range(1, rows + 1))
     draw.shuffle(keys)
     spent = {"INSERT": 0, "UPDATE": 0, "DELETE": 0}
+    words, passing = 0, 0
     for first in range(0, count, 100):
         kinds = {
             "INSERT": [INSERT % (rows + first + k + 1, " ".join(texts[first + k])) for k in range(100)],
@@ -44,7 +66,13 @@ def changes(fts, texts, rows, count):
         }
         for kind, lines in kinds.items():
             spent[kind] += fts.ask(lines)[1]
-    return {kind: total / (count / 100) for kind, total in spent.items()}, keys[2 * count :]
+        if is_churn:
+            more, took, _ = optimized(fts)
+            words, passing = words + more, passing + took
+    times = {kind: total / (count / 100) for kind, total in spent.items()}
+    if words:
+        times["a word of OPTIMIZE"] = passing / words
+    return times, keys[2 * count :]
 
 
 def told(times):
@@ -55,6 +83,7 @@ def main():
     parser = argparse.ArgumentParser(description="Times changes of rows.")
     parser.add_argument("rows", nargs="*", type=int, default=[10_000])
     parser.add_argument("--program", default=os.path.join(TOP, "crates/fts/out/fts"))
+    parser.add_argument("--churn", action="store_true", help="with OPTIMIZE among the changes")
     words = parser.parse_args()
     for rows in words.rows:
         texts = texts_of(rows)
@@ -65,7 +94,7 @@ def main():
                 fts.ask(inserts(texts[first : first + 1_000], first + 1))
             fts.ask(["SYNC\n"])
             print(f"{rows:,} mails, before: {told(searches(fts))}", flush=True)
-            times, left = changes(fts, texts, rows, count)
+            times, left = changes(fts, texts, rows, count, words.churn)
             print(f"one of {count:,} each: {told(times)}", flush=True)
             print(f"behind them: {told(searches(fts))}", flush=True)
             dying = left[: rows // 10 - 2 * count]
@@ -73,6 +102,13 @@ def main():
                 fts.ask([DELETE % key for key in dying])
             fts.ask(["SYNC\n"])
             print(f"a tenth dead, all flushed: {told(searches(fts))}", flush=True)
+            index = f"{folder}/db/index.log"
+            before = os.path.getsize(index)
+            many, spent = whole_pass(fts)
+            grown = (os.path.getsize(index) - before) / 1e6
+            print(f"a pass of {many:,} words: {spent / 1e3:.0f} ms, {spent / max(many, 1):.1f} us a word,", end=" ")
+            print(f"{grown:.1f} MB behind {before / 1e6:.1f} MB of the index log", flush=True)
+            print(f"behind the pass: {told(searches(fts))}", flush=True)
             end(fts)
 
 

@@ -497,6 +497,32 @@ def create_beside_run(room):
     return shown
 
 
+@case
+def a_commit_without_memory_leaves_its_transaction(room):
+    room.create()
+    process = room.start("shop", "run")
+
+    def asked(line):
+        process.stdin.write(line)
+        process.stdin.flush()
+        return process.stdout.readline().decode().strip()
+
+    same(asked(b"BEGIN\n"), "OK begin", "begin")
+    for key in range(1, 401):
+        same(asked(insert(key, "apple pie " + "x" * 50_000)), f"OK buffered {key}", "a row")
+    with open(f"/proc/{process.pid}/statm") as told_:
+        held = int(told_.read().split()[0]) * resource.getpagesize()
+    resource.prlimit(process.pid, resource.RLIMIT_AS, (held, resource.RLIM_INFINITY))
+    refused = [asked(b"COMMIT\n"), asked(SEARCH), asked(b"COMMIT\n")]
+    same(refused, ["ERROR no memory", "OK as of 0: none", "ERROR no memory"], "with no memory more")
+    resource.prlimit(process.pid, resource.RLIMIT_AS, (resource.RLIM_INFINITY, resource.RLIM_INFINITY))
+    same(asked(b"COMMIT\n"), "OK commit 1", "with memory")
+    same(len(asked(SEARCH).split()), 4 + 400, "what is found")
+    seen = process.communicate(timeout=60)
+    same((process.returncode, seen[1]), (1, b"fts: no memory\n"), "its end")
+    return "refused twice; then its 400 rows are committed, and the status is 1"
+
+
 # Signals
 
 
@@ -679,7 +705,7 @@ def script_on_a_terminal_tells_in_one_line(room):
 def script_without_a_toolchain(room):
     how = script_over(room, None)
     ran = subprocess.run([room.at("tree/fts"), "x"], capture_output=True, text=True, **how)
-    line = "fts: the package rattle-kit-13f is missing: install it, with its rt in PATH\n"
+    line = "fts: the package rattle-kit-13 is missing: install it, with its rt in PATH\n"
     same((ran.returncode, ran.stdout, ran.stderr), (102, "", line), "status and lines")
     return f"status 102, {line.strip()}"
 

@@ -2,21 +2,38 @@
 # Times the rows of a table, with one text of 31 bytes each and keys out of order, at 10,000, 100,000 and 1,000,000 of them: a
 # commit of one row, a look-up by key, one by id and the removal of a row, in nanoseconds, the mean of 1,000; and the process's
 # memory at most, in bytes a row of the million. bench/rows.sh [COMMIT ..]
-# It does so for the tree as it stands, and for each commit that is named, one after another in one run, and tells 0 for a removal
-# where there is none; it needs `rt` and `python3`, and proves fts_rows with the test that takes the times.
+# It does so for the last commit of the tree, and for each commit that is named: it builds all first, and then times them in three
+# turns, one after another in each. It tells next to nothing for a removal where there is none; it needs `rt` and `python3`, and proves
+# fts_rows with the test that takes the times.
 top=$(CDPATH='' cd -- "$(dirname -- "$0")/.." && pwd) || exit 1
 folder=$(mktemp -d) || exit 1
 trap 'rm -rf "$folder"' EXIT
+
+# The parts of the test that differ: how a change holds its texts ($texts, of the type $held), and what earlier trees ask of
+# changes ($plain, $given, $made and $asked), which had INSERTs alone.
+choose_parts() {
+    held=RowTexts texts=texts plain='' given='' made='' asked=''
+    if [ -f "$1/crates/fts_types/src/shared.rt" ]; then
+        held=SharedTexts texts='Held::new(alloc, texts)?'
+    fi
+    if grep -q IsPlainInsert "$1/crates/fts_rows/src/planning.rt"; then
+        plain='ghost use Rattle.fts_commits.specs.Fits.{IsPlainInsert};'
+        given='ensures { IsPlainInsert result }'
+        made='ensures { IfOk result (λ changes. All IsPlainInsert changes.items) }'
+        asked='requires inserts { All IsPlainInsert changes.now }'
+    fi
+}
 
 # The test, whose last line fails and tells the times. It stands in place of the crate's own tests. $1 takes a row out.
 timed_test() {
     cat <<TEST
 ghost use Rattle.std.specs.Prelude.{◌<◌, All, IfOk};
-ghost use Rattle.fts_commits.specs.Fits.{IsPlainInsert};
+$plain
 
 use super::*;
 use fts_commits::Change;
 use fts_types::{Key, Limits, RowTexts};
+use fts_types::$held as Held;
 use std::alloc::{AllocError, Global};
 use std::process::Abort;
 use std::rt::Clock;
@@ -34,27 +51,27 @@ fn spread(step: u64, count: u64) -> u64
     step.wrapping_mul(7_919_777) % count
 }
 
-fn insert(key: Key, texts: RowTexts) -> Change
-    ensures { IsPlainInsert result }
+fn insert(key: Key, texts: Held) -> Change
+    $given
 {
     let doc = None;
     Change::Insert { key, doc, texts }
 }
 
 fn inserts(alloc: Global, keys: &[Key]) -> Result<Vec<Change>, AllocError>
-    ensures { IfOk result (λ changes. All IsPlainInsert changes.items) }
+    $made
 {
     let mut changes = Vec::new(alloc);
     for key in keys {
         let mut texts = RowTexts::new(alloc);
         texts.push(vec![in alloc; b'a'; 31]?)?;
-        changes.push(insert(*key, texts))?;
+        changes.push(insert(*key, $texts))?;
     }
     Ok(changes)
 }
 
 fn commit(rows: &mut Rows, changes: &[Change]) -> Result<(), PlanError>
-    requires inserts { All IsPlainInsert changes.now }
+    $asked
 {
     let plan = rows.plan(changes)?;
     rows.install(plan);
@@ -171,24 +188,28 @@ subprocess.run(sys.argv[1:])
 print(resource.getrusage(resource.RUSAGE_CHILDREN).ru_maxrss * 1024 // 1000000, "bytes a row")' "$@"
 }
 
-# Times the tree in this folder.
-run() {
+# Builds the test in the tree of this folder.
+build() {
     cd "$1/crates/fts_rows" || exit 1
+    choose_parts "$1"
     if grep -q 'pub fn remove(' src/rows.rt; then
         timed_test 'let _row = rows.remove(key);' >src/tests.rt
     else
         timed_test 'let _key = key;' >src/tests.rt
     fi
     rt test 2>&1 | grep -E 'error|no proof|not proved' | head -20
-    measured ./out/fts_rows_tests tests::times 2>&1 | grep -E 'left|bytes a row'
 }
 
-git -C "$top" archive HEAD | (mkdir "$folder/now" && tar -x -C "$folder/now") || exit 1
-for commit in "$@"; do
+for commit in HEAD "$@"; do
     git -C "$top" archive "$commit" | (mkdir "$folder/$commit" && tar -x -C "$folder/$commit") || exit 1
-    echo "$commit: nanoseconds a commit, by key, by id and a removal, at each number of rows:"
-    (run "$folder/$commit")
+    (build "$folder/$commit")
 done
-echo "now: nanoseconds a commit, by key, by id and a removal, at each number of rows:"
-(run "$folder/now")
-uptime
+echo "nanoseconds a commit, by key, by id and a removal, at each number of rows:"
+for turn in 1 2 3; do
+    for commit in HEAD "$@"; do
+        echo "$commit, turn $turn:"
+        (cd "$folder/$commit/crates/fts_rows" &&
+            measured ./out/fts_rows_tests tests::times 2>&1 | grep -E 'left|bytes a row')
+    done
+    uptime
+done

@@ -23,4 +23,4 @@ SELECT * FROM information_schema.innodb_ft_config
 -- Nothing is left to flush behind the second of these.
 SYNC
 SYNC
-SELECT * FROM INFORMATION_SCHEMA.INNODB_FT_BEING_DELETED
+SELECT * FROM INFORMATION_SCHEMA.INNODB_FT_WORDS

@@ -14,6 +14,7 @@ MOST_ROWS = 1_000_000
 MOST_TEXT_BYTES = 65_535
 LEAST_KEY_PAST = 2**64
 MOST_LOG_BYTES = 2**32
+MOST_CHANGES = 1_000
 MOST_DOC_STEP = 65_535
 LARGEST_DOC = 2**63 - 1
 PIECE = 65_536
@@ -84,9 +85,13 @@ def log_bytes_of_settings(columns):
     return 29 + sum(1 + len(it) for it in columns)
 
 
+# How many bytes of the log a commit takes beside its rows.
+LOG_BYTES_OF_COMMIT = 8
+
+
 def log_bytes_of(doc, texts):
     """How many bytes of the log a row takes, with a document id or none."""
-    return (18 if doc is None else 26) + sum(2 + len(it) for it in texts)
+    return (10 if doc is None else 18) + sum(2 + len(it) for it in texts)
 
 
 def cut(texts):
@@ -145,6 +150,9 @@ class Script:
         self.row_bytes = 0
         # The document id of the last row.
         self.doc = 0
+        # How many rows a transaction has, and how many the open one has so far.
+        self.transaction = 1
+        self.pending = 0
         self.status = 0
         # At most a million: where a key comes twice, the engine refuses it and gives no id.
         self.keys = set()
@@ -175,9 +183,24 @@ class Script:
         self.take_room(place, given, texts)
         self.doc = self.doc + 1 if given is None else given
         key = self.rows if key is None else key
-        self.write(self.out, insert_of(self.columns, key, given, texts))
+        self.write_row(insert_of(self.columns, key, given, texts))
         if self.map_file:
             self.write(self.map_file, f"{self.doc}\t{one_line(label)}\n")
+
+    def write_row(self, statement):
+        """Writes the statement of a row, in a transaction where each has more than one."""
+        if self.transaction > 1 and self.pending == 0:
+            self.write(self.out, "BEGIN\n")
+        self.write(self.out, statement)
+        self.pending += 1
+        if self.pending == self.transaction:
+            self.commit()
+
+    def commit(self):
+        """Ends the open transaction, where there is one."""
+        if self.transaction > 1 and self.pending > 0:
+            self.write(self.out, "COMMIT\n")
+        self.pending = 0
 
     def next_doc(self, place, doc):
         """The document id as a number, or none where the engine would refuse it behind the last."""
@@ -191,6 +214,7 @@ class Script:
     def take_room(self, place, doc, texts):
         """Counts a row. Where the database has no room for it, nothing is written any more."""
         self.row_bytes += log_bytes_of(doc, texts)
+        self.row_bytes += LOG_BYTES_OF_COMMIT if self.pending == 0 else 0
         if self.rows == MOST_ROWS:
             raise Full(place, f"{MOST_ROWS} rows are the most")
         if log_bytes_of_settings(self.columns) + self.row_bytes > MOST_LOG_BYTES:
@@ -246,7 +270,20 @@ def parser_of(tool, description):
     parser.add_argument(
         "--map", metavar="FILE", help="write a line for each row: its document id, a tab, its name"
     )
+    parser.add_argument(
+        "--transaction",
+        metavar="ROWS",
+        type=rows_of_transaction,
+        default=1,
+        help=f"commit so many rows at once: 1 to {MOST_CHANGES}, by default 1",
+    )
     return parser
+
+
+def rows_of_transaction(text):
+    if re.fullmatch(r"[1-9][0-9]{0,3}", text) and int(text) <= MOST_CHANGES:
+        return int(text)
+    raise argparse.ArgumentTypeError(f"{text!r} is no number from 1 to {MOST_CHANGES}")
 
 
 def opened(parser, path, mode):
@@ -276,6 +313,7 @@ def convert(parser, words, rows_of):
         parser.error(f"{words.map}: the archive is no place for the map")
     map_file = opened(parser, words.map, "wb") if words.map else None
     script = Script(parser.prog, sys.stdout.buffer, map_file)
+    script.transaction = words.transaction
     try:
         try:
             rows_of(words, source, script)
@@ -285,6 +323,7 @@ def convert(parser, words, rows_of):
         except Full as full:
             place, why = full.args
             script.skip(place, f"left out with all behind: {why}")
+        script.commit()
         script.flush()
     except Unwritten as why:
         print(f"{parser.prog}: {why}", file=sys.stderr)

@@ -1,9 +1,9 @@
 -- Words ask for one command alone.
 use Rattle.std.proofs.Common.{◌≡◌, ◌∙◌, ℕ, List, Option, Some, ap, codes, refl, slice_index, subst, sym, arith}
 use Rattle.clap.specs.Words.{Row, Text}
-use Rattle.fts_args.specs.Asked.{Asks, HasOptions, IsCommand}
+use Rattle.fts_args.specs.Asked.{Asks, HasOptions, HasNumbers, IsCommand}
 use Rattle.fts_args.specs.declared.command.Command.{Command}
-use Rattle.fts_args.specs.declared.command.Command.TheVariants.{Create, Run}
+use Rattle.fts_args.specs.declared.command.Command.TheVariants.{Create, Run, Gen}
 use Rattle.fts_types.specs.declared.settings.Settings.{Settings}
 
 -- what is read of one value is one value
@@ -29,17 +29,23 @@ one_options rows s t columns h k =
       batch_docs = batch_docs i;
     }
 
-two_names : (name : Text) → name ≡ codes "create" → name ≡ codes "run" → ⊥
-two_names name create run =
-    let first : slice_index (codes "create") 0 ≡ slice_index (codes "run") 0 = ap (λ (t : Text). slice_index t 0) (sym create ∙ run) in
-    let bad : ◌≡◌ {A = ℕ} 99 114 = first in
-    omega arith
+-- names that begin with different letters are not one
+two_names : (name one other : Text) → (slice_index one 0 ≡ slice_index other 0 → ⊥) → name ≡ one → name ≡ other → ⊥
+two_names name one other apart is is2 = apart (ap (λ (t : Text). slice_index t 0) (sym is ∙ is2))
+
+one_script : (rows : List Row) (a b n m : ℕ) → HasNumbers rows a n → HasNumbers rows b m → Gen a n ≡ Gen b m
+one_script rows a b n m h k = ap (λ (s : ℕ). Gen s n) (same _ _ _ h.seed k.seed) ∙ ap (Gen b) (same _ _ _ h.count k.count)
 
 one_command : (met : Text × List Row) (one other : Command) → IsCommand met one → IsCommand met other → one ≡ other
 one_command met (Create s) (Create t) h k = ap Create (one_options met.1 s t (same _ _ _ h.1.columns k.1.columns) h.1.options k.1.options)
-one_command met (Create s) Run h k = absurd (two_names met.0 h.0 k)
-one_command met Run (Create t) h k = absurd (two_names met.0 k.0 h)
+one_command met (Create s) Run h k = absurd (two_names met.0 (codes "create") (codes "run") (λ (e : ◌≡◌ {A = ℕ} 99 114). omega arith) h.0 k)
+one_command met (Create s) (Gen b m) h k = absurd (two_names met.0 (codes "create") (codes "gen") (λ (e : ◌≡◌ {A = ℕ} 99 103). omega arith) h.0 k.0)
+one_command met Run (Create t) h k = absurd (two_names met.0 (codes "run") (codes "create") (λ (e : ◌≡◌ {A = ℕ} 114 99). omega arith) h k.0)
 one_command met Run Run h k = refl
+one_command met Run (Gen b m) h k = absurd (two_names met.0 (codes "run") (codes "gen") (λ (e : ◌≡◌ {A = ℕ} 114 103). omega arith) h k.0)
+one_command met (Gen a n) (Create t) h k = absurd (two_names met.0 (codes "gen") (codes "create") (λ (e : ◌≡◌ {A = ℕ} 103 99). omega arith) h.0 k.0)
+one_command met (Gen a n) Run h k = absurd (two_names met.0 (codes "gen") (codes "run") (λ (e : ◌≡◌ {A = ℕ} 103 114). omega arith) h.0 k)
+one_command met (Gen a n) (Gen b m) h k = one_script met.1 a b n m h.1 k.1
 
 pub asks_one : (words : List Text) (one other : Command) → Asks words one → Asks words other → one ≡ other
 asks_one words one other h k =

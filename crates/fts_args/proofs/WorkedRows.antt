@@ -130,3 +130,35 @@ flag_with_value = refl
 word_after_create : fault_of command_line (create (codes "a" ∷ codes "x" ∷ [])) ≡ kind.UnknownArgument ∷ []
 unfolding clap_on_literals
 word_after_create = refl
+
+-- `D gen 1 5`
+abbrev generated : Text → Text → List Text
+generated seed count = codes "D" ∷ codes "gen" ∷ seed ∷ count ∷ []
+
+generated_taken : fault_of command_line (generated (codes "65535") (codes "1000000")) ≡ []
+unfolding clap_on_literals
+generated_taken = refl
+
+generated_name : name_of (generated (codes "1") (codes "5")) ≡ Some (codes "gen")
+unfolding clap_on_literals
+generated_name = refl
+
+generated_seed : number_in 16 (codes "seed") (options_of (generated (codes "1") (codes "5"))) ≡ Some 1
+unfolding clap_on_literals
+generated_seed = refl
+
+generated_count : number_in 32 (codes "count") (options_of (generated (codes "1") (codes "5"))) ≡ Some 5
+unfolding clap_on_literals
+generated_count = refl
+
+seed_too_large : fault_of command_line (generated (codes "65536") (codes "1")) ≡ kind.ValueValidation ∷ []
+unfolding clap_on_literals
+seed_too_large = refl
+
+count_too_large : fault_of command_line (generated (codes "1") (codes "1000001")) ≡ kind.ValueValidation ∷ []
+unfolding clap_on_literals
+count_too_large = refl
+
+no_count : fault_of command_line (codes "D" ∷ codes "gen" ∷ codes "1" ∷ []) ≡ kind.MissingRequiredArgument ∷ []
+unfolding clap_on_literals
+no_count = refl

@@ -1,11 +1,11 @@
 -- What the words of a command line ask for.
-use Rattle.std.specs.Prelude.{◌≡◌, ◌==◌, not, List, [], Option, Some, codes, option_map}
+use Rattle.std.specs.Prelude.{◌≡◌, ◌==◌, ℕ, not, List, [], Option, Some, codes, option_map}
 use Rattle.std.specs.List.{slice_split}
 use Rattle.clap.specs.Words.{Row, Text, fault_of, first_of, subcommand_of}
 use Rattle.fts_args.specs.Line.{command_line}
 use Rattle.fts_args.specs.Options.{flag_in, number_in}
 use Rattle.fts_args.specs.declared.command.Command.{Command}
-use Rattle.fts_args.specs.declared.command.Command.TheVariants.{Create, Run}
+use Rattle.fts_args.specs.declared.command.Command.TheVariants.{Create, Run, Gen}
 use Rattle.fts_types.specs.declared.settings.Settings.{Settings}
 use Rattle.fts_types.specs.Settings.{AreSettings}
 
@@ -28,10 +28,16 @@ pub record HasSettings (rows : List Row) (settings : Settings) : Type 0 where
   pub options : HasOptions rows settings
   pub fit : AreSettings settings
 
+-- the words of `gen` say these two numbers
+pub record HasNumbers (rows : List Row) (first second : ℕ) : Type 0 where
+  pub seed : number_in 16 (codes "seed") rows ≡ Some first
+  pub count : number_in 32 (codes "count") rows ≡ Some second
+
 -- what a subcommand asks for, by its name and the rows of its options
 abbrev pub IsCommand : Text × List Row → Command → Type 0
 IsCommand met (Create settings) = (met.0 ≡ codes "create") × HasSettings met.1 settings
 IsCommand met Run = met.0 ≡ codes "run"
+IsCommand met (Gen seed count) = (met.0 ≡ codes "gen") × HasNumbers met.1 seed count
 
 -- what the subcommand that was met asks for, if one was
 abbrev pub IsAsked : Option (Text × List Row) → Command → Type 0

@@ -14,6 +14,10 @@ abbrev pub number_option : Text → ℕ → ℕ → Text → Rule
 number_option name least most default =
     record (text_option name) { parser = Some (Unsigned least most); defaults = default ∷ [] }
 
+-- a word that is a number of at most `most`, and must be there
+abbrev pub number_argument : Text → ℕ → Rule
+number_argument name most = record (new_rule name) { parser = Some (Unsigned 0 most); required = true }
+
 abbrev pub create_options : List Rule
 create_options =
     record (text_option (codes "columns")) { required = true }
@@ -27,6 +31,11 @@ create_options =
 abbrev pub create_line : Shape
 create_line = record (new_shape (codes "create")) { rules = create_options }
 
+abbrev pub gen_line : Shape
+gen_line = record (new_shape (codes "gen")) {
+  rules = number_argument (codes "seed") 65535 ∷ number_argument (codes "count") 1000000 ∷ [];
+}
+
 -- a subcommand is required, and there is no help
 abbrev pub top_line : App
 top_line = record (new_app (codes "fts")) {
@@ -38,4 +47,5 @@ top_line = record (new_app (codes "fts")) {
 }
 
 abbrev pub command_line : App
-command_line = with_subcommand (with_subcommand top_line create_line) (new_shape (codes "run"))
+command_line =
+    with_subcommand (with_subcommand (with_subcommand top_line create_line) (new_shape (codes "run"))) gen_line

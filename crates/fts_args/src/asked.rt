@@ -55,6 +55,7 @@ fn asked_of(alloc: Global, name: &str, options: &ArgMatches) -> Result<Option<Co
     match name {
         "create" => created_by(alloc, options),
         "run" => Ok(Some(Command::Run)),
+        "gen" => Ok(generated_by(options)),
         _ => Ok(None),
     }
 }
@@ -71,6 +72,17 @@ fn created_by(alloc: Global, options: &ArgMatches) -> Result<Option<Command>, Al
         Some(settings) => Ok(Some(Command::Create { settings })),
         None => Ok(None),
     }
+}
+
+/// The command `gen` with these words.
+fn generated_by(options: &ArgMatches) -> Option<Command>
+    ensures found { IfSome result (IsCommand (codes "gen", rows_of (found_of options.now))) }
+    ensures none { IfNone result ((command : Command)
+        → IsCommand (codes "gen", rows_of (found_of options.now)) command → ⊥) }
+{
+    let seed = short(options, "seed")?;
+    let count = number(options, "count")?;
+    Some(Command::Gen { seed, count })
 }
 
 /// The settings that the options of `create` name.

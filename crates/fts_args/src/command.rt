@@ -10,4 +10,11 @@ pub enum Command {
     },
     /// The statements of the standard input.
     Run,
+    /// The statements of a script that is made from a number.
+    Gen {
+        /// The number.
+        seed: u16,
+        /// How many statements, at most 1,000,000.
+        count: u32,
+    },
 }

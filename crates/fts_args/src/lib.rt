@@ -2,7 +2,8 @@
 //!
 //! [`command_of`] answers the command that the words behind the program's name ask for: of
 //! `shop create --columns body` it is `Command::Create` with the settings that the options name, of
-//! `shop run` it is `Command::Run`, and of any other words there is none. The words are read by
+//! `shop run` it is `Command::Run`, of `shop gen 1 5` it is `Command::Gen`, and of any other words
+//! there is none. The words are read by
 //! [`clap`], from the description of the command line that stands in `src/line.rt`. The grammar is
 //! in `docs/LANGUAGE.md`, "The command line".
 //!

@@ -1,13 +1,14 @@
 ghost use Rattle.std.specs.Prelude.{◌≡◌, IfOk, false};
 ghost use Rattle.clap.specs.Words.{app_of, rule_of, shape_of};
 ghost use Rattle.clap.specs.declared.builder.command.Command.TheViews.{out-Command as fields_of};
-ghost use Rattle.fts_args.specs.Line.{command_line, create_line, number_option, text_option};
+ghost use Rattle.fts_args.specs.Line.{command_line, create_line, gen_line, number_argument};
+ghost use Rattle.fts_args.specs.Line.{number_option, text_option};
 
 use clap::builder::ValueParser;
 use clap::{Arg, ArgAction};
 use std::alloc::{AllocError, Global};
 
-/// The command line: the folder, then `create` with its options or `run`.
+/// The command line: the folder, then `create` with its options, `run`, or `gen` with its numbers.
 pub(crate) fn command_line<'a>(alloc: Global) -> Result<clap::Command<'a>, AllocError>
     ensures { IfOk result (λ line. app_of line ≡ command_line) }
 {
@@ -16,7 +17,8 @@ pub(crate) fn command_line<'a>(alloc: Global) -> Result<clap::Command<'a>, Alloc
         .disable_help_subcommand(true)
         .subcommand_required(true)
         .subcommand(create_line(alloc)?)?
-        .subcommand(clap::Command::new(alloc, "run"))
+        .subcommand(clap::Command::new(alloc, "run"))?
+        .subcommand(gen_line(alloc)?)
 }
 
 /// The subcommand that makes a database, with an option for each of its settings.
@@ -32,6 +34,26 @@ fn create_line<'a>(alloc: Global) -> Result<clap::Command<'a>, AllocError>
         .arg(number_option(alloc, "optimize-words", 1, 10_000, "2000"))?
         .arg(number_option(alloc, "cache-bytes", 1_000, 80_000_000, "8000000"))?
         .arg(number_option(alloc, "batch-docs", 1, 100_000, "1000"))
+}
+
+/// The subcommand that executes a script made from a number: the number, and how many statements.
+fn gen_line<'a>(alloc: Global) -> Result<clap::Command<'a>, AllocError>
+    ensures shape { IfOk result (λ line. shape_of line ≡ gen_line) }
+    ensures local { IfOk result (λ line. (fields_of line).has_globals ≡ false) }
+{
+    clap::Command::new(alloc, "gen")
+        .arg(number_argument(alloc, "seed", 65_535))?
+        .arg(number_argument(alloc, "count", 1_000_000))
+}
+
+/// A word that is a number of at most `most`.
+fn number_argument<'a>(alloc: Global, name: &'a str, most: u64) -> Arg<'a>
+    ensures rule { rule_of result ≡ number_argument name.now most }
+    ensures local { result.global ≡ false }
+{
+    Arg::new(alloc, name)
+        .required(true)
+        .value_parser(ValueParser::unsigned(0, most))
 }
 
 /// An option with its long name as its id.

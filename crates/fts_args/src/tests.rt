@@ -18,6 +18,7 @@ fn created(alloc: Global, line: &str) -> Result<Option<Settings>, AllocError> {
     match command_of(alloc, words.as_slice())? {
         Some(Command::Create { settings }) => Ok(Some(settings)),
         Some(Command::Run) => Ok(None),
+        Some(Command::Gen { .. }) => Ok(None),
         None => Ok(None),
     }
 }
@@ -195,6 +196,51 @@ fn an_empty_word_is_no_list_of_columns(rt: HostRuntime) -> Result<(), Fail> {
     let mut words = words_of(rt.alloc(), "D create --columns")?;
     words.push(String::new(rt.alloc()))?;
     assert!(rt; command_of(rt.alloc(), words.as_slice())?.is_none());
+    Ok(())
+}
+
+const GENERATED: [(&str, u16, u32); 5] = [
+    ("D gen 1 5", 1, 5),
+    ("D gen 0 0", 0, 0),
+    ("D gen 65535 1000000", 65_535, 1_000_000),
+    ("D gen 007 +5", 7, 5),
+    ("D gen -- 7 5", 7, 5),
+];
+
+#[test]
+fn gen_has_two_numbers(rt: HostRuntime) -> Result<(), Fail> {
+    for (line, want_seed, want_count) in GENERATED {
+        let words = words_of(rt.alloc(), line)?;
+        match command_of(rt.alloc(), words.as_slice())? {
+            Some(Command::Gen { seed, count }) => assert!(rt;
+                seed == want_seed && count == want_count,
+                "at {line}"
+            ),
+            _ => assert!(rt; false, "at {line}"),
+        }
+    }
+    Ok(())
+}
+
+const FAULTY_SCRIPTS: [&str; 11] = [
+    "D gen",
+    "D gen 1",
+    "D gen 1 2 3",
+    "D gen 65536 1",
+    "D gen 1 1000001",
+    "D gen -1 1",
+    "D gen 1 x",
+    "D gen x 1",
+    "D gen 1 5 --columns body",
+    "D gen --seed 1 --count 5",
+    "D gen 18446744073709551617 1",
+];
+
+#[test]
+fn faulty_scripts_ask_for_nothing(rt: HostRuntime) -> Result<(), Fail> {
+    for line in FAULTY_SCRIPTS {
+        assert!(rt; is_usage(rt.alloc(), line)?, "at {line}");
+    }
     Ok(())
 }
 

@@ -1,5 +1,6 @@
 -- A step of the install of a batch.
-use Rattle.std.proofs.Common.{◌≡◌, ◌≢◌, ◌⊎◌, ℕ, ◌||◌, Bool, true, false, refl, cond, List, [], ◌∷◌, ◌++◌, sym, ap, subst, ◌∙◌, ⊎_elim, append_assoc}
+use Rattle.std.proofs.Common.{◌≡◌, ◌≢◌, ◌⊎◌, ℕ, ◌-◌, ◌≤◌, ◌&&◌, ◌||◌, Bool, true, false, refl, cond, List, [], ◌∷◌, ◌++◌, length, get_or, take, drop, sym, ap, subst, ◌∙◌, ⊎_elim, append_assoc, arith}
+use Rattle.std.proofs.lemmas.List.{take_rest}
 use Rattle.std.specs.List.{AllByRecursion, list_any}
 use Rattle.std.specs.Str.{bytes_eq}
 use Rattle.std.specs.Cmp.Lexicographic.{same_text, other_text}
@@ -8,7 +9,7 @@ use Rattle.std.specs.Ordering.{is_eq}
 use Rattle.std.proofs.lemmas.Bool.{false≢true, cases_Bool}
 use Rattle.fts_words.specs.Order.{byte_order}
 use Rattle.fts_ilist.specs.Node.{Docs, NodesAfter, last_of, nodes_for}
-use Rattle.fts_aux.specs.Tables.{Held, nodes, holds, HasNoOther}
+use Rattle.fts_aux.specs.Tables.{Held, nodes, holds, HasNoOther, begins_above, begin_behind}
 use Rattle.fts_aux.proofs.Finds.{is_same}
 use Rattle.fts_aux.proofs.Ordered.{AllBehind, equal_itself}
 use Rattle.std.specs.Map.{keys_of}
@@ -53,3 +54,25 @@ no_other held held' rest behind batch g parts among stay are has w k none =
     (λ it. among w (ap (λ (b : List (List ℕ × List Docs)). list_any (bytes_eq w) (keys_of b)) parts
     ∙ ap (λ b. b || list_any (bytes_eq w) (keys_of behind)) (subst (λ z. bytes_eq w z ≡ true) it (is_same w))))
     (are w k)
+
+-- what stands behind the first of a list
+abbrev pub behind_of : {X : Type 0} → List X → List X
+behind_of xs = take (length xs - 1) (drop 1 xs)
+
+pub first_parts : {X : Type 0} (xs : List X) (x : X) → 1 ≤ length xs → x ≡ get_or xs 0 x → xs ≡ x ∷ behind_of xs
+first_parts [] x some is = absurd (omega (arith, some))
+first_parts {X} (y ∷ ys) x some is = ap (λ (z : X). z ∷ ys) (sym is) ∙ ap (λ (zs : List X). x ∷ zs) (sym (take_rest (y ∷ ys) 1))
+
+and_assoc : (a b c : Bool) → ((a && b) && c) ≡ (a && (b && c))
+and_assoc true b c = refl
+and_assoc false b c = refl
+
+-- one word more was tried
+pub still_told : (first held : Held) (so_far next : Bool) (last : ℕ) (g : List ℕ × List Docs) (behind batch rest : List (List ℕ × List Docs)) → rest ≡ g ∷ behind
+    → ((w : List ℕ) → nodes held w ≡ nodes first w) → next ≡ (so_far && begins_above last g.1) → last ≡ last_of 0 (nodes held g.0)
+    → (so_far && begin_behind first rest) ≡ begin_behind first batch → (next && begin_behind first behind) ≡ begin_behind first batch
+still_told first held so_far next last g behind batch rest parts same is_next is_last told =
+    ap (λ (b : Bool). b && begin_behind first behind) (is_next ∙ ap (λ (n : ℕ). so_far && begins_above n g.1) (is_last ∙ ap (last_of 0) (same g.0)))
+    ∙ and_assoc so_far (begins_above (last_of 0 (nodes first g.0)) g.1) (begin_behind first behind)
+    ∙ sym (ap (λ (r : List (List ℕ × List Docs)). so_far && begin_behind first r) parts)
+    ∙ told

@@ -1,11 +1,12 @@
 -- The six tables as one map from words to their nodes.
 use Rattle.std.specs.Prelude.{◌≡◌, ◌≢◌, ℕ, ◌==◌, suc, Bool, false, true, List, [], ◌∷◌, cond, if◌then◌else◌, length}
-use Rattle.std.specs.Prelude.{◌⊎◌}
-use Rattle.std.specs.List.{All, list_any}
+use Rattle.std.specs.Prelude.{◌⊎◌, nat_lt}
+use Rattle.std.specs.List.{All, list_all, list_any}
 use Rattle.std.specs.Map.{keys_of}
 use Rattle.std.specs.Str.{bytes_eq}
 use Rattle.fts_types.specs.Table.{table_of}
 use Rattle.fts_ilist.specs.Node.{Docs, NodesAfter, last_of, nodes_for}
+use Rattle.fts_ilist.specs.Spelling.{first_id}
 use Rattle.fts_aux.specs.Table.{Entries, nodes_in, list_in, is_key, Room, room_of, no_room, needs, with_room, IsWithin}
 use Rattle.fts_aux.specs.Table.{IsNext, IsLast, HasLoose}
 
@@ -63,6 +64,15 @@ HasNoOther held batch = (word : List ℕ) → holds held word ≡ true → nodes
 -- the ids of a batch are above those that the tables hold for their words, and ascend
 abbrev pub ComesAfter : Held → List (List ℕ × List Docs) → Type 0
 ComesAfter held batch = All (λ g. NodesAfter (last_of 0 (nodes held g.0)) g.1) batch
+
+-- the first id of nodes is above one
+abbrev pub begins_above : ℕ → List Docs → Bool
+begins_above last [] = true
+begins_above last (n ∷ ns) = nat_lt last (first_id n)
+
+-- the nodes of each word of a batch begin behind those that the tables hold
+abbrev pub begin_behind : Held → List (List ℕ × List Docs) → Bool
+begin_behind held batch = list_all (λ g. begins_above (last_of 0 (nodes held g.0)) g.1) batch
 
 -- the room of a word is given up, and it is out if it has no nodes
 pub record IsGivenUp (old new : Held) (word : List ℕ) : Type 0 where

@@ -7,6 +7,7 @@ ghost use Rattle.std.specs.BTreeSet.{IsUnchanged};
 ghost use Rattle.std.specs.Option.{option_map};
 ghost use Rattle.std.specs.Map.{keys_of};
 ghost use Rattle.fts_ilist.specs.NodeList.{with_nodes, nodes_size, Takes};
+ghost use Rattle.fts_ilist.specs.Node.{last_of};
 ghost use Rattle.fts_aux.specs.Table.{find, list_in, nodes_in, is_key, is_key_at, room_of, no_room};
 ghost use Rattle.fts_ilist.specs.Front.{front};
 ghost use Rattle.fts_aux.specs.Table.{with_room, filled, filled_as, seen, IsListing, IsNext};
@@ -16,7 +17,7 @@ ghost use Rattle.fts_aux.specs.Table.{KeepsNodes, HasLoose, Recounts, loose_coun
 ghost use Rattle.fts_ilist.specs.Packing.{are_loose};
 
 use fts_ilist::{Node, NodeList, NodeSlice};
-use fts_types::Word;
+use fts_types::{DocId, Word};
 use indexmap::IndexMap;
 use std::alloc::{AllocError, Global};
 use std::collections::BTreeSet;
@@ -71,6 +72,20 @@ fn number_of(words: &Words, word: &[u8]) -> Option<usize>
 {
     match words.get_full(word) {
         Some((number, _, _)) => Some(number),
+        None => None,
+    }
+}
+
+/// The number of a word, where it is one of the words, and the last id of its nodes, 0 where it has
+/// none.
+fn number_and_last(words: &Words, word: &[u8]) -> Option<(usize, DocId)>
+    ensures some { IfSome result
+        (λ p. is_key_at (keys_of words.now.entries) p.0 word.now ≡ true) }
+    ensures last { IfSome result (λ p. p.1 ≡ last_of 0 (nodes_in words.now.entries word.now)) }
+    ensures none { IfNone result (find word.now words.now.entries ≡ None) }
+{
+    match words.get_full(word) {
+        Some((number, _, list)) => Some((number, list.as_slice().last_id())),
         None => None,
     }
 }
@@ -463,20 +478,26 @@ impl Table {
         self.fresh.clear();
     }
 
-    /// Makes room for so many more nodes and bytes of a word, beside the room that there is.
-    pub fn reserve(&mut self, word: &[u8], nodes: usize, bytes: usize) -> Result<(), AllocError>
+    /// Makes room for so many more nodes and bytes of a word, beside the room that there is. It
+    /// gives the last id of the word's nodes, and 0 where it has none, so that one look-up does for
+    /// both.
+    pub fn reserve(&mut self, word: &[u8], nodes: usize, bytes: usize) -> Result<DocId, AllocError>
         ensures stay { KeepsNodes self.old self.new word.now }
         ensures room { OnOk result (AddsRoom self.old self.new word.now
             (record { nodes = nodes; bytes = bytes })) }
+        ensures last { IfOk result (λ last. last ≡ last_of 0 (nodes_in self.old word.now)) }
     {
         self.notes.reserve(1)?;
-        match number_of(&self.words, word) {
-            Some(number) => {
+        match number_and_last(&self.words, word) {
+            Some((number, last)) => {
                 reserve_at(&mut self.words, number, word, nodes, bytes)?;
                 self.notes.push(number).unwrap();
-                Ok(())
+                Ok(last)
             }
-            None => self.enter(word, nodes, bytes),
+            None => {
+                self.enter(word, nodes, bytes)?;
+                Ok(0)
+            }
         }
     }
 

@@ -1,6 +1,6 @@
 //! The six tables.
 ghost use Rattle.std.specs.Prelude.{◌≡◌, ◌≢◌, ℕ, ◌+◌, ◌<◌, ◌↔◌, ◌++◌, [], List, length, map, true};
-ghost use Rattle.std.specs.Prelude.{slice_index, IsTrue, OnOk, IfOk, IfSome, IfNone};
+ghost use Rattle.std.specs.Prelude.{slice_index, IsTrue, OnOk, IfOk, IfSome, IfNone, ◌&&◌};
 ghost use Rattle.std.specs.List.Sorted.{IsStrictlySortedBy};
 ghost use Rattle.std.specs.Map.{keys_of};
 ghost use Rattle.fts_types.specs.Table.{table_of};
@@ -12,11 +12,11 @@ ghost use Rattle.fts_ilist.specs.Node.{Docs};
 ghost use Rattle.std.specs.Option.{option_map};
 ghost use Rattle.fts_aux.specs.Tables.{nodes, room, HasRoom, HasRoomOf, HasNoOther, ComesAfter};
 ghost use Rattle.fts_aux.specs.Tables.{IsNextIn, IsLastIn, IsGivenUp, Stays, GainsRoom, UsesRoom};
-ghost use Rattle.fts_aux.specs.Tables.{HasLooseIn};
+ghost use Rattle.fts_aux.specs.Tables.{HasLooseIn, begins_above, begin_behind};
 
 use crate::table::Table;
 use fts_ilist::{Node, NodeList, NodeSlice, WordNodes, bytes_of};
-use fts_types::{Word, partition_of};
+use fts_types::{DocId, Word, partition_of};
 use std::alloc::{AllocError, Global};
 use std::marker::Model;
 
@@ -79,6 +79,26 @@ fn next_in<'a>(tables: &'a [Table], word: &Word) -> Option<&'a Word>
             None => next_in(rest, word),
         },
     }
+}
+
+/// Whether the first id of nodes is above one.
+fn begins_above(last: DocId, nodes: &[Node]) -> bool
+    ensures { result ≡ begins_above last nodes.now }
+{
+    match nodes {
+        [] => true,
+        [first, ..] => last < first.first(),
+    }
+}
+
+/// Whether this was so of the words before, and the first id of nodes is above one.
+fn still_behind(behind: bool, last: DocId, nodes: &[Node]) -> bool
+    ensures { result ≡ (behind && begins_above last nodes.now) }
+{
+    if !behind {
+        return false;
+    }
+    begins_above(last, nodes)
 }
 
 /// Whether one of these tables has a word whose nodes packing would change.
@@ -206,8 +226,9 @@ impl Tables {
         }
     }
 
-    /// Makes room for so many more nodes and bytes of a word.
-    fn reserve_word(&mut self, word: &[u8], count: usize, bytes: usize) -> Result<(), AllocError>
+    /// Makes room for so many more nodes and bytes of a word, and gives the last id of its nodes.
+    fn reserve_word(&mut self, word: &[u8], count: usize, bytes: usize) -> Result<DocId, AllocError>
+        ensures last { IfOk result (λ last. last ≡ last_of 0 (nodes self.old word.now)) }
         ensures nodes { (other : List ℕ) → nodes self.new other ≡ nodes self.old other }
         ensures ok { OnOk result (GainsRoom self.old self.new word.now
             (record { nodes = count; bytes = bytes })) }
@@ -218,20 +239,24 @@ impl Tables {
 
     /// Makes room for the nodes of a batch, and no other: room that an earlier call made and nobody
     /// used is given up, and so are the words that were entered for it. The nodes of each word stay
-    /// as they are, with or without memory for it.
-    pub fn reserve(&mut self, batch: &[WordNodes]) -> Result<(), AllocError>
+    /// as they are, with or without memory for it. It tells whether the nodes of each word of the
+    /// batch begin behind those that are held: `install_batch` asks for that.
+    pub fn reserve(&mut self, batch: &[WordNodes]) -> Result<bool, AllocError>
         ensures nodes { (word : List ℕ) → nodes self.new word ≡ nodes self.old word }
         ensures room { OnOk result (HasRoomOf self.new batch.now) }
         ensures words { OnOk result (HasNoOther self.new batch.now) }
+        ensures told { IfOk result (λ behind. behind ≡ begin_behind self.old batch.now) }
     {
         self.give_up_room();
+        let mut behind = true;
         let mut rest = batch;
-        while let Some((first, behind)) = rest.split_first() {
+        while let [first, more @ ..] = rest {
             let bytes = bytes_of(first.nodes()).ok_or(AllocError)?;
-            self.reserve_word(first.word().as_bytes(), first.nodes().len(), bytes)?;
-            rest = behind;
+            let last = self.reserve_word(first.word(), first.nodes().len(), bytes)?;
+            behind = still_behind(behind, last, first.nodes());
+            rest = more;
         }
-        Ok(())
+        Ok(behind)
     }
 
     /// Puts nodes behind those of a word.
@@ -260,8 +285,8 @@ impl Tables {
             (needs (nodes_for word batch.now)) ≡ room self.old word }
     {
         let mut rest = batch;
-        while let Some((first, behind)) = rest.split_first() {
-            self.append_word(first.word().as_bytes(), first.nodes());
+        while let [first, behind @ ..] = rest {
+            self.append_word(first.word(), first.nodes());
             rest = behind;
         }
     }

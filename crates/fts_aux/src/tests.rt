@@ -5,7 +5,7 @@ mod checks;
 
 use super::*;
 use checks::{are_after, ascend, come_after};
-use fts_ilist::{Ilist, Node, NodeList, NodeSlice, Nodes, WordNodes};
+use fts_ilist::{Ilist, Node, NodeGroup, NodeList, NodeSlice, Nodes, WordNodes};
 use fts_types::Word;
 use std::alloc::Global;
 use std::collections::BTreeMap;
@@ -43,7 +43,7 @@ const REWORKED: [(&[u8], &[u32]); 5] = [
 type Plain = BTreeMap<Word, Vec<u64>>;
 
 // A node of one document.
-fn node(alloc: Global, id: u64) -> Result<Node, Fail>
+fn node(alloc: Global, id: u64) -> Result<Node<'static>, Fail>
     requires positive { 0 < id }
     requires limit { id < 2 ^ 63 }
 {
@@ -57,7 +57,7 @@ fn node(alloc: Global, id: u64) -> Result<Node, Fail>
 fn a_word_with_room_alone_does_not_show(rt: HostRuntime) -> Result<(), Fail> {
     let alloc = rt.alloc();
     let mut tables = Tables::new(alloc);
-    let nodes = vec![in alloc; node(alloc, 5)?]?;
+    let nodes = NodeGroup::of(vec![in alloc; node(alloc, 5)?]?);
     let batch = vec![in alloc; WordNodes::new(Word::copied(alloc, b"apple")?, nodes)]?;
     tables.reserve(&batch)?;
     assert!(rt; tables.nodes_of(b"apple").is_empty());
@@ -119,18 +119,18 @@ fn nodes(
     turn: u32,
     place: usize,
     word: &[u8],
-) -> Result<Vec<Node>, Fail> {
+) -> Result<NodeGroup<'static>, Fail> {
     let mut nodes = Vec::new(alloc);
     for part in 0..(u64::from(turn) + place as u64 % 7) % 3 {
         let id = u64::from(turn) * 10 + part + 1;
         nodes.push(node(alloc, id)?)?;
         note(alloc, plain, word, id)?;
     }
-    Ok(nodes)
+    Ok(NodeGroup::of(nodes))
 }
 
 // A batch of nodes of all words, which are noted.
-fn batch(alloc: Global, plain: &mut Plain, turn: u32) -> Result<Nodes, Fail> {
+fn batch(alloc: Global, plain: &mut Plain, turn: u32) -> Result<Nodes<'static>, Fail> {
     let mut batch = Vec::new(alloc);
     for (place, word) in WORDS.iter().enumerate() {
         let nodes = nodes(alloc, plain, turn, place, word)?;
@@ -143,12 +143,13 @@ fn batch(alloc: Global, plain: &mut Plain, turn: u32) -> Result<Nodes, Fail> {
 fn counts(alloc: Global, tables: &Tables, batch: &[WordNodes]) -> Result<Vec<usize>, Fail> {
     let mut counts = Vec::new(alloc);
     for group in batch {
-        counts.push(tables.nodes_of(group.word().as_bytes()).len())?;
+        counts.push(tables.nodes_of(group.word()).len())?;
     }
     Ok(counts)
 }
 
-// Makes room for a batch. The tables hold what they held, with or without memory.
+// Makes room for a batch, which comes behind what is held. The tables hold what they held, with or
+// without memory.
 fn make_room(
     rt: &impl Abort,
     alloc: Global,
@@ -160,7 +161,8 @@ fn make_room(
     let held = counts(alloc, tables, batch)?;
     let reserved = tables.reserve(batch);
     assert_eq!(rt; counts(alloc, tables, batch)?, held);
-    Ok(reserved?)
+    assert!(rt; reserved?);
+    Ok(())
 }
 
 // Makes room for a batch, and installs it.
@@ -180,6 +182,17 @@ fn filled(rt: &impl Abort, alloc: Global, plain: &mut Plain) -> Result<Tables, F
         install(rt, alloc, &mut tables, batch)?;
     }
     Ok(tables)
+}
+
+// A batch whose ids are not above those that are held is told.
+#[test]
+fn a_batch_that_comes_again_is_not_behind(rt: HostRuntime) -> Result<(), Fail> {
+    let alloc = rt.alloc();
+    let mut plain = BTreeMap::new(alloc);
+    let mut tables = filled(&rt, alloc, &mut plain)?;
+    let again = batch(alloc, &mut plain, 4)?;
+    assert!(rt; !tables.reserve(&again)?);
+    Ok(())
 }
 
 #[test]

@@ -1,5 +1,5 @@
 -- Documents that are taken out of the queues of their words.
-use Rattle.std.proofs.Common.{◌≡◌, ◌≢◌, ⊎_elim, ℕ, ◌≤◌, Bool, true, false, cond, ◌||◌, nat_eq, List, [], ◌∷◌, Option, Some, None, refl, sym, ap, ◌∙◌, arith}
+use Rattle.std.proofs.Common.{◌≡◌, ◌≢◌, ⊎_elim, ℕ, zero, suc, ◌+◌, ◌-◌, ◌<◌, ◌≤◌, Bool, true, false, cond, ◌||◌, nat_eq, List, [], ◌∷◌, Option, Some, None, refl, sym, ap, ◌∙◌, arith}
 use Rattle.fts_ilist.specs.Spelling.{Posting}
 use Rattle.fts_ilist.specs.Queue.{Queue, postings_behind}
 use Rattle.fts_cache.specs.Words.{Entries, number_in, queue_in, has_number, left_of, IsDropped, IsLess, KeepsNumbers}
@@ -28,7 +28,7 @@ same_number : (n : ℕ) → nat_eq n n ≡ true
 same_number n = grind arith
 
 -- what is behind doc loses nothing more
-left_behind : (doc : ℕ) (numbers : List ℕ) (o : Option ℕ) (ps qs : List Posting) → qs ≡ postings_behind doc ps → left_of doc numbers o qs ≡ qs
+pub left_behind : (doc : ℕ) (numbers : List ℕ) (o : Option ℕ) (ps qs : List Posting) → qs ≡ postings_behind doc ps → left_of doc numbers o qs ≡ qs
 left_behind doc numbers None ps qs e = refl
 left_behind doc numbers (Some n) ps qs e = by (has_number n numbers)
   where
@@ -108,3 +108,40 @@ less_again old now new a b = record {
   postings = λ w. b.postings w ∙ a.postings w;
   last = λ w. omega (arith, a.last w, b.last w);
 }
+
+-- ---- all numbers
+
+-- so many numbers from one on
+abbrev pub numbers_from : ℕ → ℕ → List ℕ
+numbers_from n zero = []
+numbers_from n (suc more) = n ∷ numbers_from (n + 1) more
+
+pub numbers_step : (n end : ℕ) → n < end → numbers_from n (end - n) ≡ n ∷ numbers_from (n + 1) (end - (n + 1))
+numbers_step n end lt = ap (numbers_from n) (one n end lt)
+  where
+    one : (a b : ℕ) → a < b → b - a ≡ suc (b - (a + 1))
+    one a b l = grind arith
+
+pub numbers_end : (n end : ℕ) → end ≤ n → numbers_from n (end - n) ≡ []
+numbers_end n end le = ap (numbers_from n) (none n end le)
+  where
+    none : (a b : ℕ) → b ≤ a → b - a ≡ 0
+    none a b l = grind arith
+
+among_numbers : (n from more : ℕ) → from ≤ n → n < from + more → has_number n (numbers_from from more) ≡ true
+among_numbers n from zero le lt = absurd (omega (arith, le, lt))
+among_numbers n from (suc more) le lt =
+    ⊎_elim
+    (λ (x : (nat_eq n from ≡ true) × (n ≡ from)). either (nat_eq n from) (has_number n (numbers_from (from + 1) more)) x.0)
+    (λ (x : (nat_eq n from ≡ false) × (n ≢ from)).
+    rest_alone (nat_eq n from) (has_number n (numbers_from (from + 1) more)) x.0 ∙ among_numbers n (from + 1) more (omega (arith, le, x.1)) (omega (arith, lt)))
+    (which_number n from)
+
+-- what the walk over all numbers leaves
+pub left_by_all : (doc end : ℕ) (es : Entries) → ((w : List ℕ) (n : ℕ) → number_in es w ≡ Some n → n < end)
+    → (w : List ℕ) → left_of doc (numbers_from 0 end) (number_in es w) (queue_in es w).postings ≡ postings_behind doc (queue_in es w).postings
+left_by_all doc end es below w = by (number_in es w) refl
+  where
+    by : (o : Option ℕ) → number_in es w ≡ o → left_of doc (numbers_from 0 end) o (queue_in es w).postings ≡ postings_behind doc (queue_in es w).postings
+    by None e = empty_of es w e ∙ sym (ap (postings_behind doc) (empty_of es w e))
+    by (Some n) e = ap (λ (b : Bool). cond b (postings_behind doc (queue_in es w).postings) (queue_in es w).postings) (among_numbers n 0 end (omega arith) (omega (arith, below w n e)))

@@ -12,4 +12,5 @@ pub mod Numbers
 pub mod Holding
 pub mod Rows
 mod Used
+mod Listed
 mod Prefixed

@@ -149,6 +149,20 @@ note_rest old new doc d ds up h keeps less w n e =
     by true f noted = first_left n doc (queue_in old w).postings d ds up noted
     by false f noted = not_noted n (queue_in old w).postings d ds f noted
 
+behind_noted : (n doc : ℕ) (ps : List Posting) (ds : List Cached) → AreNoted n ps ds → AreNoted n (postings_behind doc ps) ds
+behind_noted n doc [] ds h = tt
+behind_noted n doc (p ∷ ps) ds h =
+    elim (cases_lt doc p.id) [
+      | inl lt ↦ subst (λ (b : Bool). AreNoted n (cond b (p ∷ postings_behind doc ps) (postings_behind doc ps)) ds) (sym (lt-ltb doc p.id lt)) (h.0, behind_noted n doc ps ds h.1)
+      | inr le ↦ subst (λ (b : Bool). AreNoted n (cond b (p ∷ postings_behind doc ps) (postings_behind doc ps)) ds) (sym (le-ltb doc p.id le)) (behind_noted n doc ps ds h.1)
+    ]
+
+-- documents were taken out of all queues
+pub note_behind : (old new : Entries) (doc : ℕ) (ds : List Cached) → NoteWords old ds → KeepsNumbers new old
+    → ((w : List ℕ) → (queue_in new w).postings ≡ postings_behind doc (queue_in old w).postings) → NoteWords new ds
+note_behind old new doc ds h keeps less w n e =
+    subst (λ (ps : List Posting). AreNoted n ps ds) (sym (less w)) (behind_noted n doc (queue_in old w).postings ds (h w n (keeps w n e)))
+
 -- what is behind doc in the end is behind it already
 pub behind_left : (doc : ℕ) (numbers : List ℕ) (o : Option ℕ) (ps : List Posting) → postings_behind doc (left_of doc numbers o ps) ≡ postings_behind doc ps
 behind_left doc numbers None ps = refl

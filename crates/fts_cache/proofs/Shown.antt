@@ -216,7 +216,7 @@ leaving_some doc (Some s) w e = by (leaves doc s.queue) refl e
     by false l f = none_is_not w _ f
 
 -- a word that leaves has its number among these
-left_from : (es : Entries) (doc : ℕ) (ns : List ℕ) (w : List ℕ) → IsTable es → list_any (bytes_eq w) (leaving_words es.slots doc ns) ≡ true
+pub left_from : (es : Entries) (doc : ℕ) (ns : List ℕ) (w : List ℕ) → IsTable es → list_any (bytes_eq w) (leaving_words es.slots doc ns) ≡ true
     → (n : ℕ) × (number_in es w ≡ Some n) × (has_number n ns ≡ true) × (postings_until doc (queue_in es w).postings ≢ [])
 left_from es doc [] w t e = absurd cc
 left_from es doc (n ∷ ns) w t e =
@@ -236,7 +236,7 @@ left_from es doc (n ∷ ns) w t e =
     same : (m : ℕ) → nat_eq m m ≡ true
     same m = grind arith
 
-left_to : (es : Entries) (doc : ℕ) (ns : List ℕ) (w : List ℕ) (n : ℕ) → IsTable es → number_in es w ≡ Some n → has_number n ns ≡ true → postings_until doc (queue_in es w).postings ≢ []
+pub left_to : (es : Entries) (doc : ℕ) (ns : List ℕ) (w : List ℕ) (n : ℕ) → IsTable es → number_in es w ≡ Some n → has_number n ns ≡ true → postings_until doc (queue_in es w).postings ≢ []
     → list_any (bytes_eq w) (leaving_words es.slots doc ns) ≡ true
 left_to es doc [] w n t e h some = absurd cc
 left_to es doc (m ∷ ms) w n t e h some =

@@ -1,5 +1,5 @@
 -- The table of words: each by its number, as calls change it.
-use Rattle.std.proofs.Common.{◌≡◌, ◌≢◌, ◌⊎◌, inl, inr, ⊎_elim, ℕ, ◌≤◌, length, Bool, true, false, cond, ◌&&◌, nat_eq, List, [], ◌∷◌, Option, Some, None, slice_set, ◌<◌, refl, sym, ap, ◌∙◌, arith}
+use Rattle.std.proofs.Common.{◌≡◌, ◌≢◌, ◌⊎◌, inl, inr, ⊎_elim, ℕ, zero, suc, ◌≤◌, length, Bool, true, false, cond, ◌&&◌, nat_eq, List, [], ◌∷◌, Option, Some, None, slice_set, ◌<◌, refl, sym, ap, ◌∙◌, arith}
 use Rattle.std.proofs.lemmas.List.{get_or-set_same}
 use Rattle.std.specs.Global.{Vec}
 use Rattle.std.specs.Map.{lookup, KeepsOthers}
@@ -62,6 +62,12 @@ queue_of_number es w n s e f =
 
 pub queue_of_none : (es : Entries) (w : List ℕ) → number_in es w ≡ None → queue_in es w ≡ no_queue
 queue_of_none es w e = ap (λ (o : Option ℕ). unwrap_or (option_map (queue_at es.slots) o) no_queue) e
+
+-- a slot that is taken is one of them
+pub slot_below : (xs : Slots) (n : ℕ) (s : CachedWord) → slot_in xs n ≡ Some s → n < length xs
+slot_below [] n s e = none_is_not s _ e
+slot_below (x ∷ xs) zero s e = omega arith
+slot_below (x ∷ xs) (suc n) s e = let rest : n < length xs = slot_below xs n s e in omega (arith, rest)
 
 -- ---- a queue is altered
 

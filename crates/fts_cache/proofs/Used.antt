@@ -1,9 +1,8 @@
 -- Words that have neither documents nor room, as calls change them, and the words in byte order.
-use Rattle.std.proofs.Common.{◌≡◌, ◌≢◌, ◌⊎◌, inl, inr, ⊎_elim, ℕ, ◌+◌, ◌<◌, Bool, true, false, cond, ◌&&◌, ◌||◌, nat_eq, List, [], ◌∷◌, ◌++◌, length, Option, Some, None, is_some, Result, Ok, Err, OnOk, OnErr, refl, sym, ap, subst, ◌∙◌, arith}
+use Rattle.std.proofs.Common.{◌≡◌, ◌≢◌, ◌⊎◌, inl, inr, ⊎_elim, ℕ, ◌+◌, ◌<◌, Bool, true, false, cond, ◌&&◌, ◌||◌, nat_eq, List, [], ◌∷◌, ◌++◌, length, Option, Some, None, Result, Ok, Err, OnOk, OnErr, refl, sym, ap, subst, ◌∙◌, arith}
 use Rattle.std.proofs.lemmas.List.{length-append}
 use Rattle.std.proofs.lemmas.Map.Text.{is_eq-slice_cmp}
-use Rattle.std.specs.BTreeMap.{is_at}
-use Rattle.std.specs.BTreeSet.{BTreeSet, contains}
+use Rattle.std.specs.BTreeMap.{BTreeMap, get, is_at}
 use Rattle.std.specs.Global.{Vec}
 use Rattle.std.specs.Map.{lookup}
 use Rattle.std.specs.Str.{bytes_eq}
@@ -11,11 +10,11 @@ use Rattle.fts_words.specs.Order.{byte_order}
 use Rattle.fts_ilist.specs.Queue.{Queue, bytes_for}
 use Rattle.fts_ilist.specs.Spelling.{Posting}
 use Rattle.fts_cache.specs.declared.words.CachedWord.{CachedWord}
-use Rattle.fts_cache.specs.Words.{Entries, number_in, queue_in, is_spent, Slots, slot_in, no_queue, Alters, IsTable, has_number, IsUsedBut, IsListed, AreKept, Enters, LetsGo, Stays, with_more_room, with_posting}
+use Rattle.fts_cache.specs.Words.{Entries, number_in, queue_in, is_spent, Slots, slot_in, no_queue, Alters, IsTable, has_number, IsUsedBut, IsListed, KeepsBut, AreKept, Enters, LetsGo, Stays, with_more_room, with_posting}
 use Rattle.fts_cache.proofs.Queues.{which_word, on_ok}
 use Rattle.fts_cache.proofs.Notes.{has_left, has_right}
 use Rattle.fts_cache.proofs.Shown.{flips}
-use Rattle.fts_cache.proofs.Table.{IsAltered, altered, altered_not, entered, which_number, some_is, has_it}
+use Rattle.fts_cache.proofs.Table.{IsAltered, altered, altered_not, entered, which_number, some_is, none_is_not, has_it}
 
 has_here : (n : ℕ) (rest : List ℕ) → has_number n (n ∷ rest) ≡ true
 has_here n rest = by (nat_eq n n) (same n)
@@ -116,20 +115,34 @@ posting_filled doc positions q =
 
 -- ---- the words in byte order
 
-some_of : (b : Bool) (o p : Option ℕ) → cond b (is_some o) (is_some p) ≡ is_some (cond b o p)
-some_of true o p = refl
-some_of false o p = refl
-
--- a word comes or goes in both
-pub listed_one : (es new : List (Vec ℕ × ℕ)) (order order' : BTreeSet (List ℕ)) (word : List ℕ) (o : Option ℕ)
-    → ((w : List ℕ) → lookup (λ k. bytes_eq w k.items) new ≡ cond (bytes_eq w word) o (lookup (λ k. bytes_eq w k.items) es))
-    → ((w : List ℕ) → contains byte_order order' w ≡ cond (is_at (byte_order word) w) (is_some o) (contains byte_order order w))
+-- a word comes, with its number
+listed_more : (es new : List (Vec ℕ × ℕ)) (order order' : BTreeMap (List ℕ) ℕ) (word : List ℕ) (n : ℕ)
+    → ((w : List ℕ) → lookup (λ k. bytes_eq w k.items) new ≡ cond (bytes_eq w word) (Some n) (lookup (λ k. bytes_eq w k.items) es))
+    → ((w : List ℕ) → get byte_order order' w ≡ cond (is_at (byte_order word) w) (Some n) (get byte_order order w))
     → IsListed es order → IsListed new order'
-listed_one es new order order' word o numbers lists listed w =
+listed_more es new order order' word n numbers lists listed w m e =
     lists w
-    ∙ ap (λ (b : Bool). cond b (is_some o) (contains byte_order order w)) (is_eq-slice_cmp word w ∙ flips word w)
-    ∙ ap (λ (b : Bool). cond (bytes_eq w word) (is_some o) b) (listed w)
-    ∙ some_of (bytes_eq w word) o (lookup (λ k. bytes_eq w k.items) es) ∙ sym (ap is_some (numbers w))
+    ∙ ap (λ (b : Bool). cond b (Some n) (get byte_order order w)) (is_eq-slice_cmp word w ∙ flips word w)
+    ∙ ⊎_elim
+    (λ (h : (bytes_eq w word ≡ true) × (w ≡ word)).
+    ap (λ (b : Bool). cond b (Some n) (get byte_order order w)) h.0
+    ∙ sym (ap (λ (b : Bool). cond b (Some n) (lookup (λ k. bytes_eq w k.items) es)) h.0)
+    ∙ sym (numbers w) ∙ e)
+    (λ (h : (bytes_eq w word ≡ false) × (w ≢ word)).
+    ap (λ (b : Bool). cond b (Some n) (get byte_order order w)) h.0
+    ∙ listed w m (sym (numbers w ∙ ap (λ (b : Bool). cond b (Some n) (lookup (λ k. bytes_eq w k.items) es)) h.0) ∙ e))
+    (which_word w word)
+
+-- a word goes, and may still stand in byte order
+pub listed_less : (es new : List (Vec ℕ × ℕ)) (order order' : BTreeMap (List ℕ) ℕ) (word : List ℕ)
+    → ((w : List ℕ) → lookup (λ k. bytes_eq w k.items) new ≡ cond (bytes_eq w word) None (lookup (λ k. bytes_eq w k.items) es))
+    → KeepsBut word order order' → IsListed es order → IsListed new order'
+listed_less es new order order' word numbers keeps listed w m e =
+    ⊎_elim
+    (λ (h : (bytes_eq w word ≡ true) × (w ≡ word)). none_is_not m _ (sym (numbers w ∙ ap (λ (b : Bool). cond b None (lookup (λ k. bytes_eq w k.items) es)) h.0) ∙ e))
+    (λ (h : (bytes_eq w word ≡ false) × (w ≢ word)).
+    keeps w h.0 ∙ listed w m (sym (numbers w ∙ ap (λ (b : Bool). cond b None (lookup (λ k. bytes_eq w k.items) es)) h.0) ∙ e))
+    (which_word w word)
 
 -- ---- what a cache holds
 
@@ -156,16 +169,16 @@ used_last es n rest u w m e s =
     (λ (h : (nat_eq m n ≡ false) × (m ≢ n)). has_left m rest (n ∷ []) (has_rest m n rest h.1 (u w m e s)))
     (which_number m n)
 
-pub record LeavesAll (old new : Entries) (order : BTreeSet (List ℕ)) (fresh : List ℕ) (n : ℕ) : Type 0 where
+pub record LeavesAll (old new : Entries) (order : BTreeMap (List ℕ) ℕ) (fresh : List ℕ) (n : ℕ) : Type 0 where
   pub kept : AreKept new order fresh
   pub enters : Enters old new
   pub used : IsUsedBut old [] → IsUsedBut new (n ∷ [])
 
-pub entered_all : (old new : Entries) (order order' : BTreeSet (List ℕ)) (fresh fresh' word : List ℕ) (n : ℕ) (s : CachedWord) → AreKept old order fresh
+pub entered_all : (old new : Entries) (order order' : BTreeMap (List ℕ) ℕ) (fresh fresh' word : List ℕ) (n : ℕ) (s : CachedWord) → AreKept old order fresh
     → number_in old word ≡ None → s.word ≡ word → s.queue ≡ no_queue
     → slot_in old.slots n ≡ None → slot_in new.slots n ≡ Some s → ((m : ℕ) → m ≢ n → slot_in new.slots m ≡ slot_in old.slots m)
     → ((w : List ℕ) → number_in new w ≡ cond (bytes_eq w word) (Some n) (number_in old w))
-    → ((w : List ℕ) → contains byte_order order' w ≡ cond (is_at (byte_order word) w) true (contains byte_order order w))
+    → ((w : List ℕ) → get byte_order order' w ≡ cond (is_at (byte_order word) w) (Some n) (get byte_order order w))
     → fresh' ≡ fresh ++ n ∷ []
     → LeavesAll old new order' fresh' n
 entered_all old new order order' fresh fresh' word n s k absent is_word empty free there others numbers lists more =
@@ -173,7 +186,7 @@ entered_all old new order order' fresh fresh' word n s k absent is_word empty fr
     record {
       kept = record {
         table = e.table;
-        listed = listed_one old.numbers new.numbers order order' word (Some n) numbers lists k.listed;
+        listed = listed_more old.numbers new.numbers order order' word n numbers lists k.listed;
         used = subst (IsUsedBut new) (sym more) (used_last new n fresh (used_entered old new word n fresh e.enters numbers k.used));
       };
       enters = e.enters;
@@ -181,7 +194,7 @@ entered_all old new order order' fresh fresh' word n s k absent is_word empty fr
     }
 
 module _ {X E : Type 0} (n positions : ℕ) (numbers : List (Vec ℕ × ℕ)) (old new : Slots) where
-  pub reserved_kept : (order : BTreeSet (List ℕ)) (fresh : List ℕ) (r : Result X E) → AreKept (record { numbers = numbers; slots = old }) order fresh
+  pub reserved_kept : (order : BTreeMap (List ℕ) ℕ) (fresh : List ℕ) (r : Result X E) → AreKept (record { numbers = numbers; slots = old }) order fresh
       → OnOk r (Alters n (with_more_room positions) old new) → OnErr r (Alters n (λ q. q) old new) → AreKept (record { numbers = numbers; slots = new }) order fresh
   reserved_kept order fresh (Ok x) k a b =
       let before : Entries = record { numbers = numbers; slots = old } in
@@ -199,7 +212,7 @@ module _ {X E : Type 0} (n positions : ℕ) (numbers : List (Vec ℕ × ℕ)) (o
   reserved_used r t =
       on_ok r _ _ (λ a. used_filled n (with_more_room positions) (record { numbers = numbers; slots = old }) (record { numbers = numbers; slots = new }) [] refl (altered n (with_more_room positions) numbers old new t a) (room_filled positions))
 
-pub pushed_kept : (n doc : ℕ) (positions : List ℕ) (numbers : List (Vec ℕ × ℕ)) (old new : Slots) (order : BTreeSet (List ℕ)) (fresh : List ℕ) → AreKept (record { numbers = numbers; slots = old }) order fresh
+pub pushed_kept : (n doc : ℕ) (positions : List ℕ) (numbers : List (Vec ℕ × ℕ)) (old new : Slots) (order : BTreeMap (List ℕ) ℕ) (fresh : List ℕ) → AreKept (record { numbers = numbers; slots = old }) order fresh
     → Alters n (with_posting doc positions) old new → AreKept (record { numbers = numbers; slots = new }) order fresh
 pushed_kept n doc positions numbers old new order fresh k a =
     let before : Entries = record { numbers = numbers; slots = old } in
@@ -208,7 +221,7 @@ pushed_kept n doc positions numbers old new order fresh k a =
     record { table = h.table; listed = k.listed; used = used_filled n (with_posting doc positions) before after fresh refl h (posting_filled doc positions) (used_more before n fresh k.used) }
 
 -- a queue lost something, and its word was let go of
-pub let_go_kept : (n : ℕ) (change : Queue → Queue) (old now new : Entries) (order order' : BTreeSet (List ℕ)) (fresh : List ℕ) → AreKept old order fresh → now.numbers ≡ old.numbers
+pub let_go_kept : (n : ℕ) (change : Queue → Queue) (old now new : Entries) (order order' : BTreeMap (List ℕ) ℕ) (fresh : List ℕ) → AreKept old order fresh → now.numbers ≡ old.numbers
     → IsAltered n change old now → LetsGo n now new → IsTable new → IsListed new.numbers order' → AreKept new order' fresh
 let_go_kept n change old now new order order' fresh k same a l t listed =
     record { table = t; listed = listed; used = used_less n now new fresh l (used_altered n change old now fresh same a k.used) }

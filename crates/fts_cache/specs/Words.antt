@@ -1,11 +1,11 @@
 -- The cached words, each by its number, and their queues.
 use Rattle.std.specs.Prelude.{◌≡◌, ◌≢◌, ℕ, ◌+◌, ◌-◌, ◌^◌, ◌<◌, ◌≤◌, Bool, ◌&&◌, nat_eq, nat_le, nat_lt, filter}
 use Rattle.std.specs.Prelude.{List, [], ◌∷◌, ◌++◌, length, if◌then◌else◌}
-use Rattle.std.specs.Prelude.{Option, Some, None, is_some, slice_index_or, filter_map, true, false}
+use Rattle.std.specs.Prelude.{Option, Some, None, slice_index_or, filter_map, true, false}
 use Rattle.std.specs.Global.{Vec}
 use Rattle.std.specs.List.{list_any}
-use Rattle.std.specs.BTreeSet.{BTreeSet, contains}
-use Rattle.std.specs.Map.{lookup}
+use Rattle.std.specs.BTreeMap.{BTreeMap, get}
+use Rattle.std.specs.Map.{lookup, keys_of}
 use Rattle.std.specs.Option.{unwrap_or, option_map, option_map_or}
 use Rattle.std.specs.Str.{bytes_eq}
 use Rattle.fts_ilist.specs.Spelling.{Posting, ArePositions, ArePostings}
@@ -64,13 +64,13 @@ abbrev pub IsUsedBut : Entries → List ℕ → Type 0
 IsUsedBut entries fresh = (w : List ℕ) (n : ℕ) → number_in entries w ≡ Some n
     → is_spent (queue_in entries w) ≡ true → has_number n fresh ≡ true
 
--- the words in byte order are those that have a number
-abbrev pub IsListed : List (Vec ℕ × ℕ) → BTreeSet (List ℕ) → Type 0
-IsListed numbers order = (w : List ℕ) → contains byte_order order w
-    ≡ is_some (lookup (λ k. bytes_eq w k.items) numbers)
+-- the words in byte order have each word that has a number, with its number, and perhaps more
+abbrev pub IsListed : List (Vec ℕ × ℕ) → BTreeMap (List ℕ) ℕ → Type 0
+IsListed numbers order = (w : List ℕ) (n : ℕ) → lookup (λ k. bytes_eq w k.items) numbers ≡ Some n
+    → get byte_order order w ≡ Some n
 
 -- the fields of the words; the fresh numbers are those of words that were entered since words were let go of
-pub record AreKept (entries : Entries) (order : BTreeSet (List ℕ)) (fresh : List ℕ) : Type 0 where
+pub record AreKept (entries : Entries) (order : BTreeMap (List ℕ) ℕ) (fresh : List ℕ) : Type 0 where
   pub table : IsTable entries
   pub listed : IsListed entries.numbers order
   pub used : IsUsedBut entries fresh
@@ -160,6 +160,10 @@ abbrev pub left_of : ℕ → List ℕ → Option ℕ → List Posting → List P
 left_of doc numbers None ps = ps
 left_of doc numbers (Some n) ps = if has_number n numbers then postings_behind doc ps else ps
 
+-- no queue has a document up to doc
+abbrev pub AreBehind : ℕ → Entries → Type 0
+AreBehind doc entries = (w : List ℕ) → postings_behind doc (queue_in entries w).postings ≡ (queue_in entries w).postings
+
 -- the queue of w, where a document was put into the queues of its words
 pub record IsAdded (d : Document) (old new : Entries) (w : List ℕ) : Type 0 where
   pub postings : (queue_in new w).postings ≡ (queue_in old w).postings ++ document_postings w d
@@ -203,6 +207,18 @@ leaving_word doc (Some s) = if leaves doc s.queue then Some s.word else None
 -- those of these words that have a document up to this id
 abbrev pub leaving_words : Slots → ℕ → List ℕ → List (List ℕ)
 leaving_words slots doc numbers = filter_map (λ n. leaving_word doc (slot_in slots n)) numbers
+
+-- whether the number of a word in byte order is still its own, and it has a document up to this id
+abbrev pub is_leaving_as : Slots → ℕ → List ℕ × ℕ → Bool
+is_leaving_as slots doc entry = option_map_or (bytes_eq entry.0) (leaving_word doc (slot_in slots entry.1)) false
+
+-- those of the words in byte order that have a document up to this id
+abbrev pub leaving_listed : Slots → ℕ → List (List ℕ × ℕ) → List (List ℕ)
+leaving_listed slots doc entries = keys_of (filter (is_leaving_as slots doc) entries)
+
+-- the words in byte order keep the numbers of all words but one
+abbrev pub KeepsBut : List ℕ → BTreeMap (List ℕ) ℕ → BTreeMap (List ℕ) ℕ → Type 0
+KeepsBut word old new = (w : List ℕ) → bytes_eq w word ≡ false → get byte_order new w ≡ get byte_order old w
 
 -- whether a document has the word
 abbrev pub has_documents : Entries → List ℕ → Bool

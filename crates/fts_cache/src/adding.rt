@@ -1,9 +1,11 @@
 //! Documents that are put into the queues of their words, and taken out of them.
 ghost use Rattle.std.specs.Prelude.{◌≡◌, ◌≢◌, ◌+◌, ◌<◌, ◌≤◌, ◌++◌, List, ℕ, [], ◌∷◌, length, map};
-ghost use Rattle.std.specs.Prelude.{OnOk};
+ghost use Rattle.std.specs.Prelude.{OnOk, true};
+ghost use Rattle.fts_ilist.specs.Queue.{postings_behind};
 ghost use Rattle.fts_cache.specs.Document.{bytes_in, bytes_of};
 ghost use Rattle.fts_cache.specs.Words.{number_in, queue_in, left_of, AreNumbersOf, Grows};
-ghost use Rattle.fts_cache.specs.Words.{IsLess, IsAdded, KeepsNumbers, GivesUp, IsUsedBut};
+ghost use Rattle.fts_cache.specs.Words.{AreBehind, IsLess, IsAdded, KeepsNumbers, GivesUp};
+ghost use Rattle.fts_cache.specs.Words.{IsUsedBut};
 ghost use Rattle.std.specs.List.{concat};
 ghost use Rattle.fts_cache.specs.Cache.{AreNumbers};
 
@@ -140,6 +142,35 @@ pub(crate) fn drop_words(words: &mut Words, numbers: &[u32], doc: u64)
     ensures last { (w : List ℕ) → (queue_in words.new w).last ≤ (queue_in words.old w).last }
 {
     for number in numbers {
-        words.drop_until(*number, doc);
+        words.drop_until(*number as usize, doc);
     }
+}
+
+/// Takes the documents up to `doc` out of all queues. It is a walk over all words.
+pub(crate) fn drop_all(words: &mut Words, doc: u64)
+    ensures postings { (w : List ℕ) → (queue_in words.new w).postings
+        ≡ postings_behind doc (queue_in words.old w).postings }
+    ensures numbers { KeepsNumbers words.new words.old }
+    ensures last { (w : List ℕ) → (queue_in words.new w).last ≤ (queue_in words.old w).last }
+{
+    let places = words.places();
+    for number in 0..places {
+        words.drop_until(number, doc);
+    }
+}
+
+/// Takes the documents up to `doc` out of the queues of the words with these numbers, unless that
+/// was done.
+pub(crate) fn drop_left(words: &mut Words, numbers: &[u32], doc: u64, done: bool)
+    requires { done ≡ true → AreBehind doc words.old }
+    ensures postings { (w : List ℕ) → (queue_in words.new w).postings
+        ≡ left_of doc numbers.now (number_in words.old w) (queue_in words.old w).postings }
+    ensures numbers { KeepsNumbers words.new words.old }
+    ensures last { (w : List ℕ) → (queue_in words.new w).last ≤ (queue_in words.old w).last }
+    ensures done { done ≡ true → AreBehind doc words.new }
+{
+    if done {
+        return;
+    }
+    drop_words(words, numbers, doc);
 }

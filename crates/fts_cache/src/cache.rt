@@ -1,7 +1,7 @@
 //! The cache and its calls.
 ghost use Rattle.std.specs.Prelude.{◌≡◌, ◌≢◌, ℕ, ◌+◌, ◌^◌, ◌<◌, ◌≤◌, ◌↔◌, ◌++◌, List, [], ◌∷◌};
 ghost use Rattle.std.specs.Prelude.{length, max, map, filter, sum_by, nat_eq, IfOk, IfSome, IfNone};
-ghost use Rattle.std.specs.Prelude.{OnOk, OnErr, IsTrue, Some};
+ghost use Rattle.std.specs.Prelude.{OnOk, OnErr, IsTrue, Some, true};
 ghost use Rattle.fts_ilist.specs.Spelling.{ArePostings};
 ghost use Rattle.fts_ilist.specs.Queue.{postings_behind};
 ghost use Rattle.fts_cache.specs.Document.{Document, document_size, document_postings, bytes_in};
@@ -9,7 +9,7 @@ ghost use Rattle.fts_cache.specs.Document.{bytes_of};
 ghost use Rattle.fts_cache.specs.Cache.{CacheState, CachedDocument, postings_of, cache_size};
 ghost use Rattle.fts_cache.specs.Cache.{cached, cached_behind, SameContents, HasRoom, BeginsAbove};
 ghost use Rattle.fts_cache.specs.Cache.{IdsAscend, room_of, room_left, HoldsNoOther};
-ghost use Rattle.fts_cache.specs.Words.{queue_in, postings_until};
+ghost use Rattle.fts_cache.specs.Words.{queue_in, postings_until, AreBehind};
 ghost use Rattle.fts_cache.specs.Kept.{kept, NoteWords, NotesUntil};
 ghost use Rattle.fts_cache.specs.Sorted.{IsAmong, AscendByBytes, lent_words};
 ghost use Rattle.std.specs.List.{IsDistinct, All, list_any};
@@ -17,7 +17,7 @@ ghost use Rattle.std.specs.List.Sorted.{IsStrictlySortedBy};
 ghost use Rattle.std.specs.Str.{bytes_eq};
 ghost use Rattle.fts_words.specs.Order.{begins_with, byte_order};
 
-use crate::adding::{add_document, drop_words, release_promised, reserve_documents};
+use crate::adding::{add_document, drop_all, drop_left, release_promised, reserve_documents};
 use crate::document::DocWords;
 use crate::words::Words;
 use fts_ilist::Cursor;
@@ -92,11 +92,41 @@ fn pop_until(documents: &mut VecDeque<Cached>, doc: u64) -> Option<Cached>
     }
 }
 
+/// How many numbers the documents up to `doc` note.
+fn noted_len(documents: &VecDeque<Cached>, doc: u64) -> usize {
+    let mut count = 0usize;
+    for place in 0..documents.len() {
+        let document = &documents[place];
+        if document.id > doc {
+            return count;
+        }
+        count = count.saturating_add(document.numbers.len());
+    }
+    count
+}
+
+/// Takes the documents up to `doc` out of all queues, where these are few beside the numbers that
+/// the documents note, and tells whether it did.
+fn drop_if_many(words: &mut Words, documents: &VecDeque<Cached>, doc: u64) -> bool
+    requires noted { NoteWords words.old documents.now.items }
+    ensures postings { (w : List ℕ) → postings_behind doc (queue_in words.new w).postings
+        ≡ postings_behind doc (queue_in words.old w).postings }
+    ensures last { (w : List ℕ) → (queue_in words.new w).last ≤ (queue_in words.old w).last }
+    ensures noted { NoteWords words.new documents.now.items }
+    ensures done { result ≡ true → AreBehind doc words.new }
+{
+    if words.places() > noted_len(documents, doc) {
+        return false;
+    }
+    drop_all(words, doc);
+    true
+}
+
 /// Takes the documents up to `doc` out, and out of the queues of their words. Returns the sum of
 /// their sizes.
 ///
-/// The first of them that has a word takes all of them out of its queue, so that this queue is
-/// moved once.
+/// One walk takes them out of all queues, where they are many; else the first of them that has a
+/// word takes all of them out of its queue. So a queue is moved once.
 fn drop_documents(words: &mut Words, documents: &mut VecDeque<Cached>, doc: u64) -> u64
     requires ascend { IdsAscend (kept documents.old.items) }
     requires fits { sum_by (λ d. d.size) (kept documents.old.items) < 2 ^ 64 }
@@ -109,10 +139,11 @@ fn drop_documents(words: &mut Words, documents: &mut VecDeque<Cached>, doc: u64)
     ensures last { (w : List ℕ) → (queue_in words.new w).last ≤ (queue_in words.old w).last }
     ensures noted { NoteWords words.new documents.new.items }
 {
+    let done = drop_if_many(words, documents, doc);
     let mut size = 0;
     while let Some(first) = pop_until(documents, doc) {
         size += u64::from(first.size);
-        drop_words(words, &first.numbers, doc);
+        drop_left(words, &first.numbers, doc, done);
     }
     size
 }
@@ -244,7 +275,8 @@ impl Cache {
     /// The words that begin so and that a document has, in the order of their bytes, each once.
     /// They lie in the cache's allocator.
     ///
-    /// It takes logarithmic time, and a look-up for each word that begins so.
+    /// It takes logarithmic time, and a look-up for each word that begins so; some that left may
+    /// still be among those, at most as many as there are places for words.
     pub fn prefix(&self, prefix: &[u8]) -> Result<Vec<&[u8]>, AllocError>
         ensures words { IfOk result
             (λ words. (w : List ℕ) → IsAmong w words.items
@@ -257,7 +289,8 @@ impl Cache {
     /// The words of the documents up to `doc`, in the order of their bytes, each once, with its
     /// `postings`, of which the first are those up to `doc`. They lie in the cache's allocator.
     ///
-    /// It costs those documents' words, and a sort of them; no word is looked up.
+    /// It costs those documents' words and a sort of them, or a walk over the cache's words, where
+    /// these are few beside them; no word is looked up.
     pub fn words_until(&self, doc: u64) -> Result<Vec<(&[u8], Cursor<'_>)>, AllocError>
         ensures words { IfOk result (λ words. (w : List ℕ)
             → IsTrue (list_any (bytes_eq w) (lent_words words.items))
@@ -267,6 +300,9 @@ impl Cache {
         ensures documents { IfOk result (λ words. All (λ e.
             (e.1 ≡ postings_of self.now e.0.now) × ArePostings e.1) words.items) }
     {
+        if self.words.listed_len() / 2 <= noted_len(&self.documents, doc) {
+            return self.words.leaving_in_order(doc);
+        }
         let numbers = leaving_numbers(self.words.allocator(), &self.documents, doc)?;
         self.words.leaving(&numbers, doc)
     }

@@ -1,6 +1,6 @@
 //! The cached words, each by a number of its own, and their queues.
 ghost use Rattle.std.specs.Prelude.{◌≡◌, ◌≢◌, ◌+◌, ◌-◌, ◌^◌, ◌<◌, ◌≤◌, ◌↔◌, ◌++◌};
-ghost use Rattle.std.specs.Prelude.{List, ℕ, [], ◌∷◌, Some, length, map, IfOk, IfSome, OnOk};
+ghost use Rattle.std.specs.Prelude.{List, ℕ, [], ◌∷◌, Some, None, length, map, IfOk, IfSome, OnOk};
 ghost use Rattle.std.specs.Prelude.{OnErr, IsTrue, true, nat_eq, if◌then◌else◌};
 ghost use Rattle.std.specs.Option.{option_map, option_to_list};
 ghost use Rattle.std.specs.List.{IsDistinct};
@@ -22,7 +22,8 @@ ghost use Rattle.fts_cache.specs.Words.{leaving_word, leaving_words, has_documen
 ghost use Rattle.fts_ilist.specs.Front.{front};
 ghost use Rattle.fts_words.specs.Order.{begins_with};
 ghost use Rattle.fts_cache.specs.Words.{with_documents, is_spent, is_spent_at, IsUsedBut, IsListed};
-ghost use Rattle.fts_cache.specs.Words.{IsLess, AreKept, IsLent};
+ghost use Rattle.fts_cache.specs.Words.{AreKept, IsLent, KeepsBut, is_leaving_as, leaving_listed};
+ghost use Rattle.std.specs.Map.{keys_of};
 
 use fts_ilist::{Cursor, PostingQueue};
 use fts_types::Word;
@@ -30,8 +31,8 @@ use indexmap::IndexMap;
 use slab::Slab;
 use std::alloc::{AllocError, Global};
 use std::cmp::Ordering;
-use std::collections::BTreeSet;
-use std::collections::btree_set::Range;
+use std::collections::BTreeMap;
+use std::collections::btree_map::{Iter, Range};
 use std::marker::Model;
 use std::ops::Bound;
 
@@ -50,8 +51,8 @@ pub(crate) struct Words {
     numbers: IndexMap<Vec<u8>, u32>,
     // By their numbers.
     slots: Slab<CachedWord>,
-    // In the order of their bytes.
-    order: BTreeSet<Word>,
+    // The number of each word, in the order of their bytes. A word that left may still stand here.
+    order: BTreeMap<Word, u32>,
     // The numbers of the words that were entered since the last sweep.
     fresh: Vec<u32>,
 }
@@ -103,10 +104,10 @@ fn push_at(slots: &mut Slab<CachedWord>, number: u32, doc: u64, positions: &[u32
 }
 
 /// Takes the documents up to `doc` out of the queue with this number.
-fn drop_at(slots: &mut Slab<CachedWord>, number: u32, doc: u64)
+fn drop_at(slots: &mut Slab<CachedWord>, number: usize, doc: u64)
     ensures { Alters number (without doc) slots.old.slots slots.new.slots }
 {
-    if let Some(cached) = slots.get_mut(number as usize) {
+    if let Some(cached) = slots.get_mut(number) {
         cached.queue.drop_until(doc);
     }
 }
@@ -122,12 +123,22 @@ fn is_idle(queue: &PostingQueue) -> bool
 }
 
 /// Whether there is a queue with this number that has neither documents nor room.
-fn is_unused(slots: &Slab<CachedWord>, number: u32) -> bool
+fn is_unused(slots: &Slab<CachedWord>, number: usize) -> bool
     ensures { result ≡ is_spent_at slots.now.slots number }
 {
-    match slots.get(number as usize) {
+    match slots.get(number) {
         Some(cached) => is_idle(&cached.queue),
         None => false,
+    }
+}
+
+/// Takes a word that left out of those in byte order, where these are more than there are places
+/// for words. Else it stays there: mostly it comes again, and no search looks at its number alone.
+fn forget(order: &mut BTreeMap<Word, u32>, places: usize, word: &Word)
+    ensures { KeepsBut word.now order.old order.new }
+{
+    if order.len() > places {
+        order.remove(word);
     }
 }
 
@@ -135,8 +146,8 @@ fn is_unused(slots: &Slab<CachedWord>, number: u32) -> bool
 fn let_go(
     numbers: &mut IndexMap<Vec<u8>, u32>,
     slots: &mut Slab<CachedWord>,
-    order: &mut BTreeSet<Word>,
-    number: u32,
+    order: &mut BTreeMap<Word, u32>,
+    number: usize,
 )
     requires table { IsTable (record { numbers = numbers.old.entries; slots = slots.old.slots }) }
     requires listed { IsListed numbers.old.entries order.old }
@@ -149,9 +160,9 @@ fn let_go(
     if !is_unused(slots, number) {
         return;
     }
-    if let Some(cached) = slots.try_remove(number as usize) {
+    if let Some(cached) = slots.try_remove(number) {
         numbers.swap_remove(cached.word.as_bytes());
-        order.remove(&cached.word);
+        forget(order, slots.capacity(), &cached.word);
     }
 }
 
@@ -159,7 +170,7 @@ fn let_go(
 fn let_go_all(
     numbers: &mut IndexMap<Vec<u8>, u32>,
     slots: &mut Slab<CachedWord>,
-    order: &mut BTreeSet<Word>,
+    order: &mut BTreeMap<Word, u32>,
     fresh: &[u32],
 )
     requires kept { AreKept (record { numbers = numbers.old.entries; slots = slots.old.slots })
@@ -174,7 +185,7 @@ fn let_go_all(
 {
     let mut rest = fresh;
     while let Some((first, behind)) = rest.split_first() {
-        let_go(numbers, slots, order, *first);
+        let_go(numbers, slots, order, *first as usize);
         rest = behind;
     }
 }
@@ -245,6 +256,48 @@ fn push_some<'a>(
     Ok(())
 }
 
+/// The word with its documents, where this is its number and it has a document up to `doc`.
+fn leaving_as<'a>(
+    slots: &'a Slab<CachedWord>,
+    word: &[u8],
+    number: u32,
+    doc: u64,
+) -> Option<(&'a [u8], Cursor<'a>)>
+    ensures word { option_map (λ e. e.0.now) result
+        ≡ (if is_leaving_as slots.now.slots doc (word.now, number) then Some word.now else None) }
+    ensures lent { IfSome result (λ e. IsLent slots.now.slots e.0.now e.1) }
+{
+    match leaving(slots, number, doc) {
+        Some((found, documents)) => {
+            if word == found {
+                return Some((found, documents));
+            }
+            None
+        }
+        None => None,
+    }
+}
+
+/// Those of the words in byte order that have a document up to `doc`, with their documents.
+fn all_listed<'a>(
+    alloc: Global,
+    slots: &'a Slab<CachedWord>,
+    rest: Iter<'a, Word, u32>,
+    doc: u64,
+) -> Result<Vec<(&'a [u8], Cursor<'a>)>, AllocError>
+    ensures words { IfOk result (λ words. lent_words words.items
+        ≡ leaving_listed slots.now.slots doc rest.entry) }
+    ensures lent { IfOk result (λ words. All (λ e. IsLent slots.now.slots e.0.now e.1)
+        words.items) }
+{
+    let mut rest = rest;
+    let mut words = Vec::new(alloc);
+    while let Some((word, number)) = rest.next() {
+        push_some(&mut words, leaving_as(slots, word.as_bytes(), *number, doc))?;
+    }
+    Ok(words)
+}
+
 /// How two words are ordered: as their bytes are.
 fn by_bytes(word: &(&[u8], Cursor<'_>), other: &(&[u8], Cursor<'_>)) -> Ordering
     ensures { result ≡ byte_order word.now.0.now other.now.0.now }
@@ -263,15 +316,16 @@ fn sort_words(words: &mut Vec<(&[u8], Cursor<'_>)>)
 /// The words at the front of the rest that begin so, and that a document has.
 fn shown_with_prefix<'a>(
     words: &'a Words,
-    rest: Range<'a, Word>,
+    rest: Range<'a, Word, u32>,
     prefix: &[u8],
 ) -> Result<Vec<&'a [u8]>, AllocError>
     ensures { IfOk result (λ found. map (λ w. w.now) found.items
-        ≡ with_documents words.now (front (λ w. w) prefix.now rest.entry)) }
+        ≡ with_documents words.now (front (λ w. w) prefix.now (keys_of rest.entry))) }
 {
     let mut rest = rest;
     let mut found = Vec::new(words.allocator());
-    while let Some(word) = rest.next() {
+    while let Some(entry) = rest.next() {
+        let word = entry.0;
         if !word.as_bytes().starts_with(prefix) {
             return Ok(found);
         }
@@ -303,7 +357,7 @@ impl Words {
         Words {
             numbers: IndexMap::new(alloc),
             slots: Slab::new(alloc),
-            order: BTreeSet::new(alloc),
+            order: BTreeMap::new(alloc),
             fresh: Vec::new(alloc),
         }
     }
@@ -311,6 +365,18 @@ impl Words {
     /// The allocator of the words.
     pub fn allocator(&self) -> Global {
         *self.numbers.allocator()
+    }
+
+    /// How many words stand in byte order: those that are here, and some that left.
+    pub fn listed_len(&self) -> usize {
+        self.order.len()
+    }
+
+    /// How many places there are for words. Each word's number is below it.
+    pub fn places(&self) -> usize
+        ensures { (w : List ℕ) (n : ℕ) → number_in self.now w ≡ Some n → n < result }
+    {
+        self.slots.capacity()
     }
 
     /// How many words there are.
@@ -364,7 +430,7 @@ impl Words {
         self.slots.reserve(1)?;
         self.numbers.reserve(1)?;
         self.fresh.reserve(1)?;
-        self.order.insert(listed)?;
+        self.order.insert(listed, number)?;
         self.numbers.insert(key, number).unwrap();
         self.slots.insert_reserved(CachedWord { word, queue });
         self.fresh.push(number).unwrap();
@@ -404,7 +470,12 @@ impl Words {
         ensures room { (w : List ℕ) → GivesUp (number ∷ []) self.old self.new w }
     {
         clear_at(&mut self.slots, number);
-        let_go(&mut self.numbers, &mut self.slots, &mut self.order, number);
+        let_go(
+            &mut self.numbers,
+            &mut self.slots,
+            &mut self.order,
+            number as usize,
+        );
     }
 
     /// Lets go of the words that have neither documents nor room. It costs those that were entered
@@ -425,7 +496,7 @@ impl Words {
 
     /// Takes the documents up to `doc` out of the queue of the word with this number, and lets go
     /// of the word where it has none any more, and no room.
-    pub fn drop_until(&mut self, number: u32, doc: u64)
+    pub fn drop_until(&mut self, number: usize, doc: u64)
         ensures { (w : List ℕ) → IsDropped number doc self.old self.new w }
     {
         drop_at(&mut self.slots, number, doc);
@@ -448,6 +519,20 @@ impl Words {
         let mut words = all_leaving(self.allocator(), &self.slots, numbers, doc)?;
         sort_words(&mut words);
         Ok(words)
+    }
+
+    /// The words that have a document up to `doc`, in the order of their bytes, each with its
+    /// documents. It is a walk over all words.
+    pub fn leaving_in_order(&self, doc: u64) -> Result<Vec<(&[u8], Cursor<'_>)>, AllocError>
+        ensures words { IfOk result (λ words. (w : List ℕ)
+            → IsTrue (list_any (bytes_eq w) (lent_words words.items))
+            ↔ (postings_until doc (queue_in self.now w).postings ≢ [])) }
+        ensures ascending { IfOk result
+            (λ words. IsStrictlySortedBy byte_order (lent_words words.items)) }
+        ensures documents { IfOk result (λ words. All (λ e.
+            (e.1 ≡ (queue_in self.now e.0.now).postings) × ArePostings e.1) words.items) }
+    {
+        all_listed(self.allocator(), &self.slots, self.order.iter(), doc)
     }
 
     /// The words that begin so and have a document, in the order of their bytes.

@@ -13,10 +13,14 @@ use Rattle.fts_ilist.specs.Spelling.{Posting, PostingsAfter}
 use Rattle.fts_ilist.specs.Node.{Docs}
 use Rattle.fts_entries.specs.Exact.{IdsAfter}
 use Rattle.fts_entries.proofs.Packing.{nodes_ids}
+use Rattle.fts_index.specs.declared.passing.PassPlan.{PassPlan}
+use Rattle.fts_index.specs.declared.passing.PassPlan.TheVariants.{Begin, Word, Finish}
+use Rattle.fts_index.specs.Passing.{step_entry}
 use Rattle.fts_index.specs.Restore.{AreRead}
+use Rattle.fts_entries.specs.Pass.{IsStep}
 use Rattle.fts_ixcodec.specs.Payload.{entry_payload, is_form, is_form_from, IsWord, IsNode, IsEntry}
 use Rattle.fts_ixcodec.proofs.Entries.{payload_has_one_entry}
-use Rattle.fts_entries.specs.Entry.{Batch, IndexEntry, IndexState, sealed, no_entries, index_of}
+use Rattle.fts_entries.specs.Entry.{Batch, IndexEntry, IndexState, sealed, no_entries, after_entry, index_of}
 use Rattle.fts_entries.specs.Coming.{CanSeal, CanCome, AreEntries}
 use Rattle.fts_entries.proofs.Commits.{same_index}
 use Rattle.fts_entries.proofs.Coming.{entries_more, entries_through, come_behind, come_last, index_behind, seal_less}
@@ -26,7 +30,7 @@ use Rattle.fts_steps.proofs.Growing.{turns_more, entries_stay, index_stays, none
 use Rattle.fts_engine.specs.declared.restoring.Restoring.{Restoring}
 use Rattle.fts_engine.specs.declared.kept.Kept.{Kept}
 use Rattle.fts_engine.specs.Kept.{kept_settings, kept_rows, kept_limits, IsIndexed}
-use Rattle.fts_engine.specs.Restoring.{restoring_settings, restoring_rows, restoring_commits, IsCovering, IsInstalled}
+use Rattle.fts_engine.specs.Restoring.{restoring_settings, restoring_rows, restoring_commits, IsCovering}
 use Rattle.fts_engine.specs.Reading.{IsWrongPayload}
 use Rattle.fts_engine.specs.Loading.{BeginsWith, IsRestored, StillRestored, IsLoaded, NoneCanCome, AreSound}
 use Rattle.fts_engine.proofs.Loading.{one_more, front_of}
@@ -102,28 +106,26 @@ module _ (all read : List (List ℕ)) (j : ℕ) (old new : Restoring) (was : IsR
       }
 
   -- one entry more was installed
-  pub installed_more : (through synced : ℕ) (batch : Batch) → restoring_rows new ≡ restoring_rows old → restoring_settings new ≡ restoring_settings old
-      → restoring_commits new ≡ restoring_commits old → IsEntry (sealed through synced batch)
-      → take (j + 1) read ≡ take j read ++ entry_payload (sealed through synced batch) ∷ []
-      → IsInstalled state.commits (index_state state) through synced batch new → IsRestored all read (j + 1) new
-  installed_more through synced batch rows settings count written taken installed =
-      let entry = sealed through synced batch in
-      record {
-        of_rows = record {
-          state = with_entries state (entry ∷ []);
-          sound = record { settings = was.of_rows.sound.settings; written = was.of_rows.sound.written; accepted = was.of_rows.sound.accepted };
-          same = was.of_rows.same ∙ sym settings;
-          loaded = was.of_rows.loaded ∙ ap (λ (n : ℕ). take (n + 1) all) (sym count);
-          count = was.of_rows.count ∙ ap (λ (n : ℕ). n + 1) (sym count);
-          kept = rows ∙ was.of_rows.kept;
-        };
-        entries = record {
-          written = All-push IsEntry state.entries entry was.entries.written written;
-          come = come_behind (turns_of state) state.entries entry was.entries.come installed.can;
-        };
-        taken = map-append entry_payload state.entries (entry ∷ []) ∙ ap (λ (front : List (List ℕ)). front ++ entry_payload entry ∷ []) was.taken ∙ sym taken;
-        covers = subst (λ (s : IndexState). IsCovering new state.commits s) (sym (index_behind (turns_of state) state.entries entry)) installed.covers;
-      }
+  pub installed_more : (entry : IndexEntry) → restoring_rows new ≡ restoring_rows old → restoring_settings new ≡ restoring_settings old
+      → restoring_commits new ≡ restoring_commits old → IsEntry entry → take (j + 1) read ≡ take j read ++ entry_payload entry ∷ []
+      → CanCome (turns_of state) (index_state state) entry → IsCovering new state.commits (after_entry (turns_of state) (index_state state) entry)
+      → IsRestored all read (j + 1) new
+  installed_more entry rows settings count written taken come covers = record {
+    of_rows = record {
+      state = with_entries state (entry ∷ []);
+      sound = record { settings = was.of_rows.sound.settings; written = was.of_rows.sound.written; accepted = was.of_rows.sound.accepted };
+      same = was.of_rows.same ∙ sym settings;
+      loaded = was.of_rows.loaded ∙ ap (λ (n : ℕ). take (n + 1) all) (sym count);
+      count = was.of_rows.count ∙ ap (λ (n : ℕ). n + 1) (sym count);
+      kept = rows ∙ was.of_rows.kept;
+    };
+    entries = record {
+      written = All-push IsEntry state.entries entry was.entries.written written;
+      come = come_behind (turns_of state) state.entries entry was.entries.come come;
+    };
+    taken = map-append entry_payload state.entries (entry ∷ []) ∙ ap (λ (front : List (List ℕ)). front ++ entry_payload entry ∷ []) was.taken ∙ sym taken;
+    covers = subst (λ (s : IndexState). IsCovering new state.commits s) (sym (index_behind (turns_of state) state.entries entry)) covers;
+  }
 
   -- it holds what it held
   pub restored_still : restoring_rows new ≡ restoring_rows old → restoring_settings new ≡ restoring_settings old → restoring_commits new ≡ restoring_commits old
@@ -141,6 +143,12 @@ module _ (all read : List (List ℕ)) (j : ℕ) (old new : Restoring) (was : IsR
     taken = was.taken;
     covers = covers state.commits (index_state state) was.covers;
   }
+
+-- a step that can come is the next one
+pub next_comes : (turns : List Turn) (s : IndexState) (plan : PassPlan) → CanCome turns s (step_entry plan) → IsStep s (step_entry plan)
+next_comes turns s Begin come = come
+next_comes turns s (Word word nodes) come = come
+next_comes turns s Finish come = come
 
 -- restored and still so is still so
 pub still_more : (all read : List (List ℕ)) (j : ℕ) (old mid new : Restoring) (was : IsRestored all read j old) (first : StillRestored all read j was mid)

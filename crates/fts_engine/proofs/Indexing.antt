@@ -16,7 +16,9 @@ use Rattle.fts_words.specs.Indexed.{Rules}
 use Rattle.fts_commits.specs.Commit.{Commit, Rows, no_rows, after_commit, rows_after, replay}
 use Rattle.fts_commits.specs.Turn.{Turn, RowsAscend, AreTurns, rows_but, rows_by, turn_between, turns_from, deaths_of}
 use Rattle.fts_rows.specs.Rows.{Held, rows_of}
-use Rattle.fts_entries.specs.Entry.{Batch, IndexState, sealed, after_entry}
+use Rattle.fts_entries.specs.Entry.{Batch, IndexEntry, IndexState, sealed, after_entry}
+use Rattle.fts_entries.specs.Pass.{IsStep}
+use Rattle.fts_entries.proofs.Stepping.{step_fits}
 use Rattle.fts_entries.specs.Batch.{IsBatch, largest_after, after_batch}
 use Rattle.fts_entries.specs.Exact.{FitsTurns}
 use Rattle.fts_entries.proofs.Commits.{one_fits}
@@ -200,6 +202,19 @@ batch_right settings right rows old new commits s limit through synced batch is 
       fits = subst (λ (after : IndexState). FitsTurns turns after) same fits;
       ascend = is.ascend;
     }
+
+-- an index that made the next step of OPTIMIZE is right for the state behind it
+pub stepped_right : (settings : Settings) (rows : Rows) (old new : Index) (commits : List Commit) (s : IndexState) (entry : IndexEntry)
+    → IsIndexOf settings rows old commits s → IsStep s entry → StandsFor (rules_of settings) (turns_from no_rows commits) (after_entry (turns_from no_rows commits) s entry) new
+    → IsIndexOf settings rows new commits (after_entry (turns_from no_rows commits) s entry)
+stepped_right settings rows old new commits s entry is next stands = record {
+  same = is.same;
+  stands = stands;
+  are = is.are;
+  lead = is.lead;
+  fits = step_fits (turns_from no_rows commits) s entry is.fits next;
+  ascend = is.ascend;
+}
 
 -- the turns of the commits for which an index stands are known
 pub turns_known : (settings : Settings) (rows : Rows) (index : Index) (commits : List Commit) (s : IndexState) → IsIndexOf settings rows index commits s → AreKnown commits

@@ -12,6 +12,7 @@ pub mod Candidates
 pub mod Indexing
 pub mod Props
 pub mod Syncing
+pub mod Optimizing
 pub mod Covering
 pub mod Replaying
 pub mod Opened

@@ -8,7 +8,12 @@ use Rattle.fts_words.specs.Indexed.{Rules}
 use Rattle.fts_types.specs.Limits.{standard_limits}
 use Rattle.fts_commits.specs.Commit.{Commit, Rows, no_rows, after_commit, replay}
 use Rattle.fts_commits.specs.Turn.{Turn, AreTurns, turn_between, turns_from}
-use Rattle.fts_entries.specs.Entry.{Batch, IndexState, no_entries, sealed, after_entry}
+use Rattle.fts_entries.specs.Entry.{Batch, IndexState, no_entries, sealed, begun, worked, finished, after_entry}
+use Rattle.fts_entries.specs.Pass.{IsStep}
+use Rattle.fts_entries.proofs.Stepping.{step_fits}
+use Rattle.fts_index.specs.declared.passing.PassPlan.{PassPlan}
+use Rattle.fts_index.specs.declared.passing.PassPlan.TheVariants.{Begin, Word, Finish}
+use Rattle.fts_index.specs.Passing.{step_entry}
 use Rattle.fts_entries.specs.Batch.{largest_after}
 use Rattle.fts_entries.specs.Coming.{CanSeal}
 use Rattle.fts_entries.specs.Exact.{FitsTurns}
@@ -128,6 +133,24 @@ module _ (settings : Settings) (rows : Rows) (index : Index) (covered : Covered)
       ascend = rows_ascend_more commits commit laws is.ascend;
     }
 
+  -- a state that flushes as much
+  stepped : (later : IndexState) (new : Index) → later.flushed ≡ s.flushed → StandsFor (rules_of settings) front later new → FitsTurns front later
+      → Covering settings rows new covered count commits later
+  stepped later new still stands fits = record {
+    same = is.same;
+    counted = is.counted;
+    restores = record {
+      stands = subst (λ (n : ℕ). StandsFor (rules_of settings) (take n turns) later new) (sym still) stands;
+      flushed = still ∙ is.restores.flushed ∙ ap (λ (n : ℕ). length (take n turns)) (sym still);
+      fits = subst (λ (n : ℕ). FitsTurns (take n turns) later) (sym still) fits;
+      ascend = subst (λ (n : ℕ). AreTurns 0 (take n turns ++ drop n turns)) (sym still) is.restores.ascend;
+      covers = subst (λ (n : ℕ). Covers (drop n turns) covered) (sym still) is.restores.covers;
+    };
+    are = is.are;
+    lead = is.lead;
+    ascend = is.ascend;
+  }
+
   -- a batch was installed that flushes all
   pub one_installed : (through synced : ℕ) (batch : Batch) (new : Index) (covered' : Covered)
       → restore.IsRestored (rules_of settings) (front ++ rest) s through synced batch new → Covers [] covered'
@@ -152,6 +175,23 @@ module _ (settings : Settings) (rows : Rows) (index : Index) (covered : Covered)
         lead = is.lead;
         ascend = is.ascend;
       }
+
+  -- a step of OPTIMIZE was made, which flushes nothing
+  pub one_stepped : (plan : PassPlan) (new : Index) → IsStep s (step_entry plan)
+      → StandsFor (rules_of settings) front (after_entry front s (step_entry plan)) new
+      → Covering settings rows new covered count commits (after_entry turns s (step_entry plan))
+  one_stepped plan new next stands = by plan refl
+    where
+      by : (step : PassPlan) → step ≡ plan → Covering settings rows new covered count commits (after_entry turns s (step_entry step))
+      by Begin e = stepped (after_entry front s begun) new refl
+          (subst (λ (p : PassPlan). StandsFor (rules_of settings) front (after_entry front s (step_entry p)) new) (sym e) stands)
+          (step_fits front s begun is.restores.fits (subst (λ (p : PassPlan). IsStep s (step_entry p)) (sym e) next))
+      by (Word word nodes) e = stepped (after_entry front s (worked word nodes.nodes)) new refl
+          (subst (λ (p : PassPlan). StandsFor (rules_of settings) front (after_entry front s (step_entry p)) new) (sym e) stands)
+          (step_fits front s (worked word nodes.nodes) is.restores.fits (subst (λ (p : PassPlan). IsStep s (step_entry p)) (sym e) next))
+      by Finish e = stepped (after_entry front s finished) new refl
+          (subst (λ (p : PassPlan). StandsFor (rules_of settings) front (after_entry front s (step_entry p)) new) (sym e) stands)
+          (step_fits front s finished is.restores.fits (subst (λ (p : PassPlan). IsStep s (step_entry p)) (sym e) next))
 
   -- where nothing is noted, all that was read is flushed
   pub none_noted : covered.count ≡ 0 → count ≤ s.flushed
@@ -202,6 +242,27 @@ still_has settings rows index new covered covered' count through synced batch (E
   state = has.state;
   is = still_covered settings rows rows index new covered covered' count has.commits has.state refl (stays refl)
       (λ turns covers. subst (λ (c : Covered). Covers turns c) (sym same) covers) has.is;
+}
+
+-- behind a call that makes a step of OPTIMIZE or refuses it too
+pub still_stepped : {T E : Type 0} (settings : Settings) (rows : Rows) (index new : Index) (covered : Covered) (count : ℕ) (plan : PassPlan) (result : Result T E)
+    → OnOk result ((rules : Rules) (turns : List Turn) (s : IndexState) → StandsFor rules turns s index
+    → IsStep s (step_entry plan) × StandsFor rules turns (after_entry turns s (step_entry plan)) new)
+    → (IsErr result → (rules : Rules) (turns : List Turn) (s : IndexState) → StandsFor rules turns s index → StandsFor rules turns s new)
+    → HasCovered settings rows index covered count → HasCovered settings rows new covered count
+still_stepped settings rows index new covered count plan (Ok done) made stays has =
+    let turns = turns_from no_rows has.commits in
+    let s = has.state in
+    let step = made (rules_of settings) (take s.flushed turns) s has.is.restores.stands in
+    record {
+      commits = has.commits;
+      state = after_entry turns s (step_entry plan);
+      is = one_stepped settings rows index covered count has.commits s has.is plan new step.0 step.1;
+    }
+still_stepped settings rows index new covered count plan (Err error) made stays has = record {
+  commits = has.commits;
+  state = has.state;
+  is = still_covered settings rows rows index new covered covered count has.commits has.state refl (stays refl) (λ turns covers. covers) has.is;
 }
 
 -- a commit was replayed: who was born in it and who died was noted, and its rows were installed

@@ -1,7 +1,7 @@
 -- The steps of an engine, by their answers.
 use Rattle.std.proofs.Common.{◌≡◌, ℕ, ◌+◌, ◌≤◌, List, [], ◌∷◌, refl, ap, subst, sym, ◌∙◌, ◌++◌, arith, map, length, inl, inr, append-nil}
 use Rattle.std.proofs.lemmas.Bool.{false≢true}
-use Rattle.std.specs.Prelude.{false, Option, Some, None, IsTrue}
+use Rattle.std.specs.Prelude.{false, fold, Option, Some, None, IsTrue}
 use Rattle.fts_commits.specs.Commit.{Commit}
 use Rattle.fts_commits.specs.Fits.{CanCommit}
 use Rattle.fts_faults.specs.Count.{Rose}
@@ -11,11 +11,11 @@ use Rattle.fts_disk.specs.declared.disk.Disk.{Ghosts}
 use Rattle.fts_disk.proofs.Runs.{reads_now, leaves_weaker}
 use Rattle.fts_log.specs.Log.{StandsFor, device_of}
 use Rattle.fts_log.specs.declared.log.Log.{Log}
-use Rattle.fts_entries.specs.Entry.{IndexEntry}
-use Rattle.fts_steps.specs.State.{State, payloads, index_payloads, index_state, with_commits, with_entries, IsRight, IsRows, IsIndex}
+use Rattle.fts_entries.specs.Entry.{IndexEntry, IndexState, after_entry}
+use Rattle.fts_steps.specs.State.{State, payloads, index_payloads, index_state, turns_of, with_commits, with_entries, IsRight, IsRows, IsIndex}
 use Rattle.fts_steps.specs.Crash.{MayHold, MayHoldIndex, IsBetween, IsIndexBetween}
-use Rattle.fts_steps.specs.Running.{Running, What, made, batched, failed, loosened, grown, with_what, next_index, next_batch, next_flushed}
-use Rattle.fts_steps.specs.Step.{Ask, to_commit, to_sync, Answer, disk_fault, committed, flushed, stopped, is_disk_fault, changes_of, after, unless_stopped, MayAnswer, Steps, plain_answer}
+use Rattle.fts_steps.specs.Running.{Running, What, made, batched, optimized, failed, batch_failed, optimize_failed, grown, with_what, next_index, next_batch, next_optimized}
+use Rattle.fts_steps.specs.Step.{Ask, to_commit, to_sync, to_optimize, Answer, disk_fault, committed, stopped, is_disk_fault, changes_of, after, unless_stopped, writes, MayAnswer, Leaves, Steps, plain_answer}
 use Rattle.fts_steps.proofs.Adding.{rows_stay, index_stay}
 use Rattle.fts_steps.proofs.Growing.{index_stays, right_stays}
 use Rattle.fts_types.specs.declared.settings.Settings.{Settings}
@@ -54,26 +54,33 @@ between_failed : (running : Running) (commit : Commit) (faults : ℕ) (c : Files
 between_failed running commit faults c (inl before) = record { front = []; rest = commit ∷ []; added = refl; rows = none_more running.state (c 0) before }
 between_failed running commit faults c (inr behind) = record { front = commit ∷ []; rest = []; added = refl; rows = behind }
 
--- and so is before a batch or behind it
-between_sealed : (running : Running) → running.loose ≡ [] → (c : Files) → MayHoldIndex running.state (next_batch running ∷ []) c
-    → IsIndexBetween running (with_what running batched) c
-between_sealed running sure c held = by_case held
+-- and so is before an entry of the index log or behind it: what runs behind it
+abbrev pub grown_index : Running → List IndexEntry → IndexState → Running
+grown_index running more next = record running { state = with_entries running.state more; index = next }
+
+abbrev pub left_loose : Running → List IndexEntry → ℕ → Running
+left_loose running more faults = record running { stopped = Some faults; loose = more }
+
+between_written : (running : Running) (more : List IndexEntry) (next : IndexState) → running.loose ≡ [] → (c : Files) → MayHoldIndex running.state more c
+    → IsIndexBetween running (grown_index running more next) c
+between_written running more next sure c held = by_case held
   where
-    entry : IndexEntry
-    entry = next_batch running
+    all : (running.state.entries ++ more) ++ running.loose ≡ running.state.entries ++ more
+    all = ap (λ (loose : List IndexEntry). (running.state.entries ++ more) ++ loose) sure ∙ append-nil (running.state.entries ++ more)
 
-    all : (running.state.entries ++ entry ∷ []) ++ running.loose ≡ running.state.entries ++ entry ∷ []
-    all = ap (λ (loose : List IndexEntry). (running.state.entries ++ entry ∷ []) ++ loose) sure ∙ append-nil (running.state.entries ++ entry ∷ [])
+    none : more ≡ more ++ []
+    none = sym (append-nil more)
 
-    by_case : MayHoldIndex running.state (entry ∷ []) c → IsIndexBetween running (with_what running batched) c
-    by_case (inl before) = record { front = []; rest = entry ∷ []; added = all; index = no_entry_more running.state (c 0) before }
-    by_case (inr behind) = record { front = entry ∷ []; rest = []; added = all; index = behind }
+    by_case : MayHoldIndex running.state more c → IsIndexBetween running (grown_index running more next) c
+    by_case (inl before) = record { front = []; rest = more; added = all; index = no_entry_more running.state (c 0) before }
+    by_case (inr behind) = record { front = more; rest = []; added = all ∙ ap (λ (es : List IndexEntry). running.state.entries ++ es) none; index = behind }
 
-between_loosened : (running : Running) (faults : ℕ) (c : Files) → MayHoldIndex running.state (next_batch running ∷ []) c
-    → IsIndexBetween running (with_what running (loosened faults)) c
-between_loosened running faults c (inl before) =
-    record { front = []; rest = next_batch running ∷ []; added = refl; index = no_entry_more running.state (c 0) before }
-between_loosened running faults c (inr behind) = record { front = next_batch running ∷ []; rest = []; added = refl; index = behind }
+between_loose : (running : Running) (more : List IndexEntry) (faults : ℕ) (c : Files) → MayHoldIndex running.state more c
+    → IsIndexBetween running (left_loose running more faults) c
+between_loose running more faults c (inl before) =
+    record { front = []; rest = more; added = refl; index = no_entry_more running.state (c 0) before }
+between_loose running more faults c (inr behind) =
+    record { front = more; rest = []; added = ap (λ (es : List IndexEntry). running.state.entries ++ es) (sym (append-nil more)); index = behind }
 
 no_fault : (answer : Answer) (n : ℕ) → is_disk_fault answer ≡ false → answer ≡ disk_fault n → ⊥
 no_fault answer n calm is = false≢true (sym calm ∙ ap is_disk_fault is)
@@ -245,7 +252,7 @@ module _ {D E : Type 0} {disk : Ghosts D} {disk' : Ghosts E} (old new : Engine D
   fails faults noted rose up sum may keeps counts stays left indexed = record {
     more = [];
     alone = λ e. refl;
-    may = λ running stands. inl (may running stands (sym stands.holds.has.stopped ∙ going));
+    may = λ running stands. subst (λ (a : Answer). IsTrue (writes a)) (sym (may running stands (sym stands.holds.has.stopped ∙ going))) refl;
     stands = λ running stands.
         let holds = stands.holds in
         record {
@@ -281,20 +288,33 @@ module _ {D E : Type 0} {disk : Ghosts D} {disk' : Ghosts E} (old new : Engine D
     sum = λ n e. (let same : faults ≡ n = (let is = e in cc) in sym same ∙ sum);
   }
 
--- ---- a batch
+-- ---- an entry of the index log
 
--- what a device holds after a fault in a batch: the index log with it or without it
-left_loose : {E : Type 0} (disk : Ghosts E) (old new : E) (running : Running) (faults : ℕ)
+-- what a device holds after a fault in its append: the index log with it or without it
+may_be_there : {E : Type 0} (disk : Ghosts E) (old new : E) (running : Running) (more : List IndexEntry) (faults : ℕ)
     → ((t : ℕ) (c : Files) → t ≤ disk.moment new → disk.images new c → disk.left_since new t c) → disk.images new (disk.seen new)
-    → LeavesOnly disk old new (MayHoldIndex running.state (next_batch running ∷ [])) → OnIndex disk (with_what running (loosened faults)) new
-left_loose disk old new running faults counts may run = record {
+    → LeavesOnly disk old new (MayHoldIndex running.state more) → OnIndex disk (left_loose running more faults) new
+may_be_there disk old new running more faults counts may run = record {
   reads = λ e. absurd (no_none faults e);
-  may_read = reads_now disk old new (MayHoldIndex running.state (next_batch running ∷ [])) counts may run;
+  may_read = reads_now disk old new (MayHoldIndex running.state more) counts may run;
   crash = λ c left. run.each c (counts (disk.moment old) c run.later left);
 }
 
+-- what a step asks that writes an entry, and what it adds, or leaves in doubt: `more` is the entry, `next` the state behind it
+pub record WritesEntry (ask : Ask) (what : What) (failing : ℕ → What) (more : Running → List IndexEntry) (next : Running → IndexState) : Type 0 where
+  made_is : (running : Running) → with_what running what ≡ grown_index running (more running) (next running)
+  fails_is : (running : Running) (faults : ℕ) → with_what running (failing faults) ≡ left_loose running (more running) faults
+  fault_is : (faults : ℕ) → changes_of ask (disk_fault faults) ≡ failing faults ∷ []
+
+pub syncs : WritesEntry to_sync batched batch_failed (λ running. next_batch running ∷ []) (λ running. next_index running.state running.index)
+syncs = record { made_is = λ running. refl; fails_is = λ running faults. refl; fault_is = λ faults. refl }
+
+pub optimizes : WritesEntry to_optimize optimized optimize_failed next_optimized (λ running. fold (after_entry (turns_of running.state)) running.index (next_optimized running))
+optimizes = record { made_is = λ running. refl; fails_is = λ running faults. refl; fault_is = λ faults. refl }
+
 module _ {D E : Type 0} {disk : Ghosts D} {disk' : Ghosts E} (old new : Engine D E disk disk') (settings : kept_settings new.kept ≡ kept_settings old.kept)
-    (limits : kept_limits new.kept ≡ kept_limits old.kept) (rows : new.rows ≡ old.rows) (going : stopped_at old ≡ None) where
+    (limits : kept_limits new.kept ≡ kept_limits old.kept) (rows : new.rows ≡ old.rows) (going : stopped_at old ≡ None)
+    (ask : Ask) (what : What) (failing : ℕ → What) (more : Running → List IndexEntry) (next : Running → IndexState) (writing : WritesEntry ask what failing more next) where
   rows_stay_on : (running : Running) → Stands running old → IsTrue disk.tells → OnRows disk running (rows_device new)
   rows_stay_on running stands told = subst (λ (log : Log D disk). OnRows disk running (device_of log)) (sym rows) (stands.holds.on_rows told)
 
@@ -304,31 +324,36 @@ module _ {D E : Type 0} {disk : Ghosts D} {disk' : Ghosts E} (old new : Engine D
   same_rows_count : disk.faults (rows_device new) ≡ disk.faults (rows_device old)
   same_rows_count = ap disk.faults same_rows
 
-  -- the batch was made: what is kept, and the log with its entry
-  pub seals : (through number : ℕ) → stopped_at new ≡ stopped_at old → disk'.faults (index_device new) ≡ disk'.faults (index_device old)
-      → ((running : Running) → Stands running old → running.stopped ≡ None → plain_answer (engine_limits old) running to_sync ≡ flushed through number)
-      → ((running : Running) → Stands running old → Keeps (with_what running batched).state new)
-      → ((running : Running) → Stands running old → IsTrue disk'.tells → running.stopped ≡ None → StandsFor (index_payloads (with_what running batched).state) new.index)
+  abbrev behind : Running → Running
+  behind running = grown_index running (more running) (next running)
+
+  -- the entry was written: what is kept, and the log with it
+  pub writes_entry : (answer : Answer) → changes_of ask answer ≡ what ∷ [] → is_disk_fault answer ≡ false
+      → stopped_at new ≡ stopped_at old → disk'.faults (index_device new) ≡ disk'.faults (index_device old)
+      → ((running : Running) → Stands running old → running.stopped ≡ None → MayAnswer (engine_limits old) running ask answer)
+      → ((running : Running) → Stands running old → Keeps (behind running).state new)
+      → ((running : Running) → Stands running old → IsTrue disk'.tells → running.stopped ≡ None → StandsFor (index_payloads (behind running).state) new.index)
       → ((running : Running) → Stands running old → IsTrue disk'.tells → running.stopped ≡ None
-      → LeavesOnly disk' (index_device old) (index_device new) (MayHoldIndex running.state (next_batch running ∷ [])))
-      → ((running : Running) → Stands running old → IsIndexed new.kept running.state.commits (next_index running.state running.index))
-      → ((running : Running) → Stands running old → Has (with_what running batched) new → IsRight (with_what running batched).state)
-      → ((running : Running) → Stands running old → (with_what running batched).index ≡ index_state (with_what running batched).state)
-      → Steps engine_sight to_sync (flushed through number) old new
-  seals through number still calm may keeps logged left indexed right leaves = record {
+      → LeavesOnly disk' (index_device old) (index_device new) (MayHoldIndex running.state (more running)))
+      → ((running : Running) → Stands running old → IsIndexed new.kept running.state.commits (next running))
+      → ((running : Running) → Stands running old → IsRight (behind running).state)
+      → ((running : Running) → Stands running old → next running ≡ index_state (behind running).state)
+      → Steps engine_sight ask answer old new
+  writes_entry answer adds no_disk_fault still calm may keeps logged left indexed right leaves = record {
     more = [];
     alone = λ e. refl;
     may = λ running stands. may running stands (sym stands.holds.has.stopped ∙ going);
     stands = λ running stands.
         let holds = stands.holds in
-        let has : Has (with_what running batched) new = record {
+        let has : Has (behind running) new = record {
           keeps = keeps running stands;
           indexed = indexed running stands;
           left = leaves running stands;
           stopped = still ∙ holds.has.stopped;
         } in
-        record {
-          right = right running stands has;
+        subst (λ (r : Running). Stands r new) (sym (after_is running))
+        (record {
+          right = right running stands;
           holds = record {
             has = has;
             logs = λ told going. record {
@@ -339,46 +364,51 @@ module _ {D E : Type 0} {disk : Ghosts D} {disk' : Ghosts E} (old new : Engine D
             on_rows = λ told.
                 let on = rows_stay_on running stands told in
                 record {
-                  reads = λ going. rows_stay running.state (next_batch running ∷ []) (disk.seen (rows_device new) 0) (on.reads going);
+                  reads = λ going. rows_stay running.state (more running) (disk.seen (rows_device new) 0) (on.reads going);
                   may_read = may_hold running (disk.seen (rows_device new)) on.may_read;
                   crash = λ c may. may_hold running c (on.crash c may);
                 };
-            on_index = λ told. on_index (with_what running batched) _ new.index (keeps running stands).entries (keeps running stands).index
+            on_index = λ told. on_index (behind running) _ new.index (keeps running stands).entries (keeps running stands).index
                 (logged running stands told (sym holds.has.stopped ∙ going));
           };
-        };
+        });
     crash = λ e told running stands. inl same_rows;
     index = λ e told running stands.
         let sure = (stands.holds.index_logs told (sym stands.holds.has.stopped ∙ going)).sure in
-        inr (leaves_weaker disk' (index_device old) (index_device new) (MayHoldIndex running.state (next_batch running ∷ [])) (IsIndexBetween running (with_what running batched))
-        (between_sealed running sure) (left running stands told (sym stands.holds.has.stopped ∙ going)));
+        subst (λ (r : Running). Leaves (engine_sight {D = D} {E = E} {rows = disk} {index = disk'}).index (IsIndexBetween running r) old new) (sym (after_is running))
+        (inr (leaves_weaker disk' (index_device old) (index_device new) (MayHoldIndex running.state (more running)) (IsIndexBetween running (behind running))
+        (between_written running (more running) (next running) sure) (left running stands told (sym stands.holds.has.stopped ∙ going))));
     settings = settings;
     limits = limits;
-    faults = record { rose = λ e. absurd (false≢true e); calm = λ e. omega (arith, calm, same_rows_count); never_falls = omega (arith, calm, same_rows_count) };
-    sum = λ n e. absurd cc;
+    faults = record { rose = λ e. absurd (false≢true (sym no_disk_fault ∙ e)); calm = λ e. omega (arith, calm, same_rows_count); never_falls = omega (arith, calm, same_rows_count) };
+    sum = λ n e. absurd (no_fault answer n no_disk_fault e);
   }
     where
-      may_hold : (running : Running) (c : Files) → MayHold running.state running.doubt c → MayHold (with_entries running.state (next_batch running ∷ [])) running.doubt c
-      may_hold running c (inl before) = inl (rows_stay running.state (next_batch running ∷ []) (c 0) before)
-      may_hold running c (inr behind) = inr (rows_stay (with_commits running.state running.doubt) (next_batch running ∷ []) (c 0) behind)
+      after_is : (running : Running) → after running ask answer ≡ behind running
+      after_is running = ap (λ (whats : List What). grown running (map (λ (what : What). record { by = 0; what = what }) whats)) adds ∙ writing.made_is running
 
-  -- the device failed: what is kept stays, and the batch is in doubt
+      may_hold : (running : Running) (c : Files) → MayHold running.state running.doubt c → MayHold (with_entries running.state (more running)) running.doubt c
+      may_hold running c (inl before) = inl (rows_stay running.state (more running) (c 0) before)
+      may_hold running c (inr behind) = inr (rows_stay (with_commits running.state running.doubt) (more running) (c 0) behind)
+
+  -- the device failed: what is kept stays, and the entry is in doubt
   pub loosens : (faults : ℕ) → stopped_at new ≡ Some faults → Rose (disk'.faults (index_device old)) (disk'.faults (index_device new))
       → disk'.faults (index_device old) ≤ disk'.faults (index_device new) → faults ≡ engine_faults new
-      → ((running : Running) → Stands running old → running.stopped ≡ None → plain_answer (engine_limits old) running to_sync ≡ flushed (next_flushed running) (length running.state.commits))
+      → ((running : Running) → Stands running old → running.stopped ≡ None → MayAnswer (engine_limits old) running ask (disk_fault faults))
       → ((running : Running) → Stands running old → Keeps running.state new)
       → ((t : ℕ) (c : Files) → IsTrue disk'.tells → t ≤ disk'.moment (index_device new) → disk'.images (index_device new) c → disk'.left_since (index_device new) t c)
       → (IsTrue disk'.tells → disk'.images (index_device new) (disk'.seen (index_device new)))
       → ((running : Running) → Stands running old → IsTrue disk'.tells → running.stopped ≡ None
-      → LeavesOnly disk' (index_device old) (index_device new) (MayHoldIndex running.state (next_batch running ∷ [])))
-      → StaysIndexed old.kept new.kept → Steps engine_sight to_sync (disk_fault faults) old new
+      → LeavesOnly disk' (index_device old) (index_device new) (MayHoldIndex running.state (more running)))
+      → StaysIndexed old.kept new.kept → Steps engine_sight ask (disk_fault faults) old new
   loosens faults noted rose up sum may keeps counts stays left indexed = record {
     more = [];
     alone = λ e. refl;
-    may = λ running stands. inr (may running stands (sym stands.holds.has.stopped ∙ going));
+    may = λ running stands. may running stands (sym stands.holds.has.stopped ∙ going);
     stands = λ running stands.
         let holds = stands.holds in
-        record {
+        subst (λ (r : Running). Stands r new) (sym (after_is running))
+        (record {
           right = stands.right;
           holds = record {
             has = record {
@@ -392,14 +422,15 @@ module _ {D E : Type 0} {disk : Ghosts D} {disk' : Ghosts E} (old new : Engine D
             on_rows = λ told.
                 let on = rows_stay_on running stands told in
                 record { reads = λ e. absurd (no_none faults e); may_read = on.may_read; crash = on.crash };
-            on_index = λ told. left_loose disk' (index_device old) (index_device new) running faults (λ t c le may. counts t c told le may) (stays told)
+            on_index = λ told. may_be_there disk' (index_device old) (index_device new) running (more running) faults (λ t c le may. counts t c told le may) (stays told)
                 (left running stands told (sym holds.has.stopped ∙ going));
           };
-        };
+        });
     crash = λ e told running stands. inl same_rows;
     index = λ e told running stands.
-        inr (leaves_weaker disk' (index_device old) (index_device new) (MayHoldIndex running.state (next_batch running ∷ [])) (IsIndexBetween running (with_what running (loosened faults)))
-        (between_loosened running faults) (left running stands told (sym stands.holds.has.stopped ∙ going)));
+        subst (λ (r : Running). Leaves (engine_sight {D = D} {E = E} {rows = disk} {index = disk'}).index (IsIndexBetween running r) old new) (sym (after_is running))
+        (inr (leaves_weaker disk' (index_device old) (index_device new) (MayHoldIndex running.state (more running)) (IsIndexBetween running (left_loose running (more running) faults))
+        (between_loose running (more running) faults) (left running stands told (sym stands.holds.has.stopped ∙ going))));
     settings = settings;
     limits = limits;
     faults = record {
@@ -410,3 +441,6 @@ module _ {D E : Type 0} {disk : Ghosts D} {disk' : Ghosts E} (old new : Engine D
     };
     sum = λ n e. (let same : faults ≡ n = (let is = e in cc) in sym same ∙ sum);
   }
+    where
+      after_is : (running : Running) → after running ask (disk_fault faults) ≡ left_loose running (more running) faults
+      after_is running = ap (λ (whats : List What). grown running (map (λ (what : What). record { by = 0; what = what }) whats)) (writing.fault_is faults) ∙ writing.fails_is running faults

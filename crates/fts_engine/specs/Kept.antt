@@ -7,8 +7,11 @@ use Rattle.fts_commits.specs.Turn.{turns_from}
 use Rattle.fts_rows.specs.Rows.{rows_of, limits_of}
 use Rattle.fts_entries.specs.Entry.{IndexState}
 use Rattle.fts_entries.specs.Batch.{IsBatch}
+use Rattle.fts_entries.specs.Pass.{IsStep}
 use Rattle.fts_index.specs.declared.sync.SyncPlan.{SyncPlan}
+use Rattle.fts_index.specs.declared.passing.PassPlan.{PassPlan}
 use Rattle.fts_index.specs.Index.{FitsSync}
+use Rattle.fts_index.specs.Passing.{step_entry, FitsStep}
 use Rattle.fts_engine.specs.declared.kept.Kept.{Kept}
 use Rattle.fts_engine.specs.declared.kept.NextKept.{NextKept}
 use Rattle.fts_engine.specs.Indexed.{IsIndexOf}
@@ -66,3 +69,15 @@ pub record HasBatch (kept : Kept) (plan : SyncPlan) : Type 0 where
 pub record CanSync (kept : Kept) (plan : SyncPlan) : Type 0 where
   pub fits : FitsSync kept.index plan
   pub next : ∥ HasBatch kept plan ∥₁
+
+-- the plan is the next step of OPTIMIZE for some commits and some state for which the index stands
+pub record HasStep (kept : Kept) (plan : PassPlan) : Type 0 where
+  pub commits : List Commit
+  pub state : IndexState
+  pub is : IsIndexed kept commits state
+  pub next : IsStep state (step_entry plan)
+
+-- the step can be made: there is room for it, and it is the next one
+pub record CanOptimize (kept : Kept) (plan : PassPlan) : Type 0 where
+  pub fits : FitsStep kept.index plan
+  pub next : ∥ HasStep kept plan ∥₁

@@ -10,6 +10,6 @@ pub mod Opening
 pub mod Covered
 pub mod Restoring
 pub mod Loading
-pub mod ReadBatch
+pub mod ReadEntry
 pub mod Reading
 pub mod Looking

@@ -4,11 +4,12 @@ ghost use Rattle.fts_engine.specs.Refusing.{refusal_answer};
 ghost use Rattle.fts_log.specs.Frame.{payload_of};
 ghost use Rattle.fts_log.specs.Framing.{inner};
 ghost use Rattle.fts_log.specs.Log.{count_of};
+ghost use Rattle.fts_commits.specs.Commit.{replay};
 ghost use Rattle.fts_commits.specs.Fits.{CanCommit};
 ghost use Rattle.fts_rowcodec.specs.Payload.{IsWritten, commit_payload};
 ghost use Rattle.fts_steps.specs.State.{State};
-ghost use Rattle.fts_steps.specs.Step.{to_commit, to_sync, to_view, to_list, to_measure, measured};
-ghost use Rattle.fts_steps.specs.Step.{flushed};
+ghost use Rattle.fts_steps.specs.Step.{to_commit, to_sync, to_view, to_list};
+ghost use Rattle.fts_steps.specs.Step.{to_measure, measured, writes};
 ghost use Rattle.fts_ixcodec.specs.Payload.{entry_payload, FitsRecord};
 ghost use Rattle.fts_engine.specs.Batch.{batch_of, IsFramed};
 ghost use Rattle.fts_steps.specs.Step.{is_disk_fault, Steps};
@@ -25,13 +26,13 @@ use fts_log::{AROUND_PAYLOAD, AppendError, BEFORE_PAYLOAD, Framed, Log};
 use fts_query::{Leaf, View};
 use fts_rowcodec::{commit_size, encode_commit_into};
 use fts_rows::PlanError;
-use fts_steps::{CommitError, SyncBatch, SyncError};
-use fts_types::Settings;
+use fts_steps::{CommitError, IndexError, SyncBatch};
+use fts_types::{DocId, Settings};
 use std::alloc::{AllocError, Global};
 
 /// A database that is open: its rows log and its index log, and its settings, its rows and the
-/// index of their words in memory. After a fault of a commit or a batch it takes no more commits
-/// and makes no more batches, and views and listings go on.
+/// index of their words in memory. After a fault of a commit, a batch or a step of OPTIMIZE it
+/// makes no more of these, and views and listings go on.
 #[derive(Drop)]
 pub struct Engine<D: Disk, E: Disk> {
     pub(crate) alloc: Global,
@@ -131,29 +132,28 @@ impl<D: Disk, E: Disk> Engine<D, E> {
     /// - `LogFull` exactly where the index log would end above its limit. The logs are untouched.
     /// - `DiskFault` if the index device failed, with the sum of both devices' counts of faults.
     ///   Whether the batch is in the log is known from a new opening alone.
-    pub fn sync_batch(&mut self) -> Result<SyncBatch, SyncError>
+    pub fn sync_batch(&mut self) -> Result<SyncBatch, IndexError>
         ensures steps { Steps engine_sight to_sync (sync_answer_of result) self.old self.new }
-        ensures durable { (through commits : ℕ) → sync_answer_of result ≡ flushed through commits
-            → IsTrue E.tells
+        ensures durable { IsTrue (writes (sync_answer_of result)) → IsTrue E.tells
             → Only (E.seen (index_device self.new)) (E.images (index_device self.new)) }
-        ensures untouched { is_disk_fault (sync_answer_of result) ≡ false
-            → ((through commits : ℕ) → sync_answer_of result ≡ flushed through commits → ⊥)
+        ensures untouched { writes (sync_answer_of result) ≡ false
+            → is_disk_fault (sync_answer_of result) ≡ false
             → index_log self.new ≡ index_log self.old }
         ensures rows { rows_log self.new ≡ rows_log self.old }
     {
         match self.stopped {
             None => {}
-            Some(faults) => return Err(SyncError::Stopped { faults }),
+            Some(faults) => return Err(IndexError::Stopped { faults }),
         }
         let commits = self.commits();
         let plan = match self.kept.plan_sync() {
             Ok(Some(plan)) => plan,
             Ok(None) => return Ok(SyncBatch::Nothing { commits }),
-            Err(AllocError) => return Err(SyncError::NoMemory),
+            Err(AllocError) => return Err(IndexError::NoMemory),
         };
         let framed = match framed_batch(self.alloc, &plan) {
             Ok(framed) => framed,
-            Err(AllocError) => return Err(SyncError::NoMemory),
+            Err(AllocError) => return Err(IndexError::NoMemory),
         };
         match self.index.append(&framed) {
             Ok(_) => {
@@ -161,11 +161,11 @@ impl<D: Disk, E: Disk> Engine<D, E> {
                 self.kept.install_sync(plan);
                 Ok(SyncBatch::Flushed { through, commits })
             }
-            Err(AppendError::LogFull { end }) => Err(SyncError::LogFull { end }),
+            Err(AppendError::LogFull { end }) => Err(IndexError::LogFull { end }),
             Err(AppendError::DiskFault) => {
                 let faults = self.rows.faults() as u128 + self.index.faults() as u128;
                 self.stopped = Some(faults);
-                Err(SyncError::DiskFault { faults })
+                Err(IndexError::DiskFault { faults })
             }
         }
     }
@@ -197,6 +197,22 @@ impl<D: Disk, E: Disk> Engine<D, E> {
         ensures { (state : State) → Keeps state self.now → result ≡ length state.commits }
     {
         self.rows.count().saturating_sub(1)
+    }
+
+    /// How many rows there are.
+    pub fn row_count(&self) -> usize
+        ensures { (state : State) → Keeps state self.now
+            → result ≡ length (replay state.commits).list }
+    {
+        self.kept.rows.len()
+    }
+
+    /// The largest document id that was used, 0 before the first.
+    pub fn largest_id(&self) -> DocId
+        ensures { (state : State) → Keeps state self.now
+            → result ≡ (replay state.commits).largest }
+    {
+        self.kept.rows.largest()
     }
 
     /// How many entries the index log has.

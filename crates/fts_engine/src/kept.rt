@@ -12,7 +12,7 @@ ghost use Rattle.fts_engine.specs.Next.{WillHold};
 
 use crate::looking::candidates;
 use fts_commits::{Change, are_turns};
-use fts_index::{CommitPlan, Index, SyncPlan};
+use fts_index::{CommitPlan, Index, PassPlan, SyncPlan};
 use fts_listing::{Listing, ListingKind};
 use fts_query::{Leaf, View};
 use fts_rows::{Plan, PlanError, Rows};
@@ -55,7 +55,10 @@ impl Kept {
     ghost use Rattle.fts_rows.specs.Refusal.{IsNoPlan};
     ghost use Rattle.fts_engine.specs.Kept.{kept_settings, kept_rows, kept_limits, WillKeep};
     ghost use Rattle.fts_engine.specs.Kept.{IsIndexed, StaysIndexed, IsNextBatch, IsPlanned};
-    ghost use Rattle.fts_engine.specs.Kept.{CanSync};
+    ghost use Rattle.fts_engine.specs.Kept.{CanSync, CanOptimize};
+    ghost use Rattle.fts_entries.specs.Entry.{after_entry};
+    ghost use Rattle.fts_entries.specs.Pass.{IsStep};
+    ghost use Rattle.fts_index.specs.Passing.{step_entry, PlansStep, ArePacked};
 
     /// The settings of the database.
     pub fn settings(&self) -> &Settings
@@ -186,6 +189,34 @@ impl Kept {
         ensures limits { kept_limits self.new ≡ kept_limits self.old }
     {
         self.index.install_sync(plan);
+    }
+
+    /// The next step of OPTIMIZE, with the room for it; None where it has nothing to do. Where
+    /// there is no memory, nothing changes.
+    pub fn plan_optimize(&mut self) -> Result<Option<PassPlan>, AllocError>
+        ensures planned { IfOk result (λ plan. (commits : List Commit) (s : IndexState)
+            → IsIndexed self.old commits s → PlansStep s plan) }
+        ensures room { (plan : PassPlan) → result ≡ Ok (Some plan) → CanOptimize self.new plan }
+        ensures packed { IfOk result ArePacked }
+        ensures index { StaysIndexed self.old self.new }
+        ensures rows { kept_rows self.new ≡ kept_rows self.old }
+        ensures settings { kept_settings self.new ≡ kept_settings self.old }
+        ensures limits { kept_limits self.new ≡ kept_limits self.old }
+    {
+        self.index.plan_optimize()
+    }
+
+    /// Makes the step. It takes no memory.
+    pub fn install_optimize(&mut self, plan: PassPlan)
+        requires { CanOptimize self.old plan }
+        ensures index { (commits : List Commit) (s : IndexState) → IsIndexed self.old commits s
+            → IsStep s (step_entry plan) → IsIndexed self.new commits
+            (after_entry (turns_from no_rows commits) s (step_entry plan)) }
+        ensures rows { kept_rows self.new ≡ kept_rows self.old }
+        ensures settings { kept_settings self.new ≡ kept_settings self.old }
+        ensures limits { kept_limits self.new ≡ kept_limits self.old }
+    {
+        self.index.install_optimize(plan);
     }
 
     /// What a view of the index lists.

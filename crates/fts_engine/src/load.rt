@@ -15,8 +15,11 @@ ghost use Rattle.fts_steps.specs.State.{index_state};
 ghost use Rattle.fts_engine.specs.Loading.{BeginsWith, IsRestored, StillRestored, IsLoaded};
 ghost use Rattle.fts_engine.specs.Loading.{IsWrongEntry, AreSound, IsNoCommit};
 ghost use Rattle.fts_engine.specs.Loading.{NoneCanCome, IsWrongAmong};
-ghost use Rattle.fts_engine.specs.ReadBatch.{batch_read};
-ghost use Rattle.fts_engine.specs.declared.load.ReadBatch.{ReadBatch};
+ghost use Rattle.fts_engine.specs.declared.error.LogError.{LogError};
+ghost use Rattle.fts_ixcodec.specs.Seen.{seen};
+ghost use Rattle.fts_index.specs.Passing.{step_entry};
+ghost use Rattle.fts_engine.specs.ReadEntry.{batch_read, entry_read};
+ghost use Rattle.fts_engine.specs.declared.load.ReadEntry.{ReadEntry};
 ghost use Rattle.fts_engine.specs.Reading.{ReadsBoth, IsWrongPayload};
 ghost use Rattle.fts_engine.specs.Restoring.{restoring_commits, IsFlushed};
 
@@ -27,7 +30,7 @@ use crate::{Device, OpenError};
 use fts_commits::Changes;
 use fts_disk::Disk;
 use fts_ilist::Nodes;
-use fts_index::RestoreError;
+use fts_index::{PassPlan, RestoreError};
 use fts_ixcodec::{Entry, decode};
 use fts_log::Records;
 use fts_rowcodec::{DecodeError, decode_commit, decode_settings};
@@ -214,8 +217,8 @@ fn restore_entry<D: Disk, E: Disk>(
         Ok(payload) => payload,
         Err(error) => return Err(error.on(Device::Index)),
     };
-    match batch_in(alloc, &payload) {
-        Ok(Some(batch)) => match restore_batch(alloc, rows, restoring, &batch) {
+    match entry_in(alloc, &payload) {
+        Ok(Some(entry)) => match restore_read(alloc, rows, restoring, entry) {
             Ok(restored) => Ok(restored),
             Err(error) => Err(error.on(Device::Rows)),
         },
@@ -224,39 +227,62 @@ fn restore_entry<D: Disk, E: Disk>(
     }
 }
 
-/// A batch that was read: through which commit and up to which id it flushes, and its nodes.
+/// A batch that was read: through which commit and up to which id it flushes, and its nodes, which
+/// borrow the payload.
 #[derive(Drop)]
-struct ReadBatch {
+struct ReadBatch<'a> {
     through: u64,
     synced: DocId,
-    nodes: Nodes,
+    nodes: Nodes<'a>,
 }
 
-// The batch that a payload is. Where it is none, no entry of a database has it.
-fn batch_in(alloc: Global, payload: &[u8]) -> Result<Option<ReadBatch>, AllocError>
-    ensures batch { (batch : ReadBatch) → result ≡ Ok (Some batch) → IsEntry (batch_read batch)
-        × (payload.now ≡ entry_payload (batch_read batch)) }
+/// An entry that was read.
+#[derive(Drop)]
+enum ReadEntry<'a> {
+    Batch { batch: ReadBatch<'a> },
+    Step { step: PassPlan },
+}
+
+// The entry that a payload is. Where it is none, no entry of a database has it.
+fn entry_in(alloc: Global, payload: &[u8]) -> Result<Option<ReadEntry<'_>>, AllocError>
+    ensures entry { (entry : ReadEntry) → result ≡ Ok (Some entry) → IsEntry (entry_read entry)
+        × (payload.now ≡ entry_payload (entry_read entry)) }
     ensures none { result ≡ Ok None → (entry : IndexEntry) → IsEntry entry
         → payload.now ≡ entry_payload entry → (turns : List Turn) (s : IndexState)
         → CanCome turns s entry → ⊥ }
 {
     match decode(alloc, payload) {
-        Ok(
-            Entry::Sealed {
+        Ok(entry) => Ok(Some(entry_of(entry))),
+        Err(fts_ixcodec::DecodeError::NoMemory) => Err(AllocError),
+        Err(fts_ixcodec::DecodeError::Bad { at: _ }) => Ok(None),
+    }
+}
+
+// What an entry of the log asks for.
+fn entry_of(entry: Entry<'_>) -> ReadEntry<'_>
+    ensures { entry_read result ≡ seen entry.entry }
+{
+    match entry {
+        Entry::Sealed {
+            through,
+            synced,
+            nodes,
+        } => ReadEntry::Batch {
+            batch: ReadBatch {
                 through,
                 synced,
                 nodes,
             },
-        ) => Ok(Some(ReadBatch {
-            through,
-            synced,
-            nodes,
-        })),
-        Ok(Entry::Begun) => Ok(None),
-        Ok(Entry::Worked { word: _, nodes: _ }) => Ok(None),
-        Ok(Entry::Finished) => Ok(None),
-        Err(fts_ixcodec::DecodeError::NoMemory) => Err(AllocError),
-        Err(fts_ixcodec::DecodeError::Bad { at: _ }) => Ok(None),
+        },
+        Entry::Begun => ReadEntry::Step {
+            step: PassPlan::Begin,
+        },
+        Entry::Worked { word, nodes } => ReadEntry::Step {
+            step: PassPlan::Word { word, nodes },
+        },
+        Entry::Finished => ReadEntry::Step {
+            step: PassPlan::Finish,
+        },
     }
 }
 
@@ -275,13 +301,68 @@ fn read_entry<E: Disk>(entries: &mut Records<E>, j: u64) -> Result<Vec<u8>, LogE
     Ok(entries.entry_at(j)?)
 }
 
+// Installs an entry, a batch when the commits that it covers were read; or tells that it can't come
+// behind those before it.
+fn restore_read<D: Disk>(
+    alloc: Global,
+    rows: &mut Records<D>,
+    restoring: &mut Restoring,
+    found: ReadEntry<'_>,
+) -> Result<bool, LogError>
+    requires written { IsEntry (entry_read found) }
+    requires flushed { IsFlushed restoring.old }
+    ensures restored { result ≡ Ok true → IsTrue D.tells → (all read : List (List ℕ)) (j : ℕ)
+        → Hold all rows.old → IsRestored all read j restoring.old
+        → take (j + 1) read ≡ take j read ++ entry_payload (entry_read found.entry) ∷ []
+        → IsRestored all read (j + 1) restoring.new }
+    ensures flushed { result ≡ Ok true → IsFlushed restoring.new }
+    ensures refused { result ≡ Ok false → IsTrue D.tells → (all read : List (List ℕ)) (j : ℕ)
+        → Hold all rows.old → (old : IsRestored all read j restoring.old)
+        → IsRestored all read j restoring.new
+        × NoneCanCome all (index_state old.of_rows.state) (entry_read found.entry) }
+    ensures damaged { (at : ℕ) → IsErrOf result (LogError.Damaged at) → IsTrue D.tells
+        → (all read : List (List ℕ)) (j : ℕ) → Hold all rows.old
+        → IsRestored all read j restoring.old → IsWrongEntry (records_magic rows.old) all at }
+    ensures created { IsErrOf result LogError.NotCreated → ⊥ }
+    ensures read { IsTrue D.tells → AreRead rows.old rows.new }
+    ensures same { AreAsMany rows.old rows.new }
+    ensures faults { CountsFault (IsErrOf result LogError.DiskFault)
+        (D.faults (records_device rows.old)) (D.faults (records_device rows.new)) }
+{
+    match found {
+        ReadEntry::Batch { batch } => restore_batch(alloc, rows, restoring, &batch),
+        ReadEntry::Step { step } => restore_step(restoring, step),
+    }
+}
+
+// Makes a step of OPTIMIZE; or tells that it is not the next one.
+fn restore_step(restoring: &mut Restoring, step: PassPlan) -> Result<bool, LogError>
+    requires written { IsEntry (step_entry step) }
+    requires flushed { IsFlushed restoring.old }
+    ensures restored { result ≡ Ok true → (all read : List (List ℕ)) (j : ℕ)
+        → IsRestored all read j restoring.old
+        → take (j + 1) read ≡ take j read ++ entry_payload (step_entry step) ∷ []
+        → IsRestored all read (j + 1) restoring.new }
+    ensures flushed { result ≡ Ok true → IsFlushed restoring.new }
+    ensures refused { result ≡ Ok false → (all read : List (List ℕ)) (j : ℕ)
+        → (old : IsRestored all read j restoring.old) → IsRestored all read j restoring.new
+        × NoneCanCome all (index_state old.of_rows.state) (step_entry step) }
+    ensures memory { (error : LogError) → IsErrOf result error → error ≡ LogError.NoMemory }
+{
+    match restoring.restore_step(step) {
+        Ok(()) => Ok(true),
+        Err(RestoreError::NoMemory) => Err(LogError::NoMemory),
+        Err(RestoreError::Bad) => Ok(false),
+    }
+}
+
 // Reads the commits that a batch covers, and installs it; or tells that it can't come behind those
 // before it.
 fn restore_batch<D: Disk>(
     alloc: Global,
     rows: &mut Records<D>,
     restoring: &mut Restoring,
-    batch: &ReadBatch,
+    batch: &ReadBatch<'_>,
 ) -> Result<bool, LogError>
     requires written { IsEntry (batch_read batch.now) }
     requires flushed { IsFlushed restoring.old }
@@ -395,6 +476,8 @@ pub fn load_settings<D: Disk>(alloc: Global, records: &mut Records<D>) -> Result
     ensures loaded { IfOk result (λ settings. IsTrue D.tells → (all : List (List ℕ))
         → Hold all records.old
         → BeginsWith settings all) }
+    ensures memory { IsErrOf result LogError.NoMemory → IsTrue D.tells → (all : List (List ℕ))
+        → Hold all records.old → length (slice_index_or all 0 []) ≤ 300 }
     ensures damaged { (at : ℕ) → IsErrOf result (LogError.Damaged at) → IsTrue D.tells
         → (all : List (List ℕ)) → Hold all records.old
         → IsWrongEntry (records_magic records.old) all at }
@@ -490,6 +573,8 @@ fn read_commit<D: Disk>(
     ensures commit { IfOk result (λ changes. IsWritten columns changes) }
     ensures payload { IfOk result (λ changes. IsTrue D.tells → (all : List (List ℕ))
         → Hold all records.old → commit_payload changes ≡ slice_index_or all k []) }
+    ensures memory { IsErrOf result LogError.NoMemory → IsTrue D.tells → (all : List (List ℕ))
+        → Hold all records.old → length (slice_index_or all k []) ≤ 70000000 }
     ensures damaged { (at : ℕ) → IsErrOf result (LogError.Damaged at) → IsTrue D.tells
         → (all : List (List ℕ)) → Hold all records.old
         → (at ≡ gate_at (records_magic records.old) all k)

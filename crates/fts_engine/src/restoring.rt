@@ -10,7 +10,7 @@ ghost use Rattle.fts_engine.specs.Covered.{HasCovered};
 use crate::kept::Kept;
 use fts_commits::{Change, are_turns};
 use fts_ilist::WordNodes;
-use fts_index::{Covered, Index, RestoreError};
+use fts_index::{Covered, Index, PassPlan, RestoreError};
 use fts_rows::{PlanError, Rows};
 use fts_types::{DocId, Limits, Settings};
 use std::alloc::{AllocError, Global};
@@ -35,7 +35,9 @@ impl Restoring {
     ghost use Rattle.fts_commits.specs.Commit.{Commit, after_commit, no_rows};
     ghost use Rattle.fts_commits.specs.Turn.{turns_from};
     ghost use Rattle.fts_commits.specs.Fits.{IsCommit};
-    ghost use Rattle.fts_entries.specs.Entry.{IndexState, no_entries};
+    ghost use Rattle.fts_entries.specs.Entry.{IndexState, no_entries, after_entry};
+    ghost use Rattle.fts_entries.specs.Pass.{IsStep};
+    ghost use Rattle.fts_index.specs.Passing.{step_entry};
     ghost use Rattle.fts_entries.specs.Coming.{CanSeal};
     ghost use Rattle.fts_index.specs.Restore.{AreRead};
     ghost use Rattle.fts_rows.specs.Refusal.{IsNoPlan};
@@ -146,6 +148,26 @@ impl Restoring {
             .index
             .restore(&mut self.covered, through, synced, nodes)
         {
+            Ok(()) => Ok(()),
+            Err(error) => Err(error),
+        }
+    }
+
+    /// Makes a step of OPTIMIZE that was read; or tells that it is not the next one.
+    pub fn restore_step(&mut self, step: PassPlan) -> Result<(), RestoreError>
+        ensures rows { restoring_rows self.new ≡ restoring_rows self.old }
+        ensures settings { restoring_settings self.new ≡ restoring_settings self.old }
+        ensures commits { restoring_commits self.new ≡ restoring_commits self.old }
+        ensures stepped { OnOk result ((commits : List Commit) (s : IndexState)
+            → IsCovering self.old commits s → IsStep s (step_entry step) × IsCovering self.new
+            commits (after_entry (turns_from no_rows commits) s (step_entry step))) }
+        ensures flushed { IsFlushed self.old → IsFlushed self.new }
+        ensures stays { IsErrOf result RestoreError.Bad → (commits : List Commit)
+            (s : IndexState) → IsCovering self.old commits s → IsCovering self.new commits s }
+        ensures bad { IsErrOf result RestoreError.Bad → (commits : List Commit)
+            (s : IndexState) → IsCovering self.old commits s → IsStep s (step_entry step) → ⊥ }
+    {
+        match self.index.restore_step(step) {
             Ok(()) => Ok(()),
             Err(error) => Err(error),
         }

@@ -8,7 +8,7 @@ use fts_disk::{Kind, MemDisk};
 use fts_listing::{Listing, ListingKind, NumberedListing};
 use fts_log::is_begun;
 use fts_query::{Leaf, View};
-use fts_steps::{CommitError, SyncBatch, SyncError};
+use fts_steps::{CommitError, IndexError, SyncBatch};
 use fts_types::{DocId, Key, Limits, Names, RowTexts, Settings, SharedTexts};
 use std::alloc::{AllocError, Global};
 use std::fmt::Display;
@@ -283,7 +283,7 @@ fn two_commits(alloc: Global) -> Option<Engine<MemDisk, MemDisk>> {
 }
 
 /// What a batch flushes through the first or second of two commits, or what it answers behind.
-fn flushes(through: u64) -> Result<SyncBatch, SyncError> {
+fn flushes(through: u64) -> Result<SyncBatch, IndexError> {
     if through > 2 {
         return Ok(SyncBatch::Nothing { commits: 2 });
     }
@@ -324,7 +324,7 @@ fn no_batch_is_made_after_a_fault(rt: HostRuntime) -> Result<(), Fail> {
     };
     let failed = commit(&mut engine, &changes);
     assert_eq!(rt; failed, Some(Err(CommitError::DiskFault { faults: 1 })));
-    assert_eq!(rt; engine.sync_batch(), Err(SyncError::Stopped { faults: 1 }));
+    assert_eq!(rt; engine.sync_batch(), Err(IndexError::Stopped { faults: 1 }));
     Ok(())
 }
 

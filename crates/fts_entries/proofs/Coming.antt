@@ -17,6 +17,7 @@ use Rattle.fts_ilist.specs.Node.{Docs, NodesAfter, nodes_for}
 use Rattle.fts_ilist.specs.Packing.{joined}
 use Rattle.fts_entries.specs.Entry.{Batch, IndexEntry, IndexState, sealed, begun, worked, finished, no_entries, after_entry, index_of, unflushed, unflushed_through, flushed_deaths, AreThrough}
 use Rattle.fts_entries.specs.Batch.{largest_after}
+use Rattle.fts_entries.proofs.Passes.{begin_fits, word_fits, finish_fits}
 use Rattle.fts_entries.specs.Coming.{born_ids, CanSeal, CanCome, CanComeAll, AreEntries}
 use Rattle.fts_entries.specs.Exact.{FitsTurns, IdsAfter}
 use Rattle.fts_entries.proofs.Batches.{fails}
@@ -122,9 +123,12 @@ fits_from : (turns : List Turn) (s : IndexState) (entries : List IndexEntry) →
 fits_from turns s [] are fits come = fits
 fits_from turns s (sealed through synced batch ∷ entries) are fits come =
     fits_from turns (after_entry turns s (sealed through synced batch)) entries are (seal_fits turns s through synced batch are fits come.0) come.1
-fits_from turns s (begun ∷ entries) are fits come = absurd come.0
-fits_from turns s (worked word new ∷ entries) are fits come = absurd come.0
-fits_from turns s (finished ∷ entries) are fits come = absurd come.0
+fits_from turns s (begun ∷ entries) are fits come =
+    fits_from turns (after_entry turns s begun) entries are (begin_fits turns s fits) come.1
+fits_from turns s (worked word new ∷ entries) are fits come =
+    fits_from turns (after_entry turns s (worked word new)) entries are (word_fits turns s word new fits come.0) come.1
+fits_from turns s (finished ∷ entries) are fits come =
+    fits_from turns (after_entry turns s finished) entries are (finish_fits turns s fits come.0) come.1
 
 -- the state of an index fits its commits
 pub entries_fit : (turns : List Turn) (entries : List IndexEntry) → AreTurns 0 turns → AreEntries turns entries → FitsTurns turns (index_of turns entries)
@@ -168,9 +172,9 @@ more_from turns more s (sealed through synced batch ∷ entries) come = (
   subst (λ (covered : List Turn). CanComeAll (turns ++ more) (sealed_with s through synced batch covered) entries) (sym (taken_before turns more s.flushed through come.0.made))
       (more_from turns more (after_entry turns s (sealed through synced batch)) entries come.1),
 )
-more_from turns more s (begun ∷ entries) come = absurd come.0
-more_from turns more s (worked word new ∷ entries) come = absurd come.0
-more_from turns more s (finished ∷ entries) come = absurd come.0
+more_from turns more s (begun ∷ entries) come = (come.0, more_from turns more (after_entry turns s begun) entries come.1)
+more_from turns more s (worked word new ∷ entries) come = (come.0, more_from turns more (after_entry turns s (worked word new)) entries come.1)
+more_from turns more s (finished ∷ entries) come = (come.0, more_from turns more (after_entry turns s finished) entries come.1)
 
 pub entries_more : (turns more : List Turn) (entries : List IndexEntry) → AreEntries turns entries → AreEntries (turns ++ more) entries
 entries_more turns more entries come = more_from turns more no_entries entries come
@@ -178,9 +182,9 @@ entries_more turns more entries come = more_from turns more no_entries entries c
 through_from : (turns : List Turn) (s : IndexState) (entries : List IndexEntry) → CanComeAll turns s entries → AreThrough (length turns) entries
 through_from turns s [] come = tt
 through_from turns s (sealed through synced batch ∷ entries) come = (come.0.made, through_from turns (after_entry turns s (sealed through synced batch)) entries come.1)
-through_from turns s (begun ∷ entries) come = absurd come.0
-through_from turns s (worked word new ∷ entries) come = absurd come.0
-through_from turns s (finished ∷ entries) come = absurd come.0
+through_from turns s (begun ∷ entries) come = through_from turns (after_entry turns s begun) entries come.1
+through_from turns s (worked word new ∷ entries) come = through_from turns (after_entry turns s (worked word new)) entries come.1
+through_from turns s (finished ∷ entries) come = through_from turns (after_entry turns s finished) entries come.1
 
 pub entries_through : (turns : List Turn) (entries : List IndexEntry) → AreEntries turns entries → AreThrough (length turns) entries
 entries_through turns entries come = through_from turns no_entries entries come

@@ -10,6 +10,7 @@ pub mod One
 pub mod Next
 pub mod BatchRows
 pub mod Passes
+pub mod Stepping
 pub mod Groups
 pub mod Places
 pub mod Spelled

@@ -12,6 +12,7 @@ use Rattle.fts_commits.specs.Turn.{RowsAscend}
 use Rattle.fts_ilist.specs.Spelling.{Posting, PositionsFrom, PostingsAfter, ArePostings}
 use Rattle.fts_ilist.specs.Packing.{has_place, packed_from, packed, is_sound}
 use Rattle.fts_entries.specs.Words.{positions_of, posting_at, rows_postings}
+use Rattle.fts_entries.specs.Pass.{IsPackedNode}
 use Rattle.fts_entries.specs.Rows.{CanIndex}
 use Rattle.fts_entries.proofs.Places.{positions_spelled}
 
@@ -42,11 +43,6 @@ rows_spelled rules word low high (row ∷ rows) ids can =
     (rows_spelled rules word row.doc high rows ids.1 (All-tail CanIndex row rows can))
 
 -- ---- nodes
-
--- a node as packing makes it
-pub record IsPackedNode (docs : List Posting) : Type 0 where
-  pub are : ArePostings docs
-  pub sound : is_sound docs ≡ true
 
 sound_with : (d : Posting) (ds : List Posting) (p : Posting) → is_sound ((d ∷ ds) ++ p ∷ []) ≡ has_place 8192 (d ∷ ds) p
 sound_with d [] p = refl

@@ -9,6 +9,7 @@ use Rattle.fts_entries.specs.Entry.{Batch, IndexEntry, IndexState, sealed, begun
 use Rattle.fts_entries.specs.Entry.{after_entry, unflushed_through}
 use Rattle.fts_entries.specs.Batch.{largest_after}
 use Rattle.fts_entries.specs.Exact.{IdsAfter}
+use Rattle.fts_entries.specs.Pass.{CanBegin, IsWord, CanFinish}
 
 -- the ids of the documents that were born in some commits, in their order
 abbrev pub born_ids : List Turn → List ℕ
@@ -27,12 +28,12 @@ pub record CanSeal (turns : List Turn) (s : IndexState) (through synced : ℕ) (
   pub born : (word : List ℕ) → All (λ p. has (born_ids (unflushed_through through turns s)) p.id ≡ true)
       (joined (nodes_for word batch))
 
--- an entry can come behind a state. No step of a pass can yet
+-- an entry can come behind a state: a batch, or the next step of OPTIMIZE
 abbrev pub CanCome : List Turn → IndexState → IndexEntry → Type 0
 CanCome turns s (sealed through synced batch) = CanSeal turns s through synced batch
-CanCome turns s begun = ⊥
-CanCome turns s (worked word new) = ⊥
-CanCome turns s finished = ⊥
+CanCome turns s begun = CanBegin s
+CanCome turns s (worked word new) = IsWord s word new
+CanCome turns s finished = CanFinish s
 
 -- entries can come one behind another, the first behind this state
 abbrev pub CanComeAll : List Turn → IndexState → List IndexEntry → Type 0

@@ -7,7 +7,7 @@ ghost use Rattle.fts_commits.specs.Commit.{Rows, no_rows};
 ghost use Rattle.fts_commits.specs.Turn.{Turn, AreTurns, rows_by};
 ghost use Rattle.fts_entries.specs.Entry.{Batch, IndexEntry, IndexState, sealed, after_entry};
 ghost use Rattle.fts_entries.specs.Entry.{begun, worked, finished};
-ghost use Rattle.fts_entries.specs.Pass.{IsWord, CanFinish};
+ghost use Rattle.fts_entries.specs.Pass.{IsWord, CanFinish, IsStep, IsIdle, next_steps};
 ghost use Rattle.fts_entries.specs.Coming.{CanSeal, AreEntries};
 ghost use Rattle.fts_ids.specs.Ids.{has};
 ghost use Rattle.fts_ilist.specs.Node.{Docs};
@@ -95,6 +95,16 @@ pub fn one_batch_is_next()
     ensures one { (rules : Rules) (limit : ℕ) (turns : List Turn) (s : IndexState)
         (through synced : ℕ) (batch : Batch) → IsBatch rules limit turns s through synced batch
         → sealed through synced batch ≡ next_entry rules limit turns s }
+{}
+
+/// The next step of OPTIMIZE is one entry alone, and none where there is nothing to do. It does
+/// nothing: its contract is the theorem.
+pub fn one_step_is_next()
+    ensures one { (turns : List Turn) (entries : List IndexEntry) (entry : IndexEntry)
+        → IsStep (index_of turns entries) entry
+        → next_steps entries (index_of turns entries) ≡ entry ∷ [] }
+    ensures none { (turns : List Turn) (entries : List IndexEntry)
+        → IsIdle (index_of turns entries) → next_steps entries (index_of turns entries) ≡ [] }
 {}
 
 /// The next batch can come as an entry; entries that could come can over more commits too; and

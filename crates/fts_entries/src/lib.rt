@@ -9,14 +9,15 @@
 //! the nodes: an opening takes any entries that the format allows. That what is not deleted of
 //! tables and cache is what the rows have (`IsExact`) is another fact, which each step keeps: the
 //! laws `no_entries_are_right`, `commits_keep`, `batches_keep` and `passes_keep`. Which batch comes
-//! next is one answer (`one_batch_is_next`), of rows of the table (`alive_are_rows`), and which
-//! entries can come is a fact on commits and entries alone (`AreEntries`), that each such batch
-//! meets (`entries_can_come`). There is no code here but these laws.
+//! next is one answer (`one_batch_is_next`), of rows of the table (`alive_are_rows`), and so is
+//! which step of OPTIMIZE comes next (`one_step_is_next`). Which entries can come is a fact on
+//! commits and entries alone (`AreEntries`), that each such batch meets (`entries_can_come`). There
+//! is no code here but these laws.
 #![tactic(auto)]
 
 mod laws;
 
 pub use laws::{
     alive_are_rows, batches_keep, commits_keep, entries_can_come, no_entries_are_right,
-    one_batch_is_next, passes_keep,
+    one_batch_is_next, one_step_is_next, passes_keep,
 };

@@ -1,5 +1,4 @@
-ghost use Rattle.std.specs.Prelude.{◌≡◌, ◌<◌, ◌∷◌, [], length, IfOk, IsErr, IfSome, IfNone};
-ghost use Rattle.fts_types.specs.Settings.{AreSettings};
+ghost use Rattle.std.specs.Prelude.{◌≡◌, ◌<◌, ◌≤◌, ◌∷◌, [], length, IfOk, IsErr, IfSome, IfNone};
 ghost use Rattle.fts_gen.specs.Script.{script_lines, lines_left, decided, last_draw, names_of};
 
 use crate::draws::{drawn_text, drawn_word, next_draw};
@@ -25,15 +24,15 @@ pub struct ScriptLines {
     pub(crate) optimize: bool,
 }
 
-/// The script of `seed`: `count` statements about a table with these settings. It keeps a copy of
-/// the names of the columns. Want of memory is the only refusal.
+/// The script of `seed`: `count` statements about a table with these settings, which has columns.
+/// It keeps a copy of their names. Want of memory is the only refusal.
 pub fn script(
     alloc: Global,
     settings: &Settings,
     seed: u16,
     count: u32,
 ) -> Result<ScriptLines, AllocError>
-    requires { AreSettings settings.now }
+    requires { 1 ≤ length settings.now.columns }
     ensures { IfOk result (λ made. lines_left made ≡ script_lines settings.now.columns seed count) }
 {
     Ok(ScriptLines {

@@ -8,6 +8,8 @@ fn ids_in_common_are_found(rt: HostRuntime) -> Result<(), Fail> {
     assert_eq!(rt; found.as_slice(), [4, 9].as_slice());
     let none = common(alloc, &[1, 4], &[])?;
     assert!(rt; none.is_empty());
+    let far = common(alloc, &[7, 900, 4_000], &[7, 800, 4_000, 4_001])?;
+    assert_eq!(rt; far.as_slice(), [7, 4_000].as_slice());
     Ok(())
 }
 

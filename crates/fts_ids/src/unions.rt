@@ -4,15 +4,12 @@ ghost use Rattle.std.specs.List.{list_any};
 ghost use Rattle.fts_ids.specs.Ids.{Ascend, AscendFrom, has};
 ghost use Rattle.fts_ids.specs.Union.{IsUniting};
 
-use crate::marks::{by_marks, largest};
+use crate::marks::{DENSE, by_marks, largest};
 use fts_types::DocId;
 use std::alloc::{AllocError, Global};
 
 /// From so many lists on marks may cost less than halves.
 const MANY: usize = 4;
-
-/// Up to so many marks for an id of a list are made.
-const DENSE: u64 = 8;
 
 /// The ids behind one that none of them is below: without the first, where that is it.
 fn behind<'a>(ids: &'a [DocId], id: DocId) -> &'a [DocId]

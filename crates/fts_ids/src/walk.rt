@@ -75,7 +75,12 @@ fn find<'a>(ids: &'a [DocId], id: DocId) -> (&'a [DocId], bool)
     ensures passes { PassesBelow id ids.now result.0.now }
     ensures found { result.1 ≡ has ids.now id }
 {
-    let mut rest = behind(ids, id);
+    // Mostly none is passed, and no step is made.
+    let mut rest = if is_ahead(ids, id) {
+        ids
+    } else {
+        behind(ids, id)
+    };
     while let [first, others @ ..] = rest {
         if *first >= id {
             return (rest, *first == id);
@@ -83,6 +88,14 @@ fn find<'a>(ids: &'a [DocId], id: DocId) -> (&'a [DocId], bool)
         rest = others;
     }
     (rest, false)
+}
+
+/// Whether no id is below one.
+fn is_ahead(ids: &[DocId], id: DocId) -> bool {
+    match ids {
+        [] => true,
+        [first, ..] => *first >= id,
+    }
 }
 
 impl<'a> IdWalk<'a> {

@@ -16,4 +16,5 @@ pub mod Cursors
 pub mod Kept
 pub mod Packs
 pub mod Loose
+pub mod Nodes
 mod Arena

@@ -11,3 +11,4 @@ pub mod Queue
 pub mod Node
 pub mod Packing
 pub mod NodeList
+pub mod Group

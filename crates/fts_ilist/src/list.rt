@@ -314,7 +314,7 @@ fn merged<'a>(
 }
 
 /// The id of the first document of the list that these bytes are, or 0 where there is none.
-fn first_of(bytes: &[u8]) -> u64
+pub(crate) fn first_of(bytes: &[u8]) -> u64
     requires { IsTail 0 bytes.now }
     ensures { result ≡ first_id (postings_in 0 bytes.now) }
 {

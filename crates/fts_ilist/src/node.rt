@@ -1,33 +1,47 @@
 //! Nodes, and words with their nodes.
-ghost use Rattle.std.specs.Prelude.{◌≡◌, ◌≢◌, [], length};
-ghost use Rattle.fts_ilist.specs.Spelling.{HasFirstId, last_id};
+ghost use Rattle.std.specs.Prelude.{◌≡◌, ◌≢◌, ◌∷◌, ◌++◌, ◌↔◌, [], List, length, IfSome, IfNone};
+ghost use Rattle.std.specs.Prelude.{IfOk, OnOk, IsTrue};
+ghost use Rattle.fts_ilist.specs.Spelling.{Posting, ArePostings, HasFirstId, last_id, list_bytes};
 ghost use Rattle.fts_ilist.specs.Node.{body_size, head_size};
+ghost use Rattle.fts_ilist.specs.Packing.{is_sound};
+ghost use Rattle.fts_ilist.specs.Group.{held_nodes};
 
+use crate::cursor::Cursor;
 use crate::documents::Document;
-use crate::list::Ilist;
+use crate::list::{Ilist, first_of};
 use crate::node_list::NodeRef;
+use crate::reading::last_of;
 use fts_types::{DocId, Word};
+use std::alloc::{AllocError, Global};
+use std::borrow::CowSlice;
 use std::marker::Model;
+use std::{mem, slice};
 
 /// A row of an auxiliary table: the position list of some documents that have a word, the first and
-/// the last of their ids, and their number.
+/// the last of their ids, and their number. Its bytes are its own, or lent.
 #[derive(Drop)]
-pub struct Node {
-    list: Ilist,
+pub struct Node<'a> {
+    bytes: CowSlice<'a, u8, Global>,
+    first: u64,
+    last: u64,
+    // The number of documents.
+    count: usize,
     // The bytes of the first document behind its id.
     head: usize,
 }
 
-impl Model for Node {
-    ghost use Rattle.std.specs.Prelude.{◌≡◌, ◌≢◌, [], List};
+impl<'a> Model for Node<'a> {
+    ghost use Rattle.std.specs.Prelude.{List};
+    ghost use Rattle.std.specs.Cow.{cow_slice_items};
     ghost use Rattle.fts_ilist.specs.Spelling.{Posting};
-    ghost use Rattle.fts_ilist.specs.Node.{head_size};
+    ghost use Rattle.fts_ilist.specs.Reading.{postings_in};
+    ghost use Rattle.fts_ilist.specs.NodeList.{IsNode};
 
     ghost Value = { List Posting };
 
-    ghost view = { λ n. n.list };
+    ghost view = { λ n. postings_in 0 (cow_slice_items n.bytes) };
 
-    ghost invariant = { λ n. (n.list ≢ []) × (n.head ≡ head_size n.list) };
+    ghost invariant = { λ n. IsNode n.first n.last n.count n.head (cow_slice_items n.bytes) };
 }
 
 /// The number of bytes of a document behind its id.
@@ -37,32 +51,79 @@ fn body_of(document: &Document<'_>) -> usize
     document.encoded.len() + 1
 }
 
-/// The number of bytes of the first document of a list behind its id.
-fn head_of(list: &Ilist) -> usize
-    requires { list.now ≢ [] }
-    ensures { result ≡ head_size list.now }
+/// The number of bytes of the first of documents behind its id.
+fn head_of(mut documents: Cursor<'_>) -> usize
+    requires { documents ≢ [] }
+    ensures { result ≡ head_size documents.entry }
 {
-    match list.docs().next() {
+    match documents.next() {
         Some(document) => body_of(&document),
         None => unreachable!(),
     }
 }
 
-impl Node {
+impl<'a> Node<'a> {
     /// The node of a list that has documents.
     pub fn new(list: Ilist) -> Self
         requires { list ≢ [] }
         ensures { result ≡ list }
     {
-        let head = head_of(&list);
-        Node { list, head }
+        let head = head_of(list.docs());
+        let Ilist {
+            bytes,
+            first,
+            last,
+            count,
+        } = list;
+        Node {
+            bytes: CowSlice::Owned(bytes),
+            first,
+            last,
+            count,
+            head,
+        }
     }
 
-    /// The position list.
-    pub fn list(&self) -> &Ilist
-        ensures { result.now ≡ self.now }
+    /// The node whose list the bytes are, all of them; none where they are no list of documents. It
+    /// borrows them, and takes no memory.
+    pub fn read(bytes: &'a [u8]) -> Option<Self>
+        ensures some { IfSome result (λ node. ArePostings node × (bytes.now ≡ list_bytes node)) }
+        ensures none { IfNone result ((ps : List Posting) → ArePostings ps → ps ≢ []
+            → bytes.now ≡ list_bytes ps → ⊥) }
     {
-        &self.list
+        match last_of(bytes) {
+            Ok((last, count)) => {
+                if count == 0 {
+                    return None;
+                }
+                let first = first_of(bytes);
+                let head = head_of(Cursor::new(0, bytes));
+                Some(Node {
+                    bytes: CowSlice::Borrowed(bytes),
+                    first,
+                    last,
+                    count,
+                    head,
+                })
+            }
+            Err(_) => None,
+        }
+    }
+
+    /// The bytes that spell the position list.
+    pub fn bytes(&self) -> &[u8]
+        ensures spelled { result.now ≡ list_bytes self.now }
+        ensures are { ArePostings self.now }
+    {
+        self.bytes.as_slice()
+    }
+
+    /// A cursor at the first document. It reads in place, and takes no memory.
+    pub fn cursor(&self) -> Cursor<'_>
+        ensures documents { result ≡ self.now }
+        ensures are { ArePostings result }
+    {
+        Cursor::new(0, self.bytes.as_slice())
     }
 
     /// The node, lent.
@@ -70,10 +131,10 @@ impl Node {
         ensures { result ≡ self.now }
     {
         NodeRef {
-            bytes: &self.list.bytes,
-            first: self.list.first,
-            last: self.list.last,
-            count: self.list.count,
+            bytes: self.bytes.as_slice(),
+            first: self.first,
+            last: self.last,
+            count: self.count,
             head: self.head,
         }
     }
@@ -82,21 +143,21 @@ impl Node {
     pub fn first(&self) -> DocId
         ensures { HasFirstId self.now result }
     {
-        self.list.first_id()
+        self.first
     }
 
     /// The id of the last document.
     pub fn last(&self) -> DocId
         ensures { result ≡ last_id self.now }
     {
-        self.list.last_id()
+        self.last
     }
 
     /// The number of documents.
     pub fn count(&self) -> usize
         ensures { result ≡ length self.now }
     {
-        self.list.count()
+        self.count
     }
 
     /// The number of bytes of the first document behind its id: those of its positions and of its
@@ -107,58 +168,167 @@ impl Node {
     {
         self.head
     }
+
+    /// Whether this is a node as packing makes it: of one document, or within the limit.
+    pub fn is_sound(&self) -> bool
+        ensures { result ≡ is_sound self.now }
+    {
+        self.as_ref().is_sound()
+    }
 }
 
-/// A word with nodes of it.
+/// One node, in its place, or any number of nodes.
 #[derive(Drop)]
-pub struct WordNodes {
-    word: Word,
-    nodes: Vec<Node>,
+enum Held<'a> {
+    One { node: Node<'a> },
+    Many { nodes: Vec<Node<'a>> },
 }
 
-impl Model for WordNodes {
+/// Nodes of a word, by ascending ids. One node alone takes no memory beside its own.
+#[derive(Drop)]
+pub struct NodeGroup<'a> {
+    held: Held<'a>,
+}
+
+impl<'a> Model for NodeGroup<'a> {
+    ghost use Rattle.std.specs.Prelude.{List};
+    ghost use Rattle.fts_ilist.specs.Node.{Docs};
+    ghost use Rattle.fts_ilist.specs.Group.{held_nodes};
+
+    ghost Value = { List Docs };
+
+    ghost view = { λ g. held_nodes g.held };
+}
+
+impl<'a> NodeGroup<'a> {
+    /// No nodes.
+    pub fn new(alloc: Global) -> Self
+        ensures { result ≡ [] }
+    {
+        NodeGroup {
+            held: Held::Many {
+                nodes: Vec::new(alloc),
+            },
+        }
+    }
+
+    /// These nodes.
+    pub fn of(nodes: Vec<Node<'a>>) -> Self
+        ensures { result ≡ nodes.entry.items }
+    {
+        NodeGroup {
+            held: Held::Many { nodes },
+        }
+    }
+
+    /// The nodes.
+    pub fn as_slice(&self) -> &[Node<'a>]
+        ensures { result.now ≡ self.now }
+    {
+        match &self.held {
+            Held::One { node } => slice::from_ref(node),
+            Held::Many { nodes } => nodes.as_slice(),
+        }
+    }
+
+    /// Whether there are none.
+    pub fn is_empty(&self) -> bool
+        ensures { IsTrue result ↔ (self.now ≡ []) }
+    {
+        self.as_slice().is_empty()
+    }
+
+    /// Puts a node behind the others. Where there is no memory, none is left.
+    pub fn push(&mut self, alloc: Global, node: Node<'a>) -> Result<(), AllocError>
+        ensures { OnOk result (self.new ≡ self.old ++ node.entry ∷ []) }
+    {
+        let held = mem::replace(
+            &mut self.held,
+            Held::Many {
+                nodes: Vec::new(alloc),
+            },
+        );
+        self.held = held_with(alloc, held, node)?;
+        Ok(())
+    }
+}
+
+/// One node more behind others.
+fn held_with<'a>(alloc: Global, held: Held<'a>, node: Node<'a>) -> Result<Held<'a>, AllocError>
+    ensures { IfOk result (λ more. held_nodes more ≡ held_nodes held.entry ++ node.entry ∷ []) }
+{
+    match held {
+        Held::One { node: first } => {
+            let mut nodes = Vec::with_capacity(alloc, 2)?;
+            nodes.push(first)?;
+            nodes.push(node)?;
+            Ok(Held::Many { nodes })
+        }
+        Held::Many { mut nodes } => {
+            if nodes.is_empty() {
+                return Ok(Held::One { node });
+            }
+            nodes.push(node)?;
+            Ok(Held::Many { nodes })
+        }
+    }
+}
+
+/// A word with nodes of it. What it holds is its own, or lent.
+#[derive(Drop)]
+pub struct WordNodes<'a> {
+    word: CowSlice<'a, u8, Global>,
+    nodes: NodeGroup<'a>,
+}
+
+impl<'a> Model for WordNodes<'a> {
     ghost use Rattle.std.specs.Prelude.{ℕ, List};
+    ghost use Rattle.std.specs.Cow.{cow_slice_items};
     ghost use Rattle.fts_ilist.specs.Node.{Docs};
 
     ghost Value = { List ℕ × List Docs };
 
-    ghost view = { λ w. (w.word, w.nodes.items) };
+    ghost view = { λ w. (cow_slice_items w.word, w.nodes) };
 }
 
-impl WordNodes {
+impl<'a> WordNodes<'a> {
     /// The word with these nodes.
-    pub fn new(word: Word, nodes: Vec<Node>) -> Self
-        ensures { result ≡ (word, nodes.items) }
+    pub fn new(word: Word, nodes: NodeGroup<'a>) -> Self
+        ensures { result ≡ (word, nodes.entry) }
     {
-        WordNodes { word, nodes }
+        WordNodes {
+            word: CowSlice::Owned(word.into_vec()),
+            nodes,
+        }
     }
 
-    /// The word.
-    pub fn word(&self) -> &Word
+    /// The word that is lent, with these nodes.
+    pub fn lent(word: &'a [u8], nodes: NodeGroup<'a>) -> Self
+        ensures { result ≡ (word.now, nodes.entry) }
+    {
+        WordNodes {
+            word: CowSlice::Borrowed(word),
+            nodes,
+        }
+    }
+
+    /// The word's bytes.
+    pub fn word(&self) -> &[u8]
         ensures { result.now ≡ self.now.0 }
     {
-        &self.word
+        self.word.as_slice()
     }
 
     /// The nodes, by ascending ids.
-    pub fn nodes(&self) -> &[Node]
+    pub fn nodes(&self) -> &[Node<'a>]
         ensures { result.now ≡ self.now.1 }
     {
-        &self.nodes
-    }
-
-    /// The word, and its nodes.
-    pub fn into_parts(self) -> (Word, Vec<Node>)
-        ensures word { result.0 ≡ self.0 }
-        ensures nodes { result.1.items ≡ self.1 }
-    {
-        let WordNodes { word, nodes } = self;
-        (word, nodes)
+        self.nodes.as_slice()
     }
 }
 
 /// Nodes of many words: each word once, in byte order, with its nodes.
-pub type Nodes = Vec<WordNodes>;
+pub type Nodes<'a> = Vec<WordNodes<'a>>;
 
 #[cfg(test)]
 mod tests {
@@ -175,8 +345,8 @@ mod tests {
         list.push(306, &[7])?;
         let node = Node::new(list);
         assert_eq!(rt; (node.first(), node.last(), node.count()), (300, 306, 2));
-        assert_eq!(rt; (node.head(), node.list().bytes().len()), (4, 9));
-        assert_eq!(rt; node.list().docs().count(), 2);
+        assert_eq!(rt; (node.head(), node.bytes().len()), (4, 9));
+        assert_eq!(rt; node.cursor().count(), 2);
         Ok(())
     }
 }

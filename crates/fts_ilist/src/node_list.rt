@@ -100,7 +100,7 @@ impl<'a> NodeRef<'a> {
     }
 
     /// Whether this is a node as packing makes it: of one document, or within the limit.
-    fn is_sound(&self) -> bool
+    pub fn is_sound(&self) -> bool
         ensures { result ≡ is_sound self.now }
     {
         if self.count == 1 {
@@ -423,7 +423,7 @@ fn is_loose_next(last: &Node, next: &Node) -> bool
 }
 
 /// Whether one of these nodes, which stand behind another, is not as packing makes them there.
-fn loose_behind(node: &Node, nodes: &[Node]) -> bool
+fn loose_behind<'a>(node: &'a Node<'a>, nodes: &'a [Node<'a>]) -> bool
     ensures { result ≡ loose_behind node.now nodes.now }
 {
     let mut last = node;
@@ -440,7 +440,7 @@ fn loose_behind(node: &Node, nodes: &[Node]) -> bool
 
 /// Whether packing the documents of nodes would give other nodes than these. It takes a step for
 /// each node.
-pub fn are_loose(nodes: &[Node]) -> bool
+pub fn are_loose<'a>(nodes: &'a [Node<'a>]) -> bool
     ensures { result ≡ are_loose nodes.now }
 {
     match nodes {
@@ -464,7 +464,7 @@ mod tests {
     const IDS: [u64; 3] = [3, 300, 70_000];
 
     // Nodes of one document each.
-    fn nodes(alloc: Global) -> Result<Vec<Node>, Fail> {
+    fn nodes(alloc: Global) -> Result<Vec<Node<'static>>, Fail> {
         let mut nodes = Vec::new(alloc);
         for id in IDS.iter() {
             let mut list = Ilist::new(alloc);
@@ -489,10 +489,7 @@ mod tests {
                 (found.first(), found.last(), found.count()),
                 (node.first(), node.last(), 1)
             );
-            assert_eq!(rt;
-                (found.head(), found.bytes()),
-                (node.head(), node.list().bytes())
-            );
+            assert_eq!(rt; (found.head(), found.bytes()), (node.head(), node.bytes()));
         }
         Ok(())
     }

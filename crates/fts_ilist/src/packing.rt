@@ -8,7 +8,7 @@ ghost use Rattle.fts_ilist.specs.Packing.{packed, PutsInto, AreLoose, are_loose}
 use crate::cursor::Cursor;
 use crate::documents::Document;
 use crate::list::Ilist;
-use crate::node::Node;
+use crate::node::{Node, NodeGroup};
 use crate::number::NUMBER_ROOM;
 use std::alloc::{AllocError, Global};
 use std::marker::Model;
@@ -84,14 +84,13 @@ fn put(
 }
 
 /// Lists as nodes.
-fn nodes_of(alloc: Global, lists: Vec<Ilist>) -> Result<Vec<Node>, AllocError>
+fn nodes_of<'a>(alloc: Global, lists: Vec<Ilist>) -> Result<NodeGroup<'a>, AllocError>
     requires { All (λ docs. docs ≢ []) lists.items }
-    ensures { IfOk result (λ nodes. nodes.items ≡ lists.items) }
+    ensures { IfOk result (λ nodes. nodes ≡ lists.items) }
 {
-    // A word has mostly one node, which is put behind these.
-    let mut nodes = Vec::with_capacity(alloc, lists.len() + 1)?;
+    let mut nodes = NodeGroup::new(alloc);
     for list in lists {
-        nodes.push(Node::new(list))?;
+        nodes.push(alloc, Node::new(list))?;
     }
     Ok(nodes)
 }
@@ -142,16 +141,16 @@ impl Packing {
     }
 
     /// The nodes of the documents.
-    pub fn nodes(self) -> Result<Vec<Node>, AllocError>
-        ensures { IfOk result (λ nodes. nodes.items ≡ packed self) }
+    pub fn nodes<'a>(self) -> Result<NodeGroup<'a>, AllocError>
+        ensures { IfOk result (λ nodes. nodes ≡ packed self) }
     {
         let Packing { closed, begun } = self;
         let alloc = *closed.allocator();
         if begun.is_empty() {
-            return Ok(Vec::new(alloc));
+            return Ok(NodeGroup::new(alloc));
         }
         let mut nodes = nodes_of(alloc, closed)?;
-        nodes.push(Node::new(begun))?;
+        nodes.push(alloc, Node::new(begun))?;
         Ok(nodes)
     }
 }

@@ -41,7 +41,8 @@ use Rattle.fts_index.specs.declared.restore.Covered.{Covered}
 use Rattle.fts_index.specs.Index.{StandsFor, pending_seen, pending_of, cached_row}
 use Rattle.fts_index.specs.Births.{turn_of}
 use Rattle.fts_index.specs.Parts.{HasSame}
-use Rattle.fts_index.specs.Restore.{Covers, AreRead, begins_above, are_born, is_fit, is_next, can_restore, Restores, IsAdded}
+use Rattle.fts_aux.specs.Tables.{begins_above, begin_behind}
+use Rattle.fts_index.specs.Restore.{Covers, AreRead, are_born, is_new, is_fit, is_next, can_restore, Restores, IsAdded}
 use Rattle.fts_index.proofs.Commits.{stands_still}
 use Rattle.fts_entries.proofs.Groups.{own_nodes, no_nodes_for, word_apart}
 
@@ -80,6 +81,17 @@ passes test (x ∷ xs) e = let both = and_parts (test x) (list_all test xs) e in
 all_pass : {X : Type 0} (test : X → Bool) (xs : List X) → AllByRecursion (λ x. test x ≡ true) xs → list_all test xs ≡ true
 all_pass test [] h = refl
 all_pass test (x ∷ xs) h = ap₂ (λ (b c : Bool). b && c) h.0 (all_pass test xs h.1)
+
+apart : (a b c d : Bool) → ((a && b) && (c && d)) ≡ ((a && c) && (b && d))
+apart true true c d = refl
+apart true false true d = refl
+apart true false false d = refl
+apart false b c d = refl
+
+both_pass : {X : Type 0} (test other : X → Bool) (xs : List X) → list_all (λ x. test x && other x) xs ≡ (list_all test xs && list_all other xs)
+both_pass test other [] = refl
+both_pass test other (x ∷ xs) =
+    ap (λ (b : Bool). (test x && other x) && b) (both_pass test other xs) ∙ apart (test x) (other x) (list_all test xs) (list_all other xs)
 
 front_all : (P : Posting → Type 0) (front rest : List Posting) → AllByRecursion P (front ++ rest) → AllByRecursion P front
 front_all P [] rest h = tt
@@ -156,6 +168,25 @@ module _ (held : tables.Held) (born : ℕ → Bool) where
       → AllByRecursion (λ g. NodesAfter (last_of 0 (tables.nodes held g.0)) g.1) batch
   after_all [] fit after = tt
   after_all (g ∷ batch) fit after = (begins_then (last_of 0 (tables.nodes held g.0)) g.1 after.0 (fit_begins g fit.0), after_all batch fit.1 after.1)
+
+-- all words fit where they are new and begin behind those of the tables
+pub all_fit : (held : tables.Held) (born : ℕ → Bool) (batch : Batch) → list_all (is_new born) batch ≡ true → list_all (is_fit held born) batch ≡ begin_behind held batch
+all_fit held born batch new =
+    both_pass (λ (g : List ℕ × List Docs). begins_above (last_of 0 (tables.nodes held g.0)) g.1) (is_new born) batch
+    ∙ ap (λ (b : Bool). begin_behind held batch && b) new ∙ and_true (begin_behind held batch)
+  where
+    and_true : (b : Bool) → (b && true) ≡ b
+    and_true true = refl
+    and_true false = refl
+
+pub none_fit : (held : tables.Held) (born : ℕ → Bool) (batch : Batch) → list_all (is_new born) batch ≡ false → list_all (is_fit held born) batch ≡ false
+none_fit held born batch old =
+    both_pass (λ (g : List ℕ × List Docs). begins_above (last_of 0 (tables.nodes held g.0)) g.1) (is_new born) batch
+    ∙ ap (λ (b : Bool). begin_behind held batch && b) old ∙ and_false (begin_behind held batch)
+  where
+    and_false : (b : Bool) → (b && false) ≡ false
+    and_false true = refl
+    and_false false = refl
 
 -- nodes that fit come behind those of the tables, also where these have other room
 pub comes : (index middle : Index) (covered : Covered) (through synced : ℕ) (batch : Batch) → HasSame index middle → AreRead batch → can_restore index covered through synced batch ≡ true

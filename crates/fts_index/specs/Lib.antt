@@ -7,3 +7,4 @@ pub mod Gathered
 pub mod Parts
 pub mod Made
 pub mod Restore
+pub mod Passing

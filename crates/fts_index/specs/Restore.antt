@@ -7,10 +7,10 @@ use Rattle.fts_words.specs.Indexed.{Rules}
 use Rattle.fts_words.specs.Order.{byte_order}
 use Rattle.fts_ids.specs.Ids.{has}
 use Rattle.fts_commits.specs.Turn.{Turn, AreTurns, deaths_of}
-use Rattle.fts_ilist.specs.Spelling.{first_id}
 use Rattle.fts_ilist.specs.Node.{Docs, NodesAfter, last_of, nodes_for}
 use Rattle.fts_ilist.specs.Packing.{are_loose, joined}
 use Rattle.fts_aux.specs.Tables as tables
+use Rattle.fts_aux.specs.Tables.{begins_above}
 use Rattle.fts_cache.specs.Cache.{SameContents}
 use Rattle.fts_entries.specs.Entry.{Batch, IndexState, sealed, after_entry}
 use Rattle.fts_entries.specs.Batch.{largest_after}
@@ -36,19 +36,17 @@ pub record AreRead (batch : Batch) : Type 0 where
   pub nodes : All (λ g. NodesAfter 0 g.1) batch
   pub ids : All (λ g. IdsAfter 0 (joined g.1)) batch
 
--- the first id of nodes is above one
-abbrev pub begins_above : ℕ → List Docs → Bool
-begins_above last [] = true
-begins_above last (n ∷ ns) = nat_lt last (first_id n)
-
 -- all documents of nodes were born
 abbrev pub are_born : (ℕ → Bool) → List Docs → Bool
 are_born born nodes = list_all (λ docs. list_all (λ p. born p.id) docs) nodes
 
--- the nodes of a word can come behind those that the tables have of it: packing leaves them as they are, and their
--- documents were born in the commits covered
+-- packing leaves the nodes of a word as they are, and their documents were born in the commits covered
+abbrev pub is_new : (ℕ → Bool) → List ℕ × List Docs → Bool
+is_new born g = not (are_loose g.1) && are_born born g.1
+
+-- such nodes can come behind those that the tables have of the word
 abbrev pub is_fit : tables.Held → (ℕ → Bool) → List ℕ × List Docs → Bool
-is_fit held born g = begins_above (last_of 0 (tables.nodes held g.0)) g.1 && (not (are_loose g.1) && are_born born g.1)
+is_fit held born g = begins_above (last_of 0 (tables.nodes held g.0)) g.1 && is_new born g
 
 -- the batch flushes the commits covered, which are some
 abbrev pub is_next : Index → Covered → ℕ → ℕ → Bool

@@ -14,7 +14,7 @@ ghost use Rattle.fts_index.specs.Gathered.{is_needed, table_has, cache_has, doc_
 
 use crate::index::Index;
 use crate::walk::words_with;
-use fts_ids::{IdList, both, union, united, without};
+use fts_ids::{IdList, both, union, united};
 use fts_ilist::{Cursor, NodeSlice};
 use fts_lists::{DeleteList, Lists};
 use fts_query::{Leaf, Postings};
@@ -64,7 +64,7 @@ fn without_deleted(lists: &Lists, ids: Vec<DocId>) -> Result<Vec<DocId>, AllocEr
     if lists.is_empty(DeleteList::Deleted) {
         return Ok(ids);
     }
-    without(*ids.allocator(), &ids, lists.deleted())
+    lists.without_deleted(*ids.allocator(), &ids)
 }
 
 /// The ids that are not in DELETED_CACHE, each tested by itself.

@@ -89,19 +89,23 @@ fn make_room(index: &mut Index, documents: &[DocWords], deaths: usize) -> Result
     Ok(())
 }
 
-/// Makes room for a batch of these nodes, in whose commits so many died.
+/// Makes room for a batch of these nodes, in whose commits so many died. It tells whether the nodes
+/// of each word begin behind those of the tables.
 pub(crate) fn make_batch_room(
     index: &mut Index,
     nodes: &[WordNodes],
     dead: usize,
-) -> Result<(), AllocError>
+) -> Result<bool, AllocError>
     ensures same { HasSame index.old index.new }
     ensures nodes { OnOk result (tables.HasRoomOf index.new.tables nodes.now) }
     ensures dead { OnOk result (dead ≤ room_of Deleted index.new.lists) }
+    ensures told { IfOk result (λ behind. behind
+        ≡ tables.begin_behind index.old.tables nodes.now) }
 {
     index.lists.reserve(DeleteList::Deleted, dead)?;
-    index.tables.reserve(nodes)?;
-    Ok(())
+    // Numbers up to the largest of the batches before, so that searches need one look for an id.
+    index.lists.mark_deleted(dead)?;
+    index.tables.reserve(nodes)
 }
 
 /// Adds what a commit does to each part of an index.

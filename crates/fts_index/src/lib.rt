@@ -20,6 +20,7 @@ mod index;
 mod keyed;
 mod listing;
 mod occurrence;
+mod passing;
 mod pending;
 mod restore;
 mod sync;
@@ -27,6 +28,7 @@ mod walk;
 
 pub use gather::Gathered;
 pub use index::{CommitPlan, Index};
+pub use passing::PassPlan;
 pub use restore::{Covered, RestoreError};
 pub use sync::SyncPlan;
 

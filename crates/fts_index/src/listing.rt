@@ -20,7 +20,7 @@ use crate::walk::all_words;
 use fts_aux::Tables;
 use fts_cache::Cache;
 use fts_ids::union;
-use fts_ilist::{Cursor, Ilist, Node, NodeSlice, Nodes, WordNodes};
+use fts_ilist::{Cursor, Ilist, Node, NodeGroup, NodeSlice, Nodes, WordNodes};
 use fts_listing::{Config, ListedWords, Listing, ListingKind};
 use fts_lists::{DeleteList, Lists};
 use fts_types::{DocIds, Settings, Word};
@@ -39,19 +39,19 @@ fn list_of(alloc: Global, documents: Cursor<'_>) -> Result<Ilist, AllocError>
 }
 
 /// A copy of nodes that are lent.
-fn copied_nodes(alloc: Global, nodes: NodeSlice<'_>) -> Result<Vec<Node>, AllocError>
+fn copied_nodes(alloc: Global, nodes: NodeSlice<'_>) -> Result<NodeGroup<'static>, AllocError>
     requires { AllByRecursion (λ docs. docs ≢ []) nodes }
-    ensures { IfOk result (λ copied. copied.items ≡ nodes.entry) }
+    ensures { IfOk result (λ copied. copied ≡ nodes.entry) }
 {
-    let mut copied = Vec::with_capacity(alloc, nodes.len())?;
+    let mut copied = NodeGroup::new(alloc);
     for node in nodes {
-        copied.push(Node::new(list_of(alloc, node.cursor())?))?;
+        copied.push(alloc, Node::new(list_of(alloc, node.cursor())?))?;
     }
     Ok(copied)
 }
 
 /// A word of the tables with its nodes.
-fn table_word(alloc: Global, tables: &Tables, word: &Word) -> Result<WordNodes, AllocError>
+fn table_word(alloc: Global, tables: &Tables, word: &Word) -> Result<WordNodes<'static>, AllocError>
     ensures { IfOk result (λ one. one ≡ (word.now, nodes tables.now word.now)) }
 {
     let nodes = copied_nodes(alloc, tables.nodes_of(word.as_bytes()))?;
@@ -59,7 +59,7 @@ fn table_word(alloc: Global, tables: &Tables, word: &Word) -> Result<WordNodes, 
 }
 
 /// All words of the tables, with their nodes.
-fn table_words(alloc: Global, tables: &Tables) -> Result<Nodes, AllocError>
+fn table_words(alloc: Global, tables: &Tables) -> Result<Nodes<'static>, AllocError>
     ensures { IfOk result (λ words. IsListing (nodes tables.now) [] words.items) }
 {
     let empty = Word::copied(alloc, b"")?;
@@ -71,19 +71,19 @@ fn table_words(alloc: Global, tables: &Tables) -> Result<Nodes, AllocError>
 }
 
 /// A word of the cache, with its documents as one group.
-fn cached_word(alloc: Global, cache: &Cache, word: &[u8]) -> Result<WordNodes, AllocError>
+fn cached_word(alloc: Global, cache: &Cache, word: &[u8]) -> Result<WordNodes<'static>, AllocError>
     ensures { IfOk result (λ one. one ≡ (word.now, one_group (postings_of cache.now word.now))) }
 {
     let list = list_of(alloc, cache.postings(word))?;
-    let mut nodes = Vec::new(alloc);
+    let mut nodes = NodeGroup::new(alloc);
     if !list.is_empty() {
-        nodes.push(Node::new(list))?;
+        nodes.push(alloc, Node::new(list))?;
     }
     Ok(WordNodes::new(Word::copied(alloc, word)?, nodes))
 }
 
 /// All words of the cache, each with its documents as one group.
-fn cached_words(alloc: Global, cache: &Cache) -> Result<Nodes, AllocError>
+fn cached_words(alloc: Global, cache: &Cache) -> Result<Nodes<'static>, AllocError>
     ensures { IfOk result (λ words. IsListing (λ word. one_group (postings_of cache.now word)) []
         words.items) }
 {
@@ -157,6 +157,10 @@ pub(crate) fn listed(
         }
         ListingKind::Deleted => {
             let ids = deleted_ids(alloc, &index.lists)?;
+            Ok(Listing::Ids { ids })
+        }
+        ListingKind::BeingDeleted => {
+            let ids = DocIds::new(index.lists.ids(alloc, DeleteList::BeingDeleted)?);
             Ok(Listing::Ids { ids })
         }
         ListingKind::Config => {

@@ -1,6 +1,6 @@
 //! Batches that are read again from an index log.
 ghost use Rattle.std.specs.Prelude.{◌≡◌, ◌≢◌, ◌+◌, ◌≤◌, ◌∷◌, ◌++◌, [], ℕ, List, length, map};
-ghost use Rattle.std.specs.Prelude.{◌&&◌, nat_le, IfOk, IsErr, IsErrOf, OnOk, OnErr};
+ghost use Rattle.std.specs.Prelude.{◌&&◌, nat_le, IfOk, IsErr, IsErrOf, OnOk, OnErr, Ok, true};
 ghost use Rattle.std.specs.List.{list_all};
 ghost use Rattle.std.specs.List.Sorted.{IsStrictlySortedBy};
 ghost use Rattle.std.specs.Map.{keys_of};
@@ -10,8 +10,8 @@ ghost use Rattle.fts_ids.specs.Ids.{has, Ascend};
 ghost use Rattle.fts_aux.specs.Tables as tables;
 ghost use Rattle.fts_lists.specs.State.{room_of};
 ghost use Rattle.fts_lists.specs.declared.lists.DeleteList.TheVariants.{Deleted};
-ghost use Rattle.fts_index.specs.Restore.{begins_above, are_born, is_fit, is_next, can_restore};
-ghost use Rattle.fts_index.specs.Restore.{IsAdded};
+ghost use Rattle.fts_index.specs.Restore.{are_born, is_new, is_next, can_restore, IsAdded};
+ghost use Rattle.fts_index.specs.Parts.{HasSame};
 ghost use Rattle.fts_index.specs.declared.restore.RestoreError.TheVariants.{NoMemory};
 
 use crate::index::{Index, make_batch_room};
@@ -113,16 +113,6 @@ impl Covered {
     }
 }
 
-/// Whether the first id of nodes is above one.
-fn begins_above(last: DocId, nodes: &[Node]) -> bool
-    ensures { result ≡ begins_above last nodes.now }
-{
-    match nodes {
-        [] => true,
-        [first, ..] => last < first.first(),
-    }
-}
-
 /// Whether an id lies between two others, or is one of them.
 fn is_between(first: DocId, last: DocId, id: DocId) -> bool
     ensures { result ≡ (nat_le first id && nat_le id last) }
@@ -178,15 +168,11 @@ fn are_born(births: &[DocId], nodes: &[Node]) -> bool
     true
 }
 
-/// Whether the nodes of a word can come behind those that the tables have of it.
-fn is_fit(tables: &Tables, births: &[DocId], word: &WordNodes) -> bool
+/// Whether packing leaves the nodes of a word as they are, and all their documents were born.
+fn is_new(births: &[DocId], word: &WordNodes) -> bool
     requires { Ascend births.now }
-    ensures { result ≡ is_fit tables.now (has births.now) word.now }
+    ensures { result ≡ is_new (has births.now) word.now }
 {
-    let last = tables.nodes_of(word.word().as_bytes()).last_id();
-    if !begins_above(last, word.nodes()) {
-        return false;
-    }
     if are_loose(word.nodes()) {
         return false;
     }
@@ -194,13 +180,13 @@ fn is_fit(tables: &Tables, births: &[DocId], word: &WordNodes) -> bool
 }
 
 /// Whether this holds of each word.
-fn are_fit(tables: &Tables, births: &[DocId], nodes: &[WordNodes]) -> bool
+fn are_new(births: &[DocId], nodes: &[WordNodes]) -> bool
     requires { Ascend births.now }
-    ensures { result ≡ list_all (is_fit tables.now (has births.now)) nodes.now }
+    ensures { result ≡ list_all (is_new (has births.now)) nodes.now }
 {
     let mut rest = nodes;
     while let [first, behind @ ..] = rest {
-        if !is_fit(tables, births, first) {
+        if !is_new(births, first) {
             return false;
         }
         rest = behind;
@@ -221,22 +207,30 @@ fn is_next(index: &Index, covered: &Covered, through: u64, synced: DocId) -> boo
     synced == covered.largest
 }
 
-/// Whether a batch can be installed behind what the index has.
-fn can_restore(
-    index: &Index,
+/// Whether a batch can be installed behind what the index has, with the room for it and for what
+/// died in its commits.
+fn make_room_if_fit(
+    index: &mut Index,
     covered: &Covered,
     through: u64,
     synced: DocId,
     nodes: &[WordNodes],
+    dead: usize,
 ) -> Result<bool, AllocError>
-    ensures { IfOk result (λ can. can
-        ≡ can_restore index.now covered.now through synced nodes.now) }
+    ensures same { HasSame index.old index.new }
+    ensures can { IfOk result (λ can. can
+        ≡ can_restore index.old covered.now through synced nodes.now) }
+    ensures nodes { result ≡ Ok true → tables.HasRoomOf index.new.tables nodes.now }
+    ensures dead { result ≡ Ok true → dead ≤ room_of Deleted index.new.lists }
 {
     if !is_next(index, covered, through, synced) {
         return Ok(false);
     }
     let births = ascending(covered.births.to_vec(index.alloc)?);
-    Ok(are_fit(&index.tables, &births, nodes))
+    if !are_new(&births, nodes) {
+        return Ok(false);
+    }
+    make_batch_room(index, nodes, dead)
 }
 
 /// Adds what a batch does to each part of an index that has nothing in its cache.
@@ -288,11 +282,10 @@ impl Index {
             → StandsFor rules turns s self.old → StandsFor rules turns s self.new }
         ensures covered { OnErr result (covered.new ≡ covered.old) }
     {
-        if !can_restore(self, covered, through, synced, nodes)? {
+        let dead = ascending(covered.deaths.to_vec(self.alloc)?);
+        if !make_room_if_fit(self, covered, through, synced, nodes, dead.len())? {
             return Err(RestoreError::Bad);
         }
-        let dead = ascending(covered.deaths.to_vec(self.alloc)?);
-        make_batch_room(self, nodes, dead.len())?;
         add_batch(self, through, synced, nodes, &dead);
         covered.clear();
         Ok(())

@@ -23,7 +23,7 @@ pub struct SyncPlan {
     // Through which commit, and up to which id, the index is flushed with it.
     pub(crate) through: u64,
     pub(crate) synced: DocId,
-    pub(crate) nodes: Nodes,
+    pub(crate) nodes: Nodes<'static>,
     // What died in the commits covered, ascending.
     pub(crate) dead: Vec<DocId>,
 }
@@ -44,7 +44,7 @@ impl SyncPlan {
     }
 
     /// Its words, each with its nodes.
-    pub fn nodes(&self) -> &[WordNodes]
+    pub fn nodes(&self) -> &[WordNodes<'static>]
         ensures { result.now ≡ self.now.nodes.items }
     {
         &self.nodes

@@ -1,5 +1,6 @@
 use Rattle.std.proofs.Common.{◌≡◌, ◌≢◌, ℕ, zero, suc, ◌+◌, ◌-◌, ◌<◌, ◌≤◌, List, [], ◌∷◌, ◌++◌, length, map, get_or, take, drop, refl, sym, ◌∙◌, ap, append_assoc, append-nil, length-append, inl, inr, arith}
-use Rattle.std.proofs.Common.{Some, None, min}
+use Rattle.std.proofs.Common.{Some, None, min, Bool, true, false}
+use Rattle.std.specs.Prelude.{cond, nat_eq}
 use Rattle.std.proofs.Math.Seq.{take-append-add, drop-length}
 use Rattle.std.proofs.lemmas.Bool.{cases_lt, eqb-true, eq-eqb}
 use Rattle.std.proofs.lemmas.List.{take_all, take_min, length-take-le}
@@ -141,3 +142,30 @@ moves-none line unread buffer line' rest left same none is gone =
           ∙ ap (λ l. lines_from line (l ++ left)) same,
       empty,
     )
+
+-- ---- where there is a byte, there is a line
+
+onto-some : (front : List ℕ) (lines : List (List ℕ)) → onto front lines ≡ [] → ⊥
+onto-some front [] is = cc
+onto-some front (line ∷ lines) is = cc
+
+cut-some : (b : ℕ) (text : List ℕ) → cut (b ∷ text) ≡ [] → ⊥
+cut-some b text is = by_byte (nat_eq b 10) is
+  where
+    by_byte : (feed : Bool) → cond feed ([] ∷ cut text) (onto (b ∷ []) (cut text)) ≡ [] → ⊥
+    by_byte true is' = cc
+    by_byte false is' = onto-some (b ∷ []) (cut text) is'
+
+glue-some : (begun : List ℕ) (lines : List (List ℕ)) → (lines ≡ [] → ⊥) → glue begun lines ≡ [] → ⊥
+glue-some [] lines some is = some is
+glue-some (x ∷ begun) lines some is = onto-some (x ∷ begun) lines is
+
+sorted-some : (lines : List (List ℕ)) → (lines ≡ [] → ⊥) → map sorted lines ≡ [] → ⊥
+sorted-some [] some is = some refl
+sorted-some (line ∷ lines) some is = cc
+
+-- bytes that are unread are of a line that is ahead
+pub lines_from-some : (line buffer left : List ℕ) → 0 < length buffer → lines_from line (buffer ++ left) ≡ [] → ⊥
+lines_from-some line [] left h is = omega arith
+lines_from-some line (b ∷ buffer) left h is =
+    sorted-some (glue line (cut (b ∷ (buffer ++ left)))) (glue-some line (cut (b ∷ (buffer ++ left))) (cut-some b (buffer ++ left))) is

@@ -32,14 +32,14 @@ given_by lines = lines.given
 abbrev pub work_left : Lines → ℕ
 work_left lines = 4 * (2 ^ 40 + 1 - lines.taken) + 2 * length lines.buffer + min 1 (length lines.line.items)
 
--- what an answer says of the lines that were to come before it and after it
+-- what an answer says of the lines that were to come before it and after it: memory runs out for one of these alone
 abbrev pub Gives : Next → List Line → List Line → Type 0
 Gives (next.Line bytes) before after = before ≡ whole bytes.items ∷ after
 Gives (next.TooLong number) before after = before ≡ too_long ∷ after
 Gives next.End before after = (before ≡ []) × (after ≡ [])
 Gives (next.Endless bytes) before after = after ≡ before
 Gives next.ReadFault before after = after ≡ before
-Gives next.NoMemory before after = after ≡ before
+Gives next.NoMemory before after = (after ≡ before) × (after ≡ [] → ⊥)
 
 -- what an answer says of the count of lines given: each line is counted, and one too long carries its number
 abbrev pub Counts : Next → ℕ → ℕ → Type 0

@@ -22,7 +22,8 @@ use Rattle.fts_entries.proofs.Packing.{packed_ascend, nodes_lower}
 use Rattle.fts_entries.proofs.Postings.{rows_after}
 use Rattle.fts_entries.proofs.Alive.{alive_ascend, alive_among}
 use Rattle.fts_entries.proofs.Groups.{own_nodes}
-use Rattle.fts_entries.proofs.Spelled.{spelled_lower, rows_spelled, IsPackedNode, packed_each, of_word}
+use Rattle.fts_entries.proofs.Spelled.{spelled_lower, rows_spelled, packed_each, of_word}
+use Rattle.fts_entries.specs.Pass.{IsPackedNode}
 use Rattle.fts_ixcodec.specs.Payload.{node_payload, nodes_payload, node_count, IsWord, IsNode, IsGroup, IsEntry, FitsRecord}
 use Rattle.fts_ixcodec.proofs.Walks.{node_length, count_within}
 use Rattle.fts_ixcodec.proofs.Forms.{indexed_is_word}

@@ -1,5 +1,5 @@
 -- What is read is spelled so, and what is spelled so is read: the nodes of one word.
-use Rattle.std.proofs.Common.{◌≡◌, ℕ, ◌+◌, ◌^◌, Bool, true, false, ◌&&◌, cond, List, [], ◌∷◌, ◌++◌, length, Option, Some, None, Result, Ok, Err, bytes_eq, refl, sym, ap, subst, ◌∙◌, arith, ⊎_elim}
+use Rattle.std.proofs.Common.{◌≡◌, ◌≢◌, ℕ, ◌+◌, ◌^◌, Bool, true, false, ◌&&◌, cond, List, [], ◌∷◌, ◌++◌, length, Option, Some, None, Result, Ok, Err, bytes_eq, refl, sym, ap, subst, ◌∙◌, arith, ⊎_elim}
 use Rattle.std.specs.Int.{w32, to_be_bytes}
 use Rattle.std.proofs.lemmas.Bool.{and_parts, leb-true, le-leb, ltb-true, lt-ltb, cases_Bool}
 use Rattle.std.proofs.lemmas.Slice.Eq.{bytes_eq-Decides}
@@ -9,10 +9,6 @@ use Rattle.fts_ilist.specs.Spelling.{Posting, PositionsFrom, PostingsAfter, AreP
 use Rattle.fts_ilist.specs.Reading.{postings_in}
 use Rattle.fts_ilist.specs.Node.{Docs, BeginsAfter}
 use Rattle.fts_ilist.specs.Packing.{is_sound}
-use Rattle.fts_ilist.specs.Parsed.{GivesList}
-use Rattle.fts_ilist.specs.declared.list.ParseError.{ParseError}
-use Rattle.fts_ilist.specs.declared.list.ParseError.TheVariants as errors
-use Rattle.fts_ilist.specs.declared.number.Bad.{Bad}
 use Rattle.fts_ilist.proofs.Postings.{postings_in-bytes}
 use Rattle.fts_ixcodec.specs.Payload.{list_payload, IsNode}
 use Rattle.fts_ixcodec.specs.Reading.{◌>>=◌, field, or_left, are_from, are_after, is_list, begin_after, node_with, node_in, list_at}
@@ -66,16 +62,20 @@ node_is last bytes ps are e =
     let told = list_told bytes ps are e in
     rw (told.1, told.0) refl
 
--- no list is given where bytes are refused
-pub gives_none : (ps : List Posting) (e : ParseError) (bad : Bad) → e ≡ errors.Bad bad → GivesList ps (Err e) → ⊥
-gives_none ps e bad is given = subst (λ (x : ParseError). GivesList ps (Err x)) is given
-
 list_is : (bytes : List ℕ) → is_list bytes ≡ true → ArePostings (postings_in 0 bytes) × (bytes ≡ list_bytes (postings_in 0 bytes))
 list_is bytes e = let parts = and_parts _ _ e in (postings_are 0 (postings_in 0 bytes) parts.0, same_text bytes (list_bytes (postings_in 0 bytes)) parts.1)
 
-pub no_node : (last : ℕ) (bytes : List ℕ) → ((ps : List Posting) → ArePostings ps → bytes ≡ list_bytes ps → ⊥) → node_in last bytes ≡ None
+-- no node has no documents
+without_documents : (last : ℕ) (docs : Docs) → (docs ≢ [] → ⊥) → node_with last docs ≡ None
+without_documents last [] none = refl
+without_documents last (p ∷ ps) none = absurd (none (λ e. absurd cc))
+
+pub no_node : (last : ℕ) (bytes : List ℕ) → ((ps : List Posting) → ArePostings ps → ps ≢ [] → bytes ≡ list_bytes ps → ⊥) → node_in last bytes ≡ None
 no_node last bytes none =
-    ⊎_elim (λ (is : is_list bytes ≡ true). absurd (none (postings_in 0 bytes) (list_is bytes is).0 (list_is bytes is).1)) (λ (not : is_list bytes ≡ false). rw not refl) (cases_Bool (is_list bytes))
+    ⊎_elim
+    (λ (is : is_list bytes ≡ true). rw is (without_documents last (postings_in 0 bytes) (λ some. none (postings_in 0 bytes) (list_is bytes is).0 some (list_is bytes is).1)))
+    (λ (not : is_list bytes ≡ false). rw not refl)
+    (cases_Bool (is_list bytes))
 
 -- ---- nodes
 

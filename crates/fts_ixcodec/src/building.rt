@@ -7,103 +7,104 @@ ghost use Rattle.fts_ixcodec.specs.Reading.{more_at, node_at, one_at, many_at, b
 use crate::error::Fault;
 use crate::lists::list_at;
 use crate::words::word_at;
-use fts_ilist::{Node, Nodes, WordNodes};
-use fts_types::{DocId, Word};
+use fts_ilist::{Node, NodeGroup, Nodes, WordNodes};
+use fts_types::DocId;
 use std::alloc::{AllocError, Global};
 use std::marker::Model;
 use std::mem;
 
-/// Words with their nodes, of which the last may get more.
+/// Words with their nodes, of which the last may get more. They borrow the bytes that they are read
+/// from.
 #[derive(Drop)]
-pub(crate) struct Building {
-    closed: Nodes,
-    word: Word,
-    nodes: Vec<Node>,
+pub(crate) struct Building<'a> {
+    closed: Nodes<'a>,
+    word: &'a [u8],
+    nodes: NodeGroup<'a>,
     // The last id of the last word's nodes.
     last: DocId,
 }
 
-impl Model for Building {
+impl<'a> Model for Building<'a> {
     ghost use Rattle.fts_ixcodec.specs.Building as building;
 
     ghost Value = { building.Building };
 
     ghost view = { λ b. record {
       closed = b.closed.items;
-      word = b.word;
-      nodes = b.nodes.items;
+      word = b.word.now;
+      nodes = b.nodes;
       last = b.last;
     } };
 }
 
 /// Puts a word behind others, where it has nodes.
-fn close(closed: &mut Nodes, word: Word, nodes: Vec<Node>) -> Result<(), AllocError>
-    ensures { OnOk result (closed.new.items ≡ closed.old.items ++ group_of word nodes.items) }
+fn close<'a>(closed: &mut Nodes<'a>, word: &'a [u8], nodes: NodeGroup<'a>) -> Result<(), AllocError>
+    ensures { OnOk result (closed.new.items
+        ≡ closed.old.items ++ group_of word.now nodes.entry) }
 {
     if nodes.is_empty() {
         return Ok(());
     }
-    closed.push(WordNodes::new(word, nodes))?;
+    closed.push(WordNodes::lent(word, nodes))?;
     Ok(())
 }
 
-impl Building {
+impl<'a> Building<'a> {
     /// Before the first node.
     fn new(alloc: Global) -> Self
         ensures { result ≡ nothing }
     {
         Building {
             closed: Vec::new(alloc),
-            word: Word::from_vec(Vec::new(alloc)),
-            nodes: Vec::new(alloc),
+            word: &[],
+            nodes: NodeGroup::new(alloc),
             last: 0,
         }
     }
 
     /// Takes a word, the last one or another.
-    fn turn_to(&mut self, alloc: Global, word: &[u8]) -> Result<(), AllocError>
+    fn turn_to(&mut self, alloc: Global, word: &'a [u8]) -> Result<(), AllocError>
         ensures { OnOk result (self.new ≡ turned_to self.old word.now) }
     {
-        if self.word.as_bytes() == word {
+        if self.word == word {
             return Ok(());
         }
-        let word = mem::replace(&mut self.word, Word::copied(alloc, word)?);
-        let nodes = mem::replace(&mut self.nodes, Vec::new(alloc));
+        let word = mem::replace(&mut self.word, word);
+        let nodes = mem::replace(&mut self.nodes, NodeGroup::new(alloc));
         self.last = 0;
         close(&mut self.closed, word, nodes)
     }
 
     /// Takes a node of the last word.
-    fn push(&mut self, node: Node) -> Result<(), AllocError>
-        ensures { OnOk result (self.new ≡ with_node self.old node) }
+    fn push(&mut self, alloc: Global, node: Node<'a>) -> Result<(), AllocError>
+        ensures { OnOk result (self.new ≡ with_node self.old node.entry) }
     {
         self.last = node.last();
-        self.nodes.push(node)?;
-        Ok(())
+        self.nodes.push(alloc, node)
     }
 
     /// Takes the node of the last word whose list begins the bytes, and gives what is behind it.
     #[tactic(auto, unfolding(crate::specs::Reading::more_at))]
-    fn take_list<'a>(&mut self, alloc: Global, bytes: &'a [u8]) -> Result<&'a [u8], Fault>
+    fn take_list(&mut self, alloc: Global, bytes: &'a [u8]) -> Result<&'a [u8], Fault>
         ensures { Gives (λ rest. (self.new, rest.now)) result (more_at self.old bytes.now) }
     {
-        let (node, rest) = list_at(alloc, self.last, bytes)?;
-        self.push(node)?;
+        let (node, rest) = list_at(self.last, bytes)?;
+        self.push(alloc, node)?;
         Ok(rest)
     }
 
     /// Takes the node that begins the bytes, with its word, and gives what stands behind it.
     #[tactic(auto, unfolding(crate::specs::Reading::node_at))]
-    fn take_node<'a>(&mut self, alloc: Global, bytes: &'a [u8]) -> Result<&'a [u8], Fault>
+    fn take_node(&mut self, alloc: Global, bytes: &'a [u8]) -> Result<&'a [u8], Fault>
         ensures { Gives (λ rest. (self.new, rest.now)) result (node_at self.old bytes.now) }
     {
-        let (word, rest) = word_at(self.word.as_bytes(), bytes)?;
+        let (word, rest) = word_at(self.word, bytes)?;
         self.turn_to(alloc, word)?;
         self.take_list(alloc, rest)
     }
 
     /// Takes a node behind its word or, of the last word, without it.
-    fn take<'a>(&mut self, alloc: Global, worded: bool, bytes: &'a [u8]) -> Result<&'a [u8], Fault>
+    fn take(&mut self, alloc: Global, worded: bool, bytes: &'a [u8]) -> Result<&'a [u8], Fault>
         ensures { Gives (λ rest. (self.new, rest.now)) result (one_at worded self.old bytes.now) }
     {
         if worded {
@@ -113,8 +114,8 @@ impl Building {
     }
 
     /// All nodes.
-    fn into_batch(self) -> Result<Nodes, AllocError>
-        ensures { IfOk result (λ nodes. nodes.items ≡ batch_of self) }
+    fn into_batch(self) -> Result<Nodes<'a>, AllocError>
+        ensures { IfOk result (λ nodes. nodes.items ≡ batch_of self.entry) }
     {
         let Building {
             mut closed,
@@ -127,8 +128,8 @@ impl Building {
     }
 
     /// The nodes of the last word.
-    fn into_nodes(self) -> Vec<Node>
-        ensures { result.items ≡ self.nodes }
+    fn into_nodes(self) -> NodeGroup<'a>
+        ensures { result ≡ self.entry.nodes }
     {
         let Building { nodes, .. } = self;
         nodes
@@ -141,7 +142,7 @@ fn many_at(
     worded: bool,
     count: u32,
     bytes: &[u8],
-) -> Result<(Building, &[u8]), Fault>
+) -> Result<(Building<'_>, &[u8]), Fault>
     ensures { Gives (λ x. (x.0, x.1.now)) result
         (many_at (one_at worded) count nothing bytes.now) }
 {
@@ -155,7 +156,7 @@ fn many_at(
 
 /// So many nodes, each behind its word, as a batch.
 #[tactic(auto, unfolding(crate::specs::Reading::batch_at))]
-pub(crate) fn batch_at(alloc: Global, count: u32, bytes: &[u8]) -> Result<(Nodes, &[u8]), Fault>
+pub(crate) fn batch_at(alloc: Global, count: u32, bytes: &[u8]) -> Result<(Nodes<'_>, &[u8]), Fault>
     ensures { Gives (λ x. (x.0.items, x.1.now)) result (batch_at count bytes.now) }
 {
     let (building, rest) = many_at(alloc, true, count, bytes)?;
@@ -164,8 +165,12 @@ pub(crate) fn batch_at(alloc: Global, count: u32, bytes: &[u8]) -> Result<(Nodes
 
 /// So many nodes of one word, by ascending ids.
 #[tactic(auto, unfolding(crate::specs::Reading::lists_at))]
-pub(crate) fn lists_at(alloc: Global, count: u32, bytes: &[u8]) -> Result<(Vec<Node>, &[u8]), Fault>
-    ensures { Gives (λ x. (x.0.items, x.1.now)) result (lists_at count bytes.now) }
+pub(crate) fn lists_at(
+    alloc: Global,
+    count: u32,
+    bytes: &[u8],
+) -> Result<(NodeGroup<'_>, &[u8]), Fault>
+    ensures { Gives (λ x. (x.0, x.1.now)) result (lists_at count bytes.now) }
 {
     let (building, rest) = many_at(alloc, false, count, bytes)?;
     Ok((building.into_nodes(), rest))

@@ -18,7 +18,7 @@ use std::alloc::Global;
 
 /// A batch, behind its kind.
 #[tactic(auto, unfolding(crate::specs::Reading::sealed_at))]
-fn sealed_at(alloc: Global, bytes: &[u8]) -> Result<(Entry, &[u8]), Fault>
+fn sealed_at(alloc: Global, bytes: &[u8]) -> Result<(Entry<'_>, &[u8]), Fault>
     ensures { Gives (λ x. (seen x.0, x.1.now)) result (sealed_at bytes.now) }
 {
     let Some((through, synced_on)) = u64_at(bytes) else {
@@ -41,7 +41,7 @@ fn sealed_at(alloc: Global, bytes: &[u8]) -> Result<(Entry, &[u8]), Fault>
 
 /// A word of a pass, behind its kind.
 #[tactic(auto, unfolding(crate::specs::Reading::worked_at))]
-fn worked_at(alloc: Global, bytes: &[u8]) -> Result<(Entry, &[u8]), Fault>
+fn worked_at(alloc: Global, bytes: &[u8]) -> Result<(Entry<'_>, &[u8]), Fault>
     ensures { Gives (λ x. (seen x.0, x.1.now)) result (worked_at bytes.now) }
 {
     let (word, count_on) = word_at(&[], bytes)?;
@@ -49,14 +49,14 @@ fn worked_at(alloc: Global, bytes: &[u8]) -> Result<(Entry, &[u8]), Fault>
         return Err(Fault::at(count_on));
     };
     let (nodes, rest) = lists_at(alloc, count, nodes_on)?;
-    let nodes = NodeList::of(alloc, &nodes)?;
+    let nodes = NodeList::of(alloc, nodes.as_slice())?;
     let word = Word::copied(alloc, word)?;
     Ok((Entry::Worked { word, nodes }, rest))
 }
 
 /// An entry.
 #[tactic(auto, unfolding(crate::specs::Reading::entry_at))]
-fn entry_at(alloc: Global, bytes: &[u8]) -> Result<(Entry, &[u8]), Fault>
+fn entry_at(alloc: Global, bytes: &[u8]) -> Result<(Entry<'_>, &[u8]), Fault>
     ensures { Gives (λ x. (seen x.0, x.1.now)) result (entry_at bytes.now) }
 {
     match bytes {
@@ -71,7 +71,7 @@ fn entry_at(alloc: Global, bytes: &[u8]) -> Result<(Entry, &[u8]), Fault>
 
 /// The entry whose payload the bytes are, all of them.
 #[tactic(auto, unfolding(crate::specs::Reading::entry_of))]
-fn entry_in(alloc: Global, bytes: &[u8]) -> Result<Entry, Fault>
+fn entry_in(alloc: Global, bytes: &[u8]) -> Result<Entry<'_>, Fault>
     ensures { Gives seen result (entry_of bytes.now) }
 {
     let (entry, rest) = entry_at(alloc, bytes)?;
@@ -81,7 +81,7 @@ fn entry_in(alloc: Global, bytes: &[u8]) -> Result<Entry, Fault>
     Ok(entry)
 }
 
-/// The entry in its payload.
+/// The entry in its payload. The nodes of a batch borrow the bytes.
 ///
 /// # Errors
 ///
@@ -91,7 +91,7 @@ fn entry_in(alloc: Global, bytes: &[u8]) -> Result<Entry, Fault>
 /// list that is cut, is empty or none, begins with an id that is not above its word's last one,
 /// or has more documents than one in more than 8,192 bytes; what stands behind the last field.
 /// `NoMemory` where there is none for the entry.
-pub fn decode(alloc: Global, bytes: &[u8]) -> Result<Entry, DecodeError>
+pub fn decode(alloc: Global, bytes: &[u8]) -> Result<Entry<'_>, DecodeError>
     // What is read is spelled so.
     ensures entry { IfOk result (λ entry. IsEntry (seen entry)
         × (bytes.now ≡ entry_payload (seen entry))) }

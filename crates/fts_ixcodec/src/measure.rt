@@ -42,10 +42,10 @@ fn nodes_size(start: usize, group: &WordNodes) -> Option<usize>
     ensures some { IfSome result (IsSum start (nodes_payload group.now)) }
     ensures none { IfNone result (2 ^ 32 ≤ start + length (nodes_payload group.now)) }
 {
-    let beside = 1 + group.word().as_bytes().len() + LIST;
+    let beside = 1 + group.word().len() + LIST;
     let mut size = start;
     for node in group.nodes() {
-        match add_size(size, beside + node.list().bytes().len()) {
+        match add_size(size, beside + node.bytes().len()) {
             Some(sum) => size = sum,
             None => return None,
         }
@@ -64,7 +64,7 @@ pub fn sealed_size(nodes: &[WordNodes]) -> Option<usize>
 {
     let mut size = SEALED;
     for group in nodes {
-        if group.word().as_bytes().len() > LONGEST {
+        if group.word().len() > LONGEST {
             return None;
         }
         match nodes_size(size, group) {

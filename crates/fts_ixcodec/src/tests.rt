@@ -1,7 +1,7 @@
 use crate::{
     DecodeError, Entry, decode, encode, encode_sealed_into, entry_size, sealed_size, worked_size,
 };
-use fts_ilist::{Ilist, Node, NodeList, Nodes, WordNodes};
+use fts_ilist::{Ilist, Node, NodeGroup, NodeList, Nodes, WordNodes};
 use fts_types::Word;
 use std::alloc::Global;
 use std::process::Abort;
@@ -32,7 +32,11 @@ const WORKED: [u8; 25] = [
 
 // The entry in the bytes, which is encoded as the same bytes; None where there is none, at a place
 // within them.
-fn entry_in(rt: &impl Abort, alloc: Global, bytes: &[u8]) -> Result<Option<Entry>, Fail> {
+fn entry_in<'a>(
+    rt: &impl Abort,
+    alloc: Global,
+    bytes: &'a [u8],
+) -> Result<Option<Entry<'a>>, Fail> {
     match decode(alloc, bytes) {
         Ok(entry) => {
             assert_eq!(rt; entry_size(&entry), Some(bytes.len()));
@@ -87,7 +91,7 @@ fn decodes_a_batch(rt: HostRuntime) -> Result<(), Fail> {
     assert_eq!(rt; (through, synced), (1, 1));
     assert_eq!(rt; nodes.len(), 1);
     for group in &nodes {
-        assert_eq!(rt; group.word().as_bytes(), b"apple".as_slice());
+        assert_eq!(rt; group.word(), b"apple".as_slice());
         assert_eq!(rt; group.nodes().len(), 1);
         for node in group.nodes() {
             is_node(&rt, node, (1, 1), 1);
@@ -112,9 +116,9 @@ fn decodes_a_word_with_two_nodes(rt: HostRuntime) -> Result<(), Fail> {
     assert_eq!(rt; (through, synced), (258, 7));
     match nodes.as_slice() {
         [apple, its] => {
-            assert_eq!(rt; apple.word().as_bytes(), b"apple".as_slice());
+            assert_eq!(rt; apple.word(), b"apple".as_slice());
             assert_eq!(rt; apple.nodes().len(), 2);
-            assert_eq!(rt; its.word().as_bytes(), b"it's".as_slice());
+            assert_eq!(rt; its.word(), b"it's".as_slice());
             assert_eq!(rt; its.nodes().len(), 1);
         }
         _ => assert!(rt; false, "two words"),
@@ -310,10 +314,11 @@ fn a_node_of_several_documents_has_at_most_8192_bytes(rt: HostRuntime) -> Result
 }
 
 // A batch of one word, in the document 1 at the place 0.
-fn one_word(alloc: Global, word: &[u8]) -> Result<Nodes, Fail> {
+fn one_word(alloc: Global, word: &[u8]) -> Result<Nodes<'static>, Fail> {
     let mut list = Ilist::new(alloc);
     list.push(1, &[0])?;
     let nodes = vec![in alloc; Node::new(list)]?;
+    let nodes = NodeGroup::of(nodes);
     Ok(vec![in alloc; WordNodes::new(Word::copied(alloc, word)?, nodes)]?)
 }
 

@@ -37,7 +37,7 @@ fn put_node(buf: &mut [u8], word: &[u8], node: &Node) -> usize
     ensures { Puts (node_payload word.now node.now) buf.old buf.new result }
 {
     let at = put_word(buf, word);
-    at + put_list(&mut buf[at..], node.list().bytes())
+    at + put_list(&mut buf[at..], node.bytes())
 }
 
 /// The nodes of a word.
@@ -47,7 +47,7 @@ fn put_nodes(buf: &mut [u8], group: &WordNodes) -> usize
     requires room { length (nodes_payload group.now) ≤ length buf.old }
     ensures { Puts (nodes_payload group.now) buf.old buf.new result }
 {
-    let word = group.word().as_bytes();
+    let word = group.word();
     let mut at = 0;
     for node in group.nodes() {
         at += put_node(&mut buf[at..], word, node);

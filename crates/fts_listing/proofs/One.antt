@@ -42,6 +42,13 @@ module _ (settings : Settings) (turns : List Turn) (s : IndexState) where
   listed_one kind.Deleted (listing.Words a) b h k = absurd h
   listed_one kind.Deleted (listing.Config a) b h k = absurd h
   listed_one kind.Deleted listing.Stopwords b h k = absurd h
+  listed_one kind.BeingDeleted (listing.Ids a) (listing.Ids b) h k = ap listing.Ids (h ∙ sym k)
+  listed_one kind.BeingDeleted (listing.Ids a) (listing.Words b) h k = absurd k
+  listed_one kind.BeingDeleted (listing.Ids a) (listing.Config b) h k = absurd k
+  listed_one kind.BeingDeleted (listing.Ids a) listing.Stopwords h k = absurd k
+  listed_one kind.BeingDeleted (listing.Words a) b h k = absurd h
+  listed_one kind.BeingDeleted (listing.Config a) b h k = absurd h
+  listed_one kind.BeingDeleted listing.Stopwords b h k = absurd h
   listed_one kind.Config (listing.Config a) (listing.Config b) h k = ap listing.Config (h ∙ sym k)
   listed_one kind.Config (listing.Config a) (listing.Words b) h k = absurd k
   listed_one kind.Config (listing.Config a) (listing.Ids b) h k = absurd k

@@ -42,11 +42,12 @@ pub record AreDeleted (turns : List Turn) (s : IndexState) (ids : List ℕ) : Ty
   pub each : (id : ℕ) → has ids id ≡ is_deleted turns s id
 
 -- what a view lists: of tables or cache each word once, in byte order, with its documents; the dead that the index has
--- still; the numbers of an index; or the default stopwords
+-- still; the ids of the open pass; the numbers of an index; or the default stopwords
 abbrev pub IsListed : Settings → List Turn → IndexState → ListingKind → Listing → Type 0
 IsListed settings turns s kind.IndexTable (listing.Words words) = IsListing s.nodes [] words
 IsListed settings turns s kind.IndexCache (listing.Words words) = IsListing (cached_group settings turns s) [] words
 IsListed settings turns s kind.Deleted (listing.Ids ids) = AreDeleted turns s ids
+IsListed settings turns s kind.BeingDeleted (listing.Ids ids) = ids ≡ s.being_deleted
 IsListed settings turns s kind.Config (listing.Config config) = config ≡ config_of settings s
 IsListed settings turns s kind.DefaultStopword listing.Stopwords = Unit {0}
 IsListed settings turns s view other = ⊥

@@ -9,6 +9,8 @@ pub enum ListingKind {
     IndexCache,
     /// The ids of the documents that died and that the index has still (`INNODB_FT_DELETED`).
     Deleted,
+    /// The ids that the open pass takes out of the tables (`INNODB_FT_BEING_DELETED`).
+    BeingDeleted,
     /// Settings, and how far the index is flushed (`INNODB_FT_CONFIG`).
     Config,
     /// The default stopwords (`INNODB_FT_DEFAULT_STOPWORD`).

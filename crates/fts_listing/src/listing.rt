@@ -5,7 +5,7 @@ use std::marker::Model;
 /// Words in byte order, each with its documents, in groups.
 #[derive(Drop)]
 pub struct ListedWords {
-    words: Nodes,
+    words: Nodes<'static>,
 }
 
 impl Model for ListedWords {
@@ -21,14 +21,14 @@ impl ListedWords {
     ghost use Rattle.std.specs.Prelude.{◌≡◌};
 
     /// These words.
-    pub fn new(words: Nodes) -> Self
-        ensures { result ≡ words.items }
+    pub fn new(words: Nodes<'static>) -> Self
+        ensures { result ≡ words.entry.items }
     {
         ListedWords { words }
     }
 
     /// The words with their groups.
-    pub fn as_slice(&self) -> &[WordNodes]
+    pub fn as_slice(&self) -> &[WordNodes<'static>]
         ensures { result.now ≡ self.now }
     {
         &self.words

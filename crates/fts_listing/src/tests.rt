@@ -1,5 +1,5 @@
 use crate::{Config, ListedWords, Listing, NumberedListing};
-use fts_ilist::{Ilist, Node, Nodes, WordNodes};
+use fts_ilist::{Ilist, Node, NodeGroup, Nodes, WordNodes};
 use fts_types::{DocIds, Word};
 use std::alloc::{AllocError, Global};
 use std::test::Fail;
@@ -8,8 +8,8 @@ use std::test::Fail;
 fn words(alloc: Global) -> Result<ListedWords, AllocError> {
     let mut list = Ilist::new(alloc);
     list.push(7, &[0, 4])?;
-    let mut nodes = Vec::new(alloc);
-    nodes.push(Node::new(list))?;
+    let mut nodes = NodeGroup::new(alloc);
+    nodes.push(alloc, Node::new(list))?;
     let mut words: Nodes = Vec::new(alloc);
     words.push(WordNodes::new(Word::copied(alloc, b"pie")?, nodes))?;
     Ok(ListedWords::new(words))

@@ -1,3 +1,4 @@
 pub mod Ascending
+pub mod Marks
 pub mod Merging
 pub mod Passing

@@ -1,9 +1,10 @@
 -- Sets of ids, as ascending lists.
-use Rattle.std.specs.Prelude.{ℕ, not, List, [], ◌∷◌, fold}
+use Rattle.std.specs.Prelude.{◌≡◌, ℕ, ◌<◌, Bool, not, List, [], ◌∷◌, fold, length}
 use Rattle.std.specs.Ordering.{nat_cmp}
 use Rattle.std.specs.BTreeSet.{insert_key}
 use Rattle.std.specs.List.{filter}
 use Rattle.fts_ids.specs.Ids.{has}
+use Rattle.fts_ids.specs.Marks.{is_marked}
 
 -- the ids of a set in ascending order, each once, and how many more it was given room for
 pub record Held : Type 0 where
@@ -26,3 +27,7 @@ without taken ids = filter (λ id. not (has taken id)) ids
 abbrev pub ascending : List ℕ → List ℕ
 ascending [] = []
 ascending (x ∷ xs) = with_id (ascending xs) x
+
+-- each number that has a mark is marked exactly where it is among the ids
+abbrev pub AreMarked : List Bool → List ℕ → Type 0
+AreMarked marks ids = (id : ℕ) → id < length marks → is_marked marks id ≡ has ids id

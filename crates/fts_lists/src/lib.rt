@@ -6,11 +6,13 @@
 //!
 //! `lists.reserve(DeleteList::Deleted, 3)?` makes room for three ids, and
 //! `lists.add_all(DeleteList::Deleted, &ids)` puts them in without memory, in one merge from the
-//! back. To look for an id costs constant time in `DELETED_CACHE`, and a logarithm in the others.
+//! back. To look for an id costs constant time in `DELETED_CACHE` and, where the ids are dense and
+//! marked, in `DELETED`, and a logarithm else.
 #![tactic(auto)]
 
 mod ids;
 mod lists;
+mod marked;
 mod merge;
 mod sorted;
 

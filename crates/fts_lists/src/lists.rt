@@ -7,6 +7,7 @@ ghost use Rattle.fts_ids.specs.Ids.{has, Ascend};
 ghost use Rattle.fts_lists.specs.State.{held, ids_of, room_of, ChangesOnly, opened, closed};
 
 use crate::ids::IdSet;
+use crate::marked::MarkedIds;
 use crate::sorted::SortedIds;
 use fts_types::{DocId, Word};
 use std::alloc::{AllocError, Global};
@@ -27,7 +28,7 @@ pub enum DeleteList {
 /// come.
 #[derive(Drop)]
 pub struct Lists {
-    deleted: SortedIds,
+    deleted: MarkedIds,
     being_deleted: SortedIds,
     deleted_cache: IdSet,
     flushed: u64,
@@ -65,7 +66,7 @@ impl Lists {
         ensures checkpoint { result.checkpoint ≡ None }
     {
         Lists {
-            deleted: SortedIds::new(alloc),
+            deleted: MarkedIds::new(alloc),
             being_deleted: SortedIds::new(alloc),
             deleted_cache: IdSet::new(alloc),
             flushed: 0,
@@ -80,7 +81,7 @@ impl Lists {
         ensures { result ≡ length (ids_of list self.now) }
     {
         match list {
-            DeleteList::Deleted => self.deleted.len(),
+            DeleteList::Deleted => self.deleted.ids().len(),
             DeleteList::BeingDeleted => self.being_deleted.len(),
             DeleteList::DeletedCache => self.deleted_cache.len(),
         }
@@ -93,9 +94,9 @@ impl Lists {
         self.len(list) == 0
     }
 
-    /// Whether an id is in a list: in constant time for DELETED_CACHE, and else in time that is
-    /// logarithmic in the number of its ids. For ids that ascend, an `IdWalk` over the list is
-    /// faster.
+    /// Whether an id is in a list: in constant time for DELETED_CACHE and for an id of DELETED that
+    /// has a mark, and else in time that is logarithmic in the number of its ids. For ids that
+    /// ascend, an `IdWalk` over the list is faster.
     pub fn contains(&self, list: DeleteList, id: DocId) -> bool
         ensures { result ≡ has (ids_of list self.now) id }
     {
@@ -111,7 +112,26 @@ impl Lists {
         ensures value { result.now ≡ ids_of DeleteList.Deleted self.now }
         ensures ascending { Ascend result.now }
     {
-        self.deleted.as_slice()
+        self.deleted.ids().as_slice()
+    }
+
+    /// These ids without those of DELETED. An id below the bound of the marks takes one look, the
+    /// others a walk. The only refusal is for want of memory.
+    pub fn without_deleted(&self, alloc: Global, ids: &[DocId]) -> Result<Vec<DocId>, AllocError>
+        requires { Ascend ids.now }
+        ensures { IfOk result (λ left. left.items
+            ≡ without (ids_of DeleteList.Deleted self.now) ids.now) }
+    {
+        self.deleted.without(alloc, ids)
+    }
+
+    /// Marks the ids of DELETED, where they are dense enough with so many more that will come, so
+    /// that a test of an id is one look. It costs the numbers up to the largest id that have no
+    /// mark yet. Where memory is wanting, some of them have none.
+    pub fn mark_deleted(&mut self, more: usize) -> Result<(), AllocError>
+        ensures { self.new ≡ self.old }
+    {
+        self.deleted.mark(more)
     }
 
     /// The ids of BEING_DELETED, ascending, each once.
@@ -128,7 +148,7 @@ impl Lists {
         ensures { IfOk result (λ ids. ids.items ≡ ids_of list self.now) }
     {
         match list {
-            DeleteList::Deleted => self.deleted.as_slice().to_vec(alloc),
+            DeleteList::Deleted => self.deleted.ids().as_slice().to_vec(alloc),
             DeleteList::BeingDeleted => self.being_deleted.as_slice().to_vec(alloc),
             DeleteList::DeletedCache => self.deleted_cache.to_vec(alloc),
         }
@@ -234,7 +254,7 @@ impl Lists {
             ≤ room_of DeleteList.BeingDeleted self.old }
         ensures { self.new ≡ opened self.old }
     {
-        self.being_deleted.copy(&self.deleted);
+        self.being_deleted.copy(self.deleted.ids());
         self.is_open = true;
         self.checkpoint = None;
     }

@@ -61,6 +61,9 @@ fn is_as_plain(
     for n in 0..300_u64 {
         let id = n.wrapping_mul(step) % 257;
         make_room(rt, lists, list, &plain)?;
+        if n % 50 == 0 {
+            lists.mark_deleted(1)?;
+        }
         lists.add(list, id);
         plain.insert(id)?;
     }
@@ -169,6 +172,24 @@ fn a_pass_takes_out_its_own_ids(rt: HostRuntime) -> Result<(), Fail> {
 }
 
 // A walk agrees with a look-up of each id, in steps of any length.
+// Ids below the bound of the marks, and behind it.
+#[test]
+fn what_is_not_deleted_is_left(rt: HostRuntime) -> Result<(), Fail> {
+    let alloc = rt.alloc();
+    let mut lists = Lists::new(alloc);
+    let mut plain = BTreeSet::new(alloc);
+    let ids = [1, 2, 3, 4, 9, 10, 20, 21];
+    put(&rt, &mut lists, DeleteList::Deleted, &mut plain, &[2, 4, 9])?;
+    lists.mark_deleted(1)?;
+    put(&rt, &mut lists, DeleteList::Deleted, &mut plain, &[3, 20])?;
+    let left = lists.without_deleted(alloc, &ids)?;
+    assert_eq!(rt; left.as_slice(), [1, 10, 21].as_slice());
+    lists.purge(DeleteList::Deleted, &[4, 20]);
+    let left = lists.without_deleted(alloc, &ids)?;
+    assert_eq!(rt; left.as_slice(), [1, 4, 10, 20, 21].as_slice());
+    Ok(())
+}
+
 #[test]
 fn a_walk_finds_what_is_there(rt: HostRuntime) -> Result<(), Fail> {
     let mut lists = Lists::new(rt.alloc());

@@ -1,6 +1,7 @@
 //! The rework of a word.
 ghost use Rattle.std.specs.Prelude.{◌≡◌, ◌≢◌, ◌<◌, ◌≤◌, ◌++◌, ◌∷◌, [], ℕ, not, IfOk, OnOk, filter};
-ghost use Rattle.std.specs.List.{All};
+ghost use Rattle.std.specs.List.{All, AllByRecursion};
+ghost use Rattle.fts_entries.specs.Pass.{IsPackedNode};
 ghost use Rattle.fts_ids.specs.Ids.{has, Ascend};
 ghost use Rattle.fts_ilist.specs.Changes.{postings_without};
 ghost use Rattle.fts_ilist.specs.Spelling.{PostingsAfter, last_id};
@@ -45,8 +46,8 @@ fn put_node(packing: &mut Packing, documents: Cursor<'_>, being: &[DocId]) -> Re
 }
 
 /// Puts a node behind the others.
-fn put_last(nodes: &mut NodeList, node: &Node) -> Result<(), AllocError>
-    ensures { OnOk result (nodes.new.nodes ≡ nodes.old.nodes ++ node.now ∷ []) }
+fn put_last(nodes: &mut NodeList, node: Node<'_>) -> Result<(), AllocError>
+    ensures { OnOk result (nodes.new.nodes ≡ nodes.old.nodes ++ node.entry ∷ []) }
 {
     let node = node.as_ref();
     nodes.reserve(1, node.bytes().len())?;
@@ -61,7 +62,7 @@ fn list_of(alloc: Global, lists: Vec<Ilist>) -> Result<NodeList, AllocError>
 {
     let mut nodes = NodeList::new(alloc);
     for list in lists {
-        put_last(&mut nodes, &Node::new(list))?;
+        put_last(&mut nodes, Node::new(list))?;
     }
     Ok(nodes)
 }
@@ -74,6 +75,7 @@ pub fn rework(alloc: Global, nodes: NodeSlice<'_>, being: &[DocId]) -> Result<No
     ensures packed { IfOk result (λ list. list.nodes
         ≡ packed (postings_without being.now (joined nodes.entry))) }
     ensures ascending { IfOk result (λ list. NodesAfter 0 list.nodes) }
+    ensures nodes { IfOk result (λ list. AllByRecursion IsPackedNode list.nodes) }
 {
     let mut packing = Packing::new(alloc);
     for node in nodes {

@@ -106,12 +106,6 @@ pub leads-one_taken : (rows : Rows) (old : Turn) (key : ℕ) (row : Row) → Row
 leads-one_taken rows old key row ids one =
     ap (λ (l : List Row). let r : Rows = record { list = l; largest = old.largest } in r) (one_taken key rows.list rows.largest old.deaths old.births row ids one)
 
--- a turn with one more row
-pub leads-push : (rows : Rows) (old : Turn) (row : Row)
-    → rows_by rows (record { births = old.births ++ row ∷ []; deaths = old.deaths; largest = row.doc }) ≡ record { list = (rows_by rows old).list ++ row ∷ []; largest = row.doc }
-leads-push rows old row =
-    ap (λ (l : List Row). let r : Rows = record { list = l; largest = row.doc } in r) (sym (append_assoc (rows_but old.deaths rows.list) old.births (row ∷ [])))
-
 pub fits-push : (rows : Rows) (old : Turn) (row : Row) (count : ℕ) → with_key row.key (rows_by rows old).list ≡ [] → old.largest < row.doc → Fits rows old count
     → Fits rows (record { births = old.births ++ row ∷ []; deaths = old.deaths; largest = row.doc }) (count + 1)
 fits-push rows old row count none above fits =
@@ -122,7 +116,3 @@ fits-push rows old row count none above fits =
       alive = fits.alive;
       few = few;
     }
-
--- and a count that is larger
-pub fits-more : (rows : Rows) (turn : Turn) (count : ℕ) → Fits rows turn count → Fits rows turn (count + 1)
-fits-more rows turn count fits = record { keys = fits.keys; ids = fits.ids; alive = fits.alive; few = (let few = fits.few in omega (arith, few)) }

@@ -8,13 +8,6 @@ use Rattle.fts_commits.specs.Commit.{set_bytes, updated}
 abbrev News : Type 0
 News = List (Option (List ℕ))
 
--- the bytes that the columns from one on set
-pub set_kept : (news : News) (place : ℕ) → place < length news → get_or news place None ≡ None → set_bytes (drop place news) ≡ set_bytes (drop (place + 1) news)
-set_kept news place less none = ap set_bytes (drop_more news place None less ∙ ap (λ (new : Option (List ℕ)). new ∷ drop (place + 1) news) none)
-
-pub set_some : (news : News) (place : ℕ) (text : List ℕ) → place < length news → get_or news place None ≡ Some text → set_bytes (drop place news) ≡ length text + set_bytes (drop (place + 1) news)
-set_some news place text less some = ap set_bytes (drop_more news place None less ∙ ap (λ (new : Option (List ℕ)). new ∷ drop (place + 1) news) some)
-
 -- the texts from a column on
 pub kept_one : (news : News) (texts : List (List ℕ)) (place : ℕ) → place < length news → place < length texts → get_or news place None ≡ None
     → updated (drop place news) (drop place texts) ≡ get_or texts place [] ∷ updated (drop (place + 1) news) (drop (place + 1) texts)

@@ -67,10 +67,6 @@ none_new t front (row ∷ rows) =
         ∙ rest
     by false rest = rest
 
--- all of them are
-pub none_own : (rows : List Row) → rows_not_in rows rows ≡ []
-none_own rows = ap (rows_not_in rows) (sym (but_none rows)) ∙ none_new (λ row. not (is_among row.doc [])) [] rows
-
 -- ---- ids as sets
 
 has_among : (ids : List ℕ) (q : ℕ) → has ids q ≡ is_among q ids

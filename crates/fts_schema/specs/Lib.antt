@@ -1,3 +1,4 @@
 pub mod Listing
 pub mod Rows
 pub mod Reply
+pub mod Summary

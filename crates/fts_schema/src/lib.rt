@@ -5,12 +5,16 @@
 //!
 //! [`listing_text`] is that of what a view lists, row by row.
 //!
+//! [`summary_text`] is the line that tells what a script from a number comes to.
+//!
 //! A text costs its bytes.
 #![tactic(auto)]
 
 mod listing;
 mod reply;
 mod rows;
+mod summary;
 
 pub use listing::listing_text;
 pub use reply::{Reply, created_text, fixed_text, reply_text};
+pub use summary::{Summary, Sums, is_error, summary_text};

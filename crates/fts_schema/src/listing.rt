@@ -69,25 +69,25 @@ fn put_word(rows: &mut Rows, alloc: Global, word: &WordNodes) -> Result<(), Allo
     Ok(())
 }
 
-fn put_group(rows: &mut Rows, alloc: Global, word: &Word, group: &Node) -> Result<(), AllocError>
+fn put_group(rows: &mut Rows, alloc: Global, word: &[u8], group: &Node) -> Result<(), AllocError>
     ensures { OnOk result (Puts rows.old rows.new (group_rows word.now group.now)) }
 {
     let front = group_front(alloc, word, group)?;
-    for document in group.list().docs() {
+    for document in group.cursor() {
         put_document(rows, &front, &document)?;
     }
     Ok(())
 }
 
 // What the rows of a group begin with.
-fn group_front(alloc: Global, word: &Word, group: &Node) -> Result<Vec<u8>, AllocError>
+fn group_front(alloc: Global, word: &[u8], group: &Node) -> Result<Vec<u8>, AllocError>
     ensures { IfOk result (λ front. front.items ≡ the_group_front word.now group.now) }
 {
-    let mut front = Vec::from_slice(alloc, word.as_bytes())?;
+    let mut front = Vec::from_slice(alloc, word)?;
     front.push(b'|')?;
-    push_field(&mut front, group.list().first_id())?;
-    push_field(&mut front, group.list().last_id())?;
-    push_field(&mut front, group.list().count() as u64)?;
+    push_field(&mut front, group.first())?;
+    push_field(&mut front, group.last())?;
+    push_field(&mut front, group.count() as u64)?;
     Ok(front)
 }
 

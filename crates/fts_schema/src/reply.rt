@@ -1,6 +1,6 @@
 ghost use Rattle.std.specs.Prelude.{◌≡◌, ◌∷◌, ◌++◌, [], ℕ, List, true, false, codes, string_bytes};
 ghost use Rattle.std.specs.Prelude.{OnOk, IfOk, IfSome, IfNone};
-ghost use Rattle.fts_schema.specs.Reply.{text_of, is_fixed, ids_text};
+ghost use Rattle.fts_schema.specs.Reply.{text_of, is_fixed, ids_text, pass_text as the_pass_text};
 
 use crate::listing::listing_text;
 use fts_commits::Refusal;
@@ -13,14 +13,31 @@ use std::alloc::{AllocError, Global};
 pub enum Reply {
     /// The line's changes are commit `number`; commits count from 1.
     Committed { number: u64 },
+    /// A transaction is open, with no changes.
+    Begun,
+    /// The changes of the transaction that was open are commit `number`, and a new one is open.
+    CommittedAndBegun { number: u64 },
+    /// The line's change waits for COMMIT; the open transaction has `changes` of them now.
+    Buffered { changes: u64 },
+    /// COMMIT had no changes to make, with or without a transaction. None is open now.
+    NothingToCommit,
+    /// The `changes` of the transaction that was open are given up; 0 also where none was.
+    RolledBack { changes: u64 },
     /// As of commit `number`, 0 before the first, the search found the documents `docs`.
     Found { number: u64, docs: DocIds },
     /// The index is flushed through commit `through`.
     Synced { through: u64 },
+    /// OPTIMIZE had nothing to do.
+    NothingToOptimize,
+    /// OPTIMIZE worked on `words` words. Behind them its pass is `finished`, or open still.
+    Optimized { words: u64, finished: bool },
     /// As of commit `number`, 0 before the first, the view has what `listing` says.
     Listed { number: u64, listing: Listing },
     /// The rows refuse the line's commit, which changes nothing.
     Refused { refusal: Refusal },
+    /// With the line's change the open transaction would have `changes` of them, which is more than
+    /// a commit may have. It stays as it was.
+    TooManyChanges { changes: u64 },
     /// With the commit the log would end at byte `end`, from 0, which is above its limit. Nothing
     /// changed.
     LogFull { end: u64 },
@@ -62,13 +79,21 @@ pub fn fixed_text(reply: &Reply) -> Option<&'static str>
 {
     match reply {
         Reply::Nothing => Some(""),
+        Reply::Begun => Some("OK begin\n"),
+        Reply::NothingToCommit => Some("OK nothing to commit\n"),
+        Reply::NothingToOptimize => Some("OK optimize nothing\n"),
         Reply::WrongColumns => Some("ERROR columns and values do not fit\n"),
         Reply::LineTooLong => Some("ERROR line too long\n"),
         Reply::NoMemory => Some("ERROR no memory\n"),
         Reply::DiskFault => Some("ERROR disk fault\n"),
         Reply::Committed { .. } => None,
+        Reply::CommittedAndBegun { .. } => None,
+        Reply::Buffered { .. } => None,
+        Reply::RolledBack { .. } => None,
+        Reply::TooManyChanges { .. } => None,
         Reply::Found { .. } => None,
         Reply::Synced { .. } => None,
+        Reply::Optimized { .. } => None,
         Reply::Listed { .. } => None,
         Reply::Refused { .. } => None,
         Reply::LogFull { .. } => None,
@@ -108,10 +133,19 @@ fn written_text(alloc: Global, reply: &Reply) -> Result<Vec<u8>, AllocError>
             name.as_slice(),
         ),
         Reply::Committed { number } => bytes_of(format!(in alloc; "OK commit {number}\n")),
+        Reply::CommittedAndBegun { number } => bytes_of(format!(in alloc;
+            "OK commit {number} begin\n"
+        )),
+        Reply::Buffered { changes } => bytes_of(format!(in alloc; "OK buffered {changes}\n")),
+        Reply::RolledBack { changes } => bytes_of(format!(in alloc; "OK rollback {changes}\n")),
         Reply::Found { number, docs } => bytes_of(found_text(alloc, *number, docs.as_slice())),
         Reply::Synced { through } => bytes_of(format!(in alloc; "OK sync as of {through}\n")),
+        Reply::Optimized { words, finished } => bytes_of(optimized_text(alloc, *words, *finished)),
         Reply::Listed { number, listing } => listing_text(alloc, *number, listing),
         Reply::Refused { refusal } => bytes_of(format!(in alloc; "ERROR {refusal}\n")),
+        Reply::TooManyChanges { changes } => bytes_of(format!(in alloc;
+            "ERROR too many changes {changes}\n"
+        )),
         Reply::LogFull { end } => bytes_of(format!(in alloc; "ERROR log full at {end}\n")),
         Reply::Syntax { at } => bytes_of(format!(in alloc; "ERROR syntax at {at}\n")),
         Reply::QuerySyntax { at } => bytes_of(format!(in alloc; "ERROR query syntax at {at}\n")),
@@ -121,6 +155,9 @@ fn written_text(alloc: Global, reply: &Reply) -> Result<Vec<u8>, AllocError>
         Reply::QueryTooDeep { at } => bytes_of(format!(in alloc; "ERROR query too deep at {at}\n")),
         Reply::Stopped { faults } => bytes_of(stopped_text(alloc, *faults)),
         Reply::Nothing => unreachable!(),
+        Reply::Begun => unreachable!(),
+        Reply::NothingToCommit => unreachable!(),
+        Reply::NothingToOptimize => unreachable!(),
         Reply::WrongColumns => unreachable!(),
         Reply::LineTooLong => unreachable!(),
         Reply::NoMemory => unreachable!(),
@@ -134,8 +171,22 @@ fn stopped_text(alloc: Global, faults: u128) -> Result<String, AllocError>
     format!(in alloc; "ERROR stopped after {faults} disk faults\n")
 }
 
-// The bytes of a text, if there was memory for it.
-fn bytes_of(text: Result<String, AllocError>) -> Result<Vec<u8>, AllocError>
+fn optimized_text(alloc: Global, words: u64, finished: bool) -> Result<String, AllocError>
+    ensures { IfOk result (λ text. string_bytes text ≡ text_of (Reply.Optimized words finished)) }
+{
+    let pass = pass_text(finished);
+    format!(in alloc; "OK optimize {words} words, pass {pass}\n")
+}
+
+// What is said of a pass.
+fn pass_text(finished: bool) -> &'static str
+    ensures { result.now ≡ the_pass_text finished }
+{
+    if finished { "finished" } else { "open" }
+}
+
+/// The bytes of a text, if there was memory for it.
+pub(crate) fn bytes_of(text: Result<String, AllocError>) -> Result<Vec<u8>, AllocError>
     ensures { (bytes : List ℕ) → IfOk text (λ t. string_bytes t ≡ bytes)
         → IfOk result (λ b. b.items ≡ bytes) }
 {

@@ -18,15 +18,17 @@ use Rattle.fts_sessions.specs.Found.{IsFoundIn, TellsFound}
 use Rattle.fts_sessions.specs.Execute.{Makes}
 use Rattle.fts_eval.proofs.Answering.{ascend_from_increasing}
 use Rattle.fts_steps.specs.State.{State}
-use Rattle.fts_steps.specs.Running.{Running, What, made, batched, failed, loosened, Entry, with_what, grown}
+use Rattle.fts_steps.specs.Running.{Running, What, made, batched, optimized, failed, batch_failed, optimize_failed, Entry, with_what, grown}
 use Rattle.fts_steps.specs.Step.{Answer, viewed, found, no_memory, is_disk_fault, to_view, to_find, state_view, MayAnswer, Sight, Steps}
 
 -- what was added keeps the settings
 with_settings : (running : Running) (what : What) → (with_what running what).state.settings ≡ running.state.settings
 with_settings running (made commit) = refl
 with_settings running batched = refl
+with_settings running optimized = refl
 with_settings running (failed faults doubt) = refl
-with_settings running (loosened faults) = refl
+with_settings running (batch_failed faults) = refl
+with_settings running (optimize_failed faults) = refl
 
 grown_settings : (running : Running) (entries : List Entry) → (grown running entries).state.settings ≡ running.state.settings
 grown_settings running [] = refl

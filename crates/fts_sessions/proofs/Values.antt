@@ -16,11 +16,11 @@ use Rattle.fts_sql.specs.Statement.{values_in, strings_in, first_number, table_o
 use Rattle.fts_sql.specs.declared.form.Form.{Form}
 use Rattle.fts_sql.specs.declared.form.Form.TheVariants as form
 use Rattle.fts_sql.specs.declared.piece.Piece.{Piece}
-use Rattle.fts_sql.specs.declared.piece.Piece.TheVariants.{Keyword, Mark, Name, Number as NumberPiece, String, Value as ValuePiece}
+use Rattle.fts_sql.specs.declared.piece.Piece.TheVariants.{Keyword, Mark, Name, Number as NumberPiece, String, Value as ValuePiece, Session}
 use Rattle.fts_sql.specs.declared.statement.Statement.{Statement}
 use Rattle.fts_sql.specs.declared.value.Value.{Value}
 use Rattle.fts_sql.specs.declared.value.Value.TheVariants.{Number, Text}
-use Rattle.fts_sql.specs.declared.statement.Statement.TheVariants.{Insert, Update, Delete, Match, Sync, List as ListView}
+use Rattle.fts_sql.specs.declared.statement.Statement.TheVariants.{Begin, Commit, Rollback, Insert, Update, Delete, Match, Sync, Optimize, List as ListView}
 use Rattle.fts_sessions.specs.Table.{is_text, texts_in, insert_of, plain_insert, numbered_insert, named_insert, are_set_once, text_for, update_of, change_of, are_names}
 use Rattle.fts_sessions.specs.Texts.{IsFit, AreFit, IsFitStatement}
 
@@ -57,6 +57,7 @@ taken_printable : (piece : Piece) (one : Token) (taken : List Token) → IsPrint
 taken_printable (Keyword word) one taken is are = are
 taken_printable (Mark b) one taken is are = are
 taken_printable Name one taken is are = printable_more taken one are is
+taken_printable Session one taken is are = are
 taken_printable NumberPiece one taken is are = printable_more taken one are is
 taken_printable String one taken is are = printable_more taken one are is
 taken_printable ValuePiece one taken is are = printable_more taken one are is
@@ -78,9 +79,9 @@ often_keep (suc n) pieces R all keeps = are_keep pieces (Often n pieces R) all (
 says_keep : (parts : List Part) (all : List Token) → Keeps (Says parts all) all
 says_keep [] all = λ tokens taken printable before (none, same). subst ArePrintable same before
 says_keep (Once piece ∷ parts) all = are_keep (piece ∷ []) (Says parts all) all (says_keep parts all)
-says_keep (Optional piece ∷ parts) all = λ tokens taken printable before says.
+says_keep (Optional pieces ∷ parts) all = λ tokens taken printable before says.
     elim says [
-      | inl one ↦ are_keep (piece ∷ []) (Says parts all) all (says_keep parts all) tokens taken printable before one
+      | inl one ↦ are_keep pieces (Says parts all) all (says_keep parts all) tokens taken printable before one
       | inr other ↦ says_keep parts all tokens taken printable before other
     ]
 says_keep (Repeated pieces ∷ parts) all = λ tokens taken printable before (n, says).
@@ -108,11 +109,16 @@ number_fits (string text ∷ taken) are = number_fits taken are.1
 number_fits (mark b ∷ taken) are = number_fits taken are.1
 
 written_fit : (one : Form) (taken : List Token) → ArePrintable taken → IsFitStatement (statement_of one taken)
+written_fit form.Begin taken are = tt
+written_fit form.Start taken are = tt
+written_fit form.Commit taken are = tt
+written_fit form.Rollback taken are = tt
 written_fit form.Insert taken are = taken_fit taken are
 written_fit form.Update taken are = (strings_fit taken are, number_fits taken are)
 written_fit form.Delete taken are = number_fits taken are
 written_fit form.Match taken are = tt
 written_fit form.Sync taken are = tt
+written_fit form.Optimize taken are = tt
 written_fit form.List taken are = tt
 
 -- the numbers of a line's statement have eight bytes, and its texts the bytes of texts
@@ -214,6 +220,10 @@ module _ (columns : List (List ℕ)) (some : 1 ≤ length columns) (few : length
   change_can (Delete table key) made fit found =
       let same : made ≡ change.Delete key = (let e = found in cc) in
       subst (λ (c : Change). CanCommit (length columns) (c ∷ [])) (sym same) (one_can (length columns) some few (change.Delete key) tt fit)
+  change_can Begin made fit found = absurd cc
+  change_can Commit made fit found = absurd cc
+  change_can Rollback made fit found = absurd cc
   change_can (Match table names query) made fit found = absurd cc
   change_can Sync made fit found = absurd cc
+  change_can (Optimize table) made fit found = absurd cc
   change_can (ListView schema view) made fit found = absurd cc

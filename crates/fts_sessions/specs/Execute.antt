@@ -8,14 +8,17 @@ use Rattle.fts_steps.specs.Running.{Running, IsSure}
 use Rattle.fts_steps.specs.Crash.{IsBetween, IsIndexBetween}
 use Rattle.fts_steps.specs.Step.{Ask, Answer, Call, Sight, Leaves, Steps, Follows, AreAlone, after_all}
 use Rattle.fts_sessions.specs.Query.{Search, IsSearch}
-use Rattle.fts_sessions.specs.Request.{Request, IsRequest, searches}
-use Rattle.fts_sessions.specs.Conversation.{Next, asks, ends, Converses, begins, reply_to}
+use Rattle.fts_sessions.specs.Request.{Request, IsRequest}
+use Rattle.fts_sessions.specs.Transaction.{Transaction}
+use Rattle.fts_sessions.specs.Conversation.{Next, asks, ends, Converses, reply_to, match_begins, search_begins, behind}
 
--- the line's steps and its reply are those of the request that it is; or memory ran out before the first step
-abbrev pub Says : Settings → Line → List Call → Reply → Type 0
-Says settings line calls reply =
-    ((request : Request) × IsRequest line request × Converses settings request [] calls reply)
-    ⊎ ((calls ≡ []) × (reply ≡ NoMemory))
+-- the line's steps, its reply and the transaction that it leaves are those of the request that it is; or memory ran out
+-- before the first step, and the transaction is as it was
+abbrev pub Says : Settings → Line → Transaction → List Call → Reply → Transaction → Type 0
+Says settings line transaction calls reply left =
+    ((request : Request) × IsRequest line request × Converses settings transaction request [] calls reply
+    × (left ≡ behind settings transaction request reply))
+    ⊎ ((calls ≡ []) × (reply ≡ NoMemory) × (left ≡ transaction))
 
 -- steps are made, and then a reply is given, of which `Told` says what they are. On each engine for which the steps
 -- stood they answered as they may, and stand then for what these made of it; where there are no others, and nothing is
@@ -36,14 +39,16 @@ pub record Proceeds {S : Type 0} (sight : Sight S) (Told : List Call → Reply �
   pub limits : sight.limits new ≡ sight.limits old
   pub faults : CountsFault (reply ≡ DiskFault) (sight.faults old) (sight.faults new)
 
--- a line is executed: its steps are made, and its reply is given
-abbrev pub Executes : {S : Type 0} → Sight S → Line → S → Reply → S → Type 0
-Executes sight line old reply new = Proceeds sight (Says (sight.settings old) line) old reply new
+-- a line is executed in a session in which this transaction is open: its steps are made, its reply is given, and that
+-- transaction is left
+abbrev pub Executes : {S : Type 0} → Sight S → Line → Transaction → S → Reply → Transaction → S → Type 0
+Executes sight line transaction old reply left new =
+    Proceeds sight (λ calls told. Says (sight.settings old) line transaction calls told left) old reply new
 
 -- a request goes on behind these answers: the steps that are left are made, and its reply is given
-abbrev pub GoesOn : {S : Type 0} → Sight S → Settings → Request → List Answer → S → Reply → S → Type 0
-GoesOn sight settings request answers old reply new =
-    Proceeds sight (Converses settings request answers) old reply new
+abbrev pub GoesOn : {S : Type 0} → Sight S → Settings → Transaction → Request → List Answer → S → Reply → S → Type 0
+GoesOn sight settings transaction request answers old reply new =
+    Proceeds sight (Converses settings transaction request answers) old reply new
 
 -- one step is made: its answer, and the reply that tells it
 pub record Makes {S : Type 0} (sight : Sight S) (ask : Ask) (old : S) (reply : Reply) (new : S) : Type 0 where
@@ -60,5 +65,5 @@ Does sight (ends told) old reply new = ((reply ≡ told) ⊎ (reply ≡ NoMemory
 abbrev pub Searches : {S : Type 0} → Sight S → List ℕ → List (List ℕ) → List ℕ → S → Reply → S → Type 0
 Searches sight table names query old reply new =
     ((search : Search) × IsSearch query search
-    × Does sight (begins (sight.settings old) (searches table names search)) old reply new)
+    × Does sight (match_begins (sight.settings old) table names (search_begins search)) old reply new)
     ⊎ ((reply ≡ NoMemory) × (new ≡ old))

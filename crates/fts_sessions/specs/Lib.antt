@@ -1,9 +1,12 @@
 pub mod Table
 pub mod Query
+pub mod Transaction
+pub mod Seen
 pub mod View
 pub mod Request
 pub mod Texts
 pub mod Conversation
+pub mod Laws
 pub mod Read
 pub mod Found
 pub mod Execute

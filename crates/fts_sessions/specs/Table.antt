@@ -6,8 +6,8 @@ use Rattle.std.specs.Str.{str_eq_ignore_ascii_case}
 use Rattle.fts_commits.specs.declared.change.Change.{Change}
 use Rattle.fts_commits.specs.declared.change.Change.TheVariants as change
 use Rattle.fts_sql.specs.declared.statement.Statement.{Statement}
-use Rattle.fts_sql.specs.declared.statement.Statement.TheVariants.{Insert, Update, Delete, Match, Sync}
-use Rattle.fts_sql.specs.declared.statement.Statement.TheVariants.{List as ListView}
+use Rattle.fts_sql.specs.declared.statement.Statement.TheVariants.{Insert, Update, Delete, Match, Sync, Optimize}
+use Rattle.fts_sql.specs.declared.statement.Statement.TheVariants.{List as ListView, Begin, Commit, Rollback}
 use Rattle.fts_sql.specs.declared.value.Value.{Value}
 use Rattle.fts_sql.specs.declared.value.Value.TheVariants.{Number, Text}
 
@@ -96,8 +96,12 @@ abbrev pub IsChange : Statement → Type 0
 IsChange (Insert table names values) = Unit {0}
 IsChange (Update table names texts key) = Unit {0}
 IsChange (Delete table key) = Unit {0}
+IsChange Begin = ⊥
+IsChange Commit = ⊥
+IsChange Rollback = ⊥
 IsChange (Match table names query) = ⊥
 IsChange Sync = ⊥
+IsChange (Optimize table) = ⊥
 IsChange (ListView schema view) = ⊥
 
 -- the table and the columns that it names, and the change of rows that it asks for, if it fits the table

@@ -10,9 +10,10 @@ view_called name =
     if str_eq_ignore_ascii_case name (codes "innodb_ft_index_table") then Some kind.IndexTable
     else (if str_eq_ignore_ascii_case name (codes "innodb_ft_index_cache") then Some kind.IndexCache
     else (if str_eq_ignore_ascii_case name (codes "innodb_ft_deleted") then Some kind.Deleted
+    else (if str_eq_ignore_ascii_case name (codes "innodb_ft_being_deleted") then Some kind.BeingDeleted
     else (if str_eq_ignore_ascii_case name (codes "innodb_ft_config") then Some kind.Config
     else (if str_eq_ignore_ascii_case name (codes "innodb_ft_default_stopword") then Some kind.DefaultStopword
-    else None))))
+    else None)))))
 
 -- the view of this name of a schema
 abbrev pub view_of_schema : List ℕ → List ℕ → Option ListingKind

@@ -4,7 +4,7 @@ use fts_disk::Disk;
 use fts_engine::Engine;
 use fts_listing::{ListingKind, NumberedListing};
 use fts_query::{Leaf, View};
-use fts_steps::{CommitError, SyncBatch, SyncError};
+use fts_steps::{CommitError, IndexError, OptimizeStep, SyncBatch};
 use fts_types::Settings;
 use std::alloc::AllocError;
 
@@ -27,8 +27,12 @@ impl<D: Disk, E: Disk> EngineSteps for Direct<D, E> {
         self.engine.view(leaves)
     }
 
-    fn sync_batch(&mut self) -> Result<SyncBatch, SyncError> {
+    fn sync_batch(&mut self) -> Result<SyncBatch, IndexError> {
         self.engine.sync_batch()
+    }
+
+    fn optimize_step(&mut self) -> Result<OptimizeStep, IndexError> {
+        self.engine.optimize_step()
     }
 
     fn listing(&mut self, kind: ListingKind) -> Result<NumberedListing, AllocError> {
@@ -41,6 +45,10 @@ impl<D: Disk, E: Disk> EngineSteps for Direct<D, E> {
 
     fn cache_bytes(&self) -> u64 {
         u64::from(self.engine.settings().cache_bytes)
+    }
+
+    fn optimize_words(&self) -> u16 {
+        self.engine.settings().optimize_words
     }
 
     fn settings(&self) -> &Settings {

@@ -1,37 +1,42 @@
 //! The statements of the index: SYNC, and listings.
-ghost use Rattle.std.specs.Prelude.{◌≡◌, ◌∷◌, ◌++◌, [], List, Err, codes, IfOk};
+ghost use Rattle.std.specs.Prelude.{◌≡◌, ◌∷◌, ◌++◌, [], List, codes, IfOk};
 ghost use Rattle.fts_types.specs.declared.settings.Settings.{Settings};
 ghost use Rattle.fts_steps.specs.Step.{to_list, flushed};
-ghost use Rattle.fts_steps.specs.Answers.{sync_answer_of};
-ghost use Rattle.fts_sessions.specs.Conversation.{begins, reply_to};
+ghost use Rattle.fts_steps.specs.Answers.{error_answer_of};
+ghost use Rattle.fts_sessions.specs.Conversation.{list_begins, reply_to};
 ghost use Rattle.fts_sessions.specs.Execute.{Does, GoesOn, Makes};
-ghost use Rattle.fts_sessions.specs.Request.{syncs, lists};
+ghost use Rattle.fts_sessions.specs.Request.{syncs};
+ghost use Rattle.fts_sessions.specs.Transaction.{Transaction};
+ghost use Rattle.fts_sessions.specs.View.{view_of_schema as the_view_of_schema};
 
 use crate::EngineSteps;
 use crate::view::view_of_schema;
 use fts_listing::ListingKind;
 use fts_schema::Reply;
-use fts_steps::{SyncBatch, SyncError};
+use fts_steps::{IndexError, SyncBatch};
 use fts_types::Text;
 use std::alloc::{AllocError, Global};
 
 /// The steps of a SYNC, and what tells the last answer: batches up to the commits that the first
 /// one tells.
 pub fn sync<S: EngineSteps>(steps: &mut S) -> Reply
-    ensures { GoesOn S.sight (S.sight.settings steps.old) syncs [] steps.old result steps.new }
+    ensures { (transaction : Transaction)
+        → GoesOn S.sight (S.sight.settings steps.old) transaction syncs []
+        steps.old result steps.new }
 {
     match steps.sync_batch() {
         Ok(SyncBatch::Flushed { through, commits }) => flush_on(steps, through, commits),
         Ok(SyncBatch::Nothing { commits }) => Reply::Synced { through: commits },
-        Err(error) => not_synced(error),
+        Err(error) => not_made(error),
     }
 }
 
 // More batches up to a target, behind the one that told it. Each flushes a commit at least, so
 // there are not more of them than commits.
 fn flush_on<S: EngineSteps>(steps: &mut S, first: u64, target: u64) -> Reply
-    ensures { (settings : Settings)
-        → GoesOn S.sight settings syncs (flushed first target ∷ []) steps.old result steps.new }
+    ensures { (settings : Settings) → (transaction : Transaction)
+        → GoesOn S.sight settings transaction syncs (flushed first target ∷ [])
+        steps.old result steps.new }
 {
     let mut through = first;
     for _ in 1..target {
@@ -41,28 +46,28 @@ fn flush_on<S: EngineSteps>(steps: &mut S, first: u64, target: u64) -> Reply
         match steps.sync_batch() {
             Ok(SyncBatch::Flushed { through: now, .. }) => through = now,
             Ok(SyncBatch::Nothing { commits }) => return Reply::Synced { through: commits },
-            Err(error) => return not_synced(error),
+            Err(error) => return not_made(error),
         }
     }
     Reply::Synced { through }
 }
 
-// What tells why no batch was made.
-fn not_synced(error: SyncError) -> Reply
-    ensures { reply_to (sync_answer_of (Err error)) ≡ result }
+/// What tells why a batch or a step of OPTIMIZE was not made.
+pub fn not_made(error: IndexError) -> Reply
+    ensures { reply_to (error_answer_of error) ≡ result }
 {
     match error {
-        SyncError::NoMemory => Reply::NoMemory,
-        SyncError::LogFull { end } => Reply::LogFull { end },
-        SyncError::DiskFault { .. } => Reply::DiskFault,
-        SyncError::Stopped { faults } => Reply::Stopped { faults },
+        IndexError::NoMemory => Reply::NoMemory,
+        IndexError::LogFull { end } => Reply::LogFull { end },
+        IndexError::DiskFault { .. } => Reply::DiskFault,
+        IndexError::Stopped { faults } => Reply::Stopped { faults },
     }
 }
 
 /// The step of a listing, and what tells its answer. A view that isn't there makes no step.
 pub fn list<S: EngineSteps>(alloc: Global, steps: &mut S, schema: &Text, view: &Text) -> Reply
     ensures { Does S.sight
-        (begins (S.sight.settings steps.old) (lists schema.now view.now))
+        (list_begins schema.now view.now (the_view_of_schema schema.now view.now))
         steps.old result steps.new }
 {
     let Some(kind) = view_of_schema(schema.as_slice(), view.as_slice()) else {

@@ -4,20 +4,30 @@
 //! fault have one too. [`EngineSteps`] is what a session asks of an engine, and [`Direct`] an
 //! engine that one thread owns.
 //!
+//! How many steps an OPTIMIZE makes, and that it is told how many of them were words, are the laws
+//! [`passes_are_bounded`] and [`passes_are_counted`].
+//!
 //! A line costs its bytes and its steps, and a search what its query's evaluation costs.
 #![tactic(auto)]
 
+mod asked;
+mod changes;
+mod commits;
 mod direct;
 mod index;
 mod insert;
+mod laws;
 mod names;
+mod optimize;
 mod query;
 mod session;
 mod steps;
+mod transaction;
 mod update;
 mod view;
 
 pub use direct::Direct;
+pub use laws::{passes_are_bounded, passes_are_counted};
 pub use session::Session;
 pub use steps::EngineSteps;
 

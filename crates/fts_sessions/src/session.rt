@@ -1,70 +1,114 @@
-ghost use Rattle.std.specs.Prelude.{◌≡◌, ◌∷◌, [], length, IfOk, Ok, Err, Option, Some};
+ghost use Rattle.std.specs.Prelude.{◌≡◌, ℕ, None, length, max, IfOk};
 ghost use Rattle.fts_io.specs.Text.{whole};
-ghost use Rattle.fts_commits.specs.Fits.{CanCommit};
-ghost use Rattle.fts_steps.specs.Step.{to_commit, to_find};
-ghost use Rattle.fts_steps.specs.Answers.{commit_answer_of};
+ghost use Rattle.fts_steps.specs.Step.{to_find};
 ghost use Rattle.fts_query.specs.View.{tree_of};
-ghost use Rattle.fts_sql.specs.declared.statement.Statement.TheVariants.{Insert, Update, Delete};
-ghost use Rattle.fts_sessions.specs.Request.{changes};
 ghost use Rattle.fts_query.specs.Seen.{view_seen};
 ghost use Rattle.fts_sessions.specs.Read.{next_of};
 ghost use Rattle.fts_sessions.specs.Found.{TellsFound};
-ghost use Rattle.fts_sessions.specs.Execute.{Executes, Makes, Does, Searches};
-ghost use Rattle.fts_sessions.specs.Texts.{IsFitStatement};
-ghost use Rattle.fts_sessions.specs.Conversation.{asks, begins, change_begins, match_begins};
-ghost use Rattle.fts_sessions.specs.Conversation.{reply_to};
-ghost use Rattle.fts_sessions.specs.Conversation.{unknown_name as the_unknown_name};
+ghost use Rattle.fts_sessions.specs.Execute.{Executes, Does, Searches};
+ghost use Rattle.fts_sessions.specs.Conversation.{asks, match_begins};
+ghost use Rattle.fts_sessions.specs.Seen.{number_told as the_number_told};
+ghost use Rattle.fts_sessions.specs.Transaction.{FitsTable};
 
 use crate::EngineSteps;
+use crate::asked::unknown_name;
+use crate::changes::{delete, insert, update};
+use crate::commits::{begin, commit, rollback};
 use crate::index::{list, sync};
-use crate::insert::insert_of;
-use crate::names::{are_text_columns, first_unknown, is_same};
+use crate::names::are_text_columns;
+use crate::optimize::optimize;
 use crate::query::query_of;
-use crate::update::update_of;
-use fts_commits::{Change, ids_ascend};
+use crate::transaction::Transaction;
+use fts_commits::ids_ascend;
 use fts_eval::{answer, leaves};
 use fts_io::{Gate, Point};
 use fts_query::{Query, View};
 use fts_schema::Reply;
-use fts_sql::{ParseError, Statement, Values, parse_statement};
-use fts_steps::CommitError;
-use fts_types::{Key, Names, RowTexts, Text};
+use fts_sql::{ParseError, Statement, parse_statement};
+use fts_types::{Names, Text};
 use std::alloc::{AllocError, Global};
 
-/// A session: who sends statements one after another.
+/// A session: who sends statements one after another. It holds the changes of its open transaction,
+/// which no other session and no search sees before their commit.
 #[derive(Debug, Drop)]
 pub struct Session {
     alloc: Global,
     number: u32,
+    transaction: Option<Transaction>,
+    last_seen: u64,
 }
 
 impl Session {
-    /// The session with this number, from 1.
-    pub fn new(alloc: Global, number: u32) -> Self {
-        Session { alloc, number }
+    /// The session with this number, from 1, in which no transaction is open.
+    pub fn new(alloc: Global, number: u32) -> Self
+        ensures number { result.number ≡ number }
+        ensures closed { result.transaction ≡ None }
+        ensures unseen { result.last_seen ≡ 0 }
+    {
+        Session {
+            alloc,
+            number,
+            transaction: None,
+            last_seen: 0,
+        }
+    }
+
+    /// Its number.
+    pub fn number(&self) -> u32
+        ensures { result ≡ self.now.number }
+    {
+        self.number
+    }
+
+    /// The largest number of commits that a reply of this session told, 0 before the first.
+    pub fn last_seen(&self) -> u64
+        ensures { result ≡ self.now.last_seen }
+    {
+        self.last_seen
     }
 
     /// Executes a line, which is within the limit, and gives its reply. After a refusal, also for
     /// want of memory or by a device's fault, other lines can be executed.
+    ///
+    /// The lines of a session are executed over engines of tables with as many columns. A line
+    /// costs its own bytes and steps, and COMMIT, or a BEGIN behind changes, those of all changes.
     pub fn execute<S: EngineSteps, G: Gate>(
         &mut self,
         steps: &mut S,
         gate: &G,
         line: &[u8],
     ) -> Reply
-        ensures { Executes S.sight (whole line.now) steps.old result steps.new }
+        requires { FitsTable (length (S.sight.settings steps.old).columns) self.old.transaction }
+        ensures executes { Executes S.sight (whole line.now) self.old.transaction
+            steps.old result self.new.transaction steps.new }
+        ensures fits { FitsTable (length (S.sight.settings steps.new).columns)
+            self.new.transaction }
+        ensures seen { self.new.last_seen
+            ≡ max self.old.last_seen (the_number_told result) }
+        ensures number { self.new.number ≡ self.old.number }
     {
         gate.pass(Point::Statement, self.number);
         let reply = self.reply(steps, gate, line);
+        self.last_seen = self.last_seen.max(number_told(&reply));
         gate.pass(Point::Answered, self.number);
         reply
     }
 
     // Parses the line and makes its step.
-    fn reply<S: EngineSteps, G: Gate>(&self, steps: &mut S, gate: &G, line: &[u8]) -> Reply
-        ensures { Executes S.sight (whole line.now) steps.old result steps.new }
+    fn reply<S: EngineSteps, G: Gate>(&mut self, steps: &mut S, gate: &G, line: &[u8]) -> Reply
+        requires { FitsTable (length (S.sight.settings steps.old).columns) self.old.transaction }
+        ensures executes { Executes S.sight (whole line.now) self.old.transaction
+            steps.old result self.new.transaction steps.new }
+        ensures fits { FitsTable (length (S.sight.settings steps.old).columns)
+            self.new.transaction }
+        ensures seen { self.new.last_seen ≡ self.old.last_seen }
+        ensures number { self.new.number ≡ self.old.number }
     {
-        match parse_statement(self.alloc, line) {
+        let alloc = self.alloc;
+        match parse_statement(alloc, line) {
+            Ok(Some(Statement::Begin)) => begin(alloc, &mut self.transaction, steps),
+            Ok(Some(Statement::Commit)) => commit(&mut self.transaction, steps),
+            Ok(Some(Statement::Rollback)) => rollback(&mut self.transaction),
             Ok(
                 Some(
                     Statement::Insert {
@@ -73,7 +117,7 @@ impl Session {
                         values,
                     },
                 ),
-            ) => insert(self.alloc, steps, table, &columns, values),
+            ) => insert(alloc, &mut self.transaction, steps, table, &columns, values),
             Ok(
                 Some(
                     Statement::Update {
@@ -83,8 +127,22 @@ impl Session {
                         key,
                     },
                 ),
-            ) => update(self.alloc, steps, table, &columns, &texts, key),
-            Ok(Some(Statement::Delete { table, key })) => delete(self.alloc, steps, table, key),
+            ) => update(
+                alloc,
+                &mut self.transaction,
+                steps,
+                table,
+                &columns,
+                &texts,
+                key,
+            ),
+            Ok(Some(Statement::Delete { table, key })) => delete(
+                alloc,
+                &mut self.transaction,
+                steps,
+                table,
+                key,
+            ),
             Ok(
                 Some(
                     Statement::Match {
@@ -94,7 +152,7 @@ impl Session {
                     },
                 ),
             ) => search(
-                self.alloc,
+                alloc,
                 steps,
                 gate,
                 self.number,
@@ -103,134 +161,56 @@ impl Session {
                 query.as_slice(),
             ),
             Ok(Some(Statement::Sync)) => sync(steps),
-            Ok(Some(Statement::List { schema, view })) => list(self.alloc, steps, &schema, &view),
+            Ok(Some(Statement::Optimize { table })) => optimize(steps, table),
+            Ok(Some(Statement::List { schema, view })) => list(alloc, steps, &schema, &view),
             Ok(None) => Reply::Nothing,
-            Err(ParseError::Syntax { at }) => Reply::Syntax { at },
-            Err(ParseError::NoMemory) => Reply::NoMemory,
+            Err(error) => unparsed(error),
         }
     }
 }
 
-// The step of an INSERT, and what tells its answer. One that does not fit the table makes no step.
-fn insert<S: EngineSteps>(
-    alloc: Global,
-    steps: &mut S,
-    table: Text,
-    names: &Names,
-    values: Values,
-) -> Reply
-    requires { IsFitStatement (Insert table names.now values) }
-    ensures { Does S.sight
-        (begins (S.sight.settings steps.old) (changes (Insert table names.now values)))
-        steps.old result steps.new }
-{
-    let columns = &steps.settings().columns;
-    match unknown_name(alloc, columns, table, names) {
-        Ok(None) => {}
-        Ok(Some(reply)) => return reply,
-        Err(AllocError) => return Reply::NoMemory,
-    }
-    let change = insert_of(alloc, columns, names, values);
-    make(steps, change)
-}
-
-// The step of an UPDATE, and what tells its answer. One that does not fit the table makes no step.
-fn update<S: EngineSteps>(
-    alloc: Global,
-    steps: &mut S,
-    table: Text,
-    names: &Names,
-    texts: &RowTexts,
-    key: Key,
-) -> Reply
-    requires { IsFitStatement (Update table names.now texts.now key) }
-    ensures { Does S.sight
-        (begins (S.sight.settings steps.old) (changes (Update table names.now texts.now key)))
-        steps.old result steps.new }
-{
-    let columns = &steps.settings().columns;
-    match unknown_name(alloc, columns, table, names) {
-        Ok(None) => {}
-        Ok(Some(reply)) => return reply,
-        Err(AllocError) => return Reply::NoMemory,
-    }
-    let change = update_of(alloc, columns, names, texts, key);
-    make(steps, change)
-}
-
-// The step of a DELETE, and what tells its answer.
-fn delete<S: EngineSteps>(alloc: Global, steps: &mut S, table: Text, key: Key) -> Reply
-    requires { IsFitStatement (Delete table key) }
-    ensures { Does S.sight
-        (begins (S.sight.settings steps.old) (changes (Delete table key)))
-        steps.old result steps.new }
-{
-    let columns = &steps.settings().columns;
-    match unknown_name(alloc, columns, table, &Names::new(alloc)) {
-        Ok(None) => {}
-        Ok(Some(reply)) => return reply,
-        Err(AllocError) => return Reply::NoMemory,
-    }
-    make(steps, Ok(Some(Change::Delete { key })))
-}
-
-// The step of a commit of the change that a statement asks for, if it fits the table, and what
-// tells its answer.
-fn make<S: EngineSteps>(steps: &mut S, change: Result<Option<Change>, AllocError>) -> Reply
-    requires { (made : Change) → change ≡ Ok (Some made)
-        → CanCommit (length (S.sight.settings steps.old).columns) (made ∷ []) }
-    ensures { (wanted : Option Change) → IfOk change (λ change. change ≡ wanted)
-        → Does S.sight (change_begins wanted) steps.old result steps.new }
-{
-    match change {
-        Ok(Some(change)) => commit(steps, change),
-        Ok(None) => Reply::WrongColumns,
-        Err(AllocError) => Reply::NoMemory,
-    }
-}
-
-// The step of a commit of one change, and what tells its answer.
-fn commit<S: EngineSteps>(steps: &mut S, change: Change) -> Reply
-    requires { CanCommit (length (S.sight.settings steps.old).columns) (change ∷ []) }
-    ensures { Makes S.sight (to_commit (change ∷ [])) steps.old result steps.new }
-{
-    match steps.commit(&[change]) {
-        Ok(number) => Reply::Committed { number },
-        Err(error) => told(error),
-    }
-}
-
-// What tells the refusal of a commit.
-fn told(error: CommitError) -> Reply
-    ensures { reply_to (commit_answer_of (Err error)) ≡ result }
+// What tells why a line was not parsed.
+fn unparsed(error: ParseError) -> Reply
+    ensures syntax { (at : ℕ) → error ≡ ParseError.Syntax at → result ≡ Reply.Syntax at }
+    ensures memory { error ≡ ParseError.NoMemory → result ≡ Reply.NoMemory }
 {
     match error {
-        CommitError::NoMemory => Reply::NoMemory,
-        CommitError::Refused { refusal } => Reply::Refused { refusal },
-        CommitError::LogFull { end } => Reply::LogFull { end },
-        CommitError::DiskFault { .. } => Reply::DiskFault,
-        CommitError::Stopped { faults } => Reply::Stopped { faults },
+        ParseError::Syntax { at } => Reply::Syntax { at },
+        ParseError::NoMemory => Reply::NoMemory,
     }
 }
 
-// The refusal of a statement whose table or a column is not there.
-fn unknown_name(
-    alloc: Global,
-    columns: &Names,
-    table: Text,
-    names: &Names,
-) -> Result<Option<Reply>, AllocError>
-    ensures { IfOk result (λ reply. reply ≡ the_unknown_name columns.now table names.now) }
+// How many commits a reply tells that there were, 0 where it tells none.
+fn number_told(reply: &Reply) -> u64
+    ensures { result ≡ the_number_told reply.now }
 {
-    if !is_same(table.as_slice(), b"docs") {
-        return Ok(Some(Reply::NoSuchTable { name: table }));
-    }
-    match first_unknown(columns, names) {
-        None => Ok(None),
-        Some(place) => {
-            let name = Text::new(Vec::from_slice(alloc, names.text(place))?);
-            Ok(Some(Reply::NoSuchColumn { name }))
-        }
+    match reply {
+        Reply::Committed { number } => *number,
+        Reply::CommittedAndBegun { number } => *number,
+        Reply::Found { number, .. } => *number,
+        Reply::Listed { number, .. } => *number,
+        Reply::Synced { through } => *through,
+        Reply::Begun => 0,
+        Reply::Buffered { .. } => 0,
+        Reply::NothingToCommit => 0,
+        Reply::RolledBack { .. } => 0,
+        Reply::TooManyChanges { .. } => 0,
+        Reply::NothingToOptimize => 0,
+        Reply::Optimized { .. } => 0,
+        Reply::Refused { .. } => 0,
+        Reply::LogFull { .. } => 0,
+        Reply::Nothing => 0,
+        Reply::Syntax { .. } => 0,
+        Reply::NoSuchTable { .. } => 0,
+        Reply::NoSuchColumn { .. } => 0,
+        Reply::WrongColumns => 0,
+        Reply::QuerySyntax { .. } => 0,
+        Reply::QueryTooLong { .. } => 0,
+        Reply::QueryTooDeep { .. } => 0,
+        Reply::LineTooLong => 0,
+        Reply::NoMemory => 0,
+        Reply::DiskFault => 0,
+        Reply::Stopped { .. } => 0,
     }
 }
 

@@ -2,15 +2,16 @@ ghost use Rattle.std.specs.Prelude.{◌≡◌, ◌≤◌, length};
 ghost use Rattle.fts_commits.specs.Fits.{CanCommit};
 ghost use Rattle.fts_query.specs.Seen.{leaves_seen};
 ghost use Rattle.fts_steps.specs.Running.{Running};
-ghost use Rattle.fts_steps.specs.Step.{to_commit, to_sync, to_view, to_list, to_measure};
+ghost use Rattle.fts_steps.specs.Step.{to_commit, to_sync, to_optimize, to_view, to_list};
+ghost use Rattle.fts_steps.specs.Step.{to_measure};
 ghost use Rattle.fts_steps.specs.Step.{measured, Sight, Steps};
 ghost use Rattle.fts_steps.specs.Answers.{commit_answer_of, sync_answer_of, view_answer_of};
-ghost use Rattle.fts_steps.specs.Answers.{listing_answer_of};
+ghost use Rattle.fts_steps.specs.Answers.{optimize_answer_of, listing_answer_of};
 
 use fts_commits::Change;
 use fts_listing::{ListingKind, NumberedListing};
 use fts_query::{Leaf, View};
-use fts_steps::{CommitError, SyncBatch, SyncError};
+use fts_steps::{CommitError, IndexError, OptimizeStep, SyncBatch};
 use fts_types::Settings;
 use std::alloc::AllocError;
 
@@ -28,8 +29,13 @@ pub trait EngineSteps {
 
     /// Makes the next batch of the index, if there are commits that are not flushed: its entry is
     /// written to the index log, and their words go into the tables.
-    fn sync_batch(&mut self) -> Result<SyncBatch, SyncError>
+    fn sync_batch(&mut self) -> Result<SyncBatch, IndexError>
         ensures { Steps sight to_sync (sync_answer_of result) self.old self.new };
+
+    /// Makes the next step of OPTIMIZE, if there is one: a pass begins, its next word gets its
+    /// nodes anew, or it finishes.
+    fn optimize_step(&mut self) -> Result<OptimizeStep, IndexError>
+        ensures { Steps sight to_optimize (optimize_answer_of result) self.old self.new };
 
     /// Tells what the rows have for the leaves of a query.
     fn view(&mut self, leaves: Vec<Leaf>) -> Result<View, AllocError>
@@ -47,6 +53,10 @@ pub trait EngineSteps {
     /// The size above which the cache is to be flushed.
     fn cache_bytes(&self) -> u64
         ensures { result ≡ (sight.settings self.now).cache_bytes };
+
+    /// The most words that one OPTIMIZE works on.
+    fn optimize_words(&self) -> u16
+        ensures { result ≡ (sight.settings self.now).optimize_words };
 
     /// The settings with which the database was created.
     fn settings(&self) -> &Settings

@@ -3,6 +3,8 @@ ghost use Rattle.fts_steps.specs.State.{State};
 ghost use Rattle.fts_steps.specs.Running.{opened};
 ghost use Rattle.fts_engine.specs.Stands.{Holds};
 
+mod transactions;
+
 use crate::insert::insert_of;
 use crate::names::{
     are_insert_columns, are_numbered_columns, are_text_columns, first_unknown, is_same,
@@ -418,7 +420,7 @@ fn each_line_has_its_reply(rt: HostRuntime) -> Result<(), Fail> {
 }
 
 /// The names of a schema and of a view, and the view that they mean.
-const VIEWS: [(&str, &str, Option<ListingKind>); 9] = [
+const VIEWS: [(&str, &str, Option<ListingKind>); 10] = [
     (
         "INFORMATION_SCHEMA",
         "INNODB_FT_INDEX_TABLE",
@@ -444,7 +446,12 @@ const VIEWS: [(&str, &str, Option<ListingKind>); 9] = [
         "INNODB_FT_Deleted",
         Some(ListingKind::Deleted),
     ),
-    ("INFORMATION_SCHEMA", "INNODB_FT_BEING_DELETED", None),
+    (
+        "information_schema",
+        "Innodb_FT_being_deleted",
+        Some(ListingKind::BeingDeleted),
+    ),
+    ("INFORMATION_SCHEMA", "INNODB_FT_DELETED_CACHE", None),
     ("INFORMATION_SCHEMA", "", None),
     ("docs", "INNODB_FT_CONFIG", None),
     ("INNODB_FT_CONFIG", "INFORMATION_SCHEMA", None),
@@ -470,9 +477,12 @@ use_stopword|1
 OK 6 rows as of 0
 ";
 
-const INDEX_REPLIES: [(&str, &str); 6] = [
+const INDEX_REPLIES: [(&str, &str); 9] = [
     ("SYNC", "OK sync as of 0\n"),
     ("sync ;", "OK sync as of 0\n"),
+    ("OPTIMIZE TABLE docs", "OK optimize nothing\n"),
+    ("optimize table Docs ;", "OK optimize nothing\n"),
+    ("OPTIMIZE TABLE Books", "ERROR no such table Books\n"),
     ("SELECT * FROM INFORMATION_SCHEMA.INNODB_FT_CONFIG", CONFIG),
     (
         "select * from information_schema . innodb_ft_index_table;",
@@ -666,6 +676,80 @@ fn a_fault_in_a_sync_stops_the_engine(rt: HostRuntime) -> Result<(), Fail> {
         let steps = new_steps(alloc, 4_096, vec![in alloc; fails]?)?;
         let told = synced_twice(alloc, steps)?;
         assert_eq!(rt; told.as_slice(), FAULT.as_bytes(), "at {fails:?}");
+    }
+    Ok(())
+}
+
+/// A row that dies when its words are in the tables, and two OPTIMIZEs. Behind the second batch the
+/// index log ends at 107, behind the begin of a pass at 113, behind its four words at 127, 142, 156
+/// and 171, and behind its finish at 177.
+const DYING: [&str; 6] = [
+    FOUR_WORDS,
+    "SYNC",
+    "DELETE FROM docs WHERE id = 1",
+    "SYNC",
+    "OPTIMIZE TABLE docs",
+    "OPTIMIZE TABLE docs",
+];
+
+/// What these lines are answered, one behind another.
+fn told_dying(alloc: Global, steps: Direct<MemDisk, MemDisk>) -> Result<Vec<u8>, AllocError> {
+    let mut steps = steps;
+    let mut all = Vec::new(alloc);
+    for line in DYING {
+        all.extend_from_slice(&told_by(alloc, &mut steps, line)?)?;
+    }
+    Ok(all)
+}
+
+/// The most bytes of a log, and what the OPTIMIZEs are answered.
+const FULL_PASSES: [(u64, &str); 5] = [
+    (112, "\nERROR log full at 113\nERROR log full at 113\n"),
+    (113, "\nERROR log full at 127\nERROR log full at 127\n"),
+    (155, "\nERROR log full at 156\nERROR log full at 156\n"),
+    (176, "\nERROR log full at 177\nERROR log full at 177\n"),
+    (
+        177,
+        "\nOK optimize 4 words, pass finished\nOK optimize nothing\n",
+    ),
+];
+
+#[test]
+fn a_full_index_log_refuses_a_step_of_a_pass(rt: HostRuntime) -> Result<(), Fail> {
+    let alloc = rt.alloc();
+    for (log_bytes, want) in FULL_PASSES {
+        let steps = new_steps(alloc, log_bytes, Vec::new(alloc))?;
+        let told = told_dying(alloc, steps)?;
+        assert!(rt;
+            told.as_slice().ends_with(want.as_bytes()),
+            "of {log_bytes}"
+        );
+    }
+    Ok(())
+}
+
+const FAULT_IN_A_PASS: &str = "\nERROR disk fault\nERROR stopped after 1 disk faults\n";
+
+/// Calls of the index device by which the begin of a pass fails, and its first word.
+const FAULTS_IN_A_PASS: [(Kind, u64); 6] = [
+    (Kind::Write, 6),
+    (Kind::Sync, 7),
+    (Kind::Write, 7),
+    (Kind::Sync, 8),
+    (Kind::Write, 8),
+    (Kind::Sync, 10),
+];
+
+#[test]
+fn a_fault_in_a_pass_stops_the_engine(rt: HostRuntime) -> Result<(), Fail> {
+    let alloc = rt.alloc();
+    for fails in FAULTS_IN_A_PASS {
+        let steps = new_steps(alloc, 4_096, vec![in alloc; fails]?)?;
+        let told = told_dying(alloc, steps)?;
+        assert!(rt;
+            told.as_slice().ends_with(FAULT_IN_A_PASS.as_bytes()),
+            "at {fails:?}"
+        );
     }
     Ok(())
 }

@@ -30,6 +30,9 @@ fn view_called(name: &[u8]) -> Option<ListingKind>
     if is_same(name, b"innodb_ft_deleted") {
         return Some(ListingKind::Deleted);
     }
+    if is_same(name, b"innodb_ft_being_deleted") {
+        return Some(ListingKind::BeingDeleted);
+    }
     if is_same(name, b"innodb_ft_config") {
         return Some(ListingKind::Config);
     }

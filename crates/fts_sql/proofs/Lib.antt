@@ -13,4 +13,5 @@ pub mod Written
 pub mod Places
 pub mod Laws
 pub mod Single
+pub mod Sessions
 mod WorkedRows

@@ -12,24 +12,24 @@ use Rattle.fts_sql.proofs.Faults.{kinds_of_fault, fault_starts, token_or_fault, 
 abbrev pub IsPiece : List ℕ → Type 0
 IsPiece bytes = begins_with (λ b. not (is_blank b)) bytes ≡ true
 
-no_blank : (bytes : List ℕ) → IsPiece bytes → begins_with is_blank bytes ≡ false
+pub no_blank : (bytes : List ℕ) → IsPiece bytes → begins_with is_blank bytes ≡ false
 no_blank [] h = absurd (both_ways false refl h)
 no_blank (b ∷ bytes) h = not-true (is_blank b) h
 
-token_piece : (token : Token) (bytes spelling rest : List ℕ) → IsToken token bytes spelling rest → IsPiece bytes
+pub token_piece : (token : Token) (bytes spelling rest : List ℕ) → IsToken token bytes spelling rest → IsPiece bytes
 token_piece token bytes spelling rest is = ap (begins_with (λ b. not (is_blank b))) is.cut ∙ starts token spelling rest is.spelled
 
-fault_piece : (bytes : List ℕ) (offset : ℕ) → IsUnreadable bytes offset → IsPiece bytes
+pub fault_piece : (bytes : List ℕ) (offset : ℕ) → IsUnreadable bytes offset → IsPiece bytes
 fault_piece bytes offset is = fault_starts bytes offset (kinds_of_fault bytes offset is)
 
 -- what stands behind blanks is determined
-one_piece : (bytes a b c d : List ℕ) → bytes ≡ a ++ b → list_all is_blank a ≡ true → IsPiece b
+pub one_piece : (bytes a b c d : List ℕ) → bytes ≡ a ++ b → list_all is_blank a ≡ true → IsPiece b
     → bytes ≡ c ++ d → list_all is_blank c ≡ true → IsPiece d → (a ≡ c) × (b ≡ d)
 one_piece bytes a b c d e blank piece f blank2 piece2 =
     same_cut is_blank a b c d blank (no_blank b piece) blank2 (no_blank d piece2) (sym e ∙ f)
 
 -- blanks alone have nothing behind them
-only_blanks : (bytes a b : List ℕ) → list_all is_blank bytes ≡ true → bytes ≡ a ++ b → list_all is_blank a ≡ true → IsPiece b → ⊥
+pub only_blanks : (bytes a b : List ℕ) → list_all is_blank bytes ≡ true → bytes ≡ a ++ b → list_all is_blank a ≡ true → IsPiece b → ⊥
 only_blanks bytes a b blank e blank2 piece =
     let same = same_cut is_blank bytes [] a b blank refl blank2 (no_blank b piece) (append-nil bytes ∙ e) in
     both_ways false refl (ap (begins_with (λ b. not (is_blank b))) same.1 ∙ piece)

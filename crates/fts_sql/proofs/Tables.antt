@@ -8,7 +8,7 @@ use Rattle.std.proofs.lemmas.Bool.Decides.{nat_tests}
 use Rattle.fts_sql.specs.Token.{Token, name, number, string, mark}
 use Rattle.fts_sql.specs.declared.word.Word.TheVariants as word
 use Rattle.fts_sql.specs.declared.piece.Piece.{Piece}
-use Rattle.fts_sql.specs.declared.piece.Piece.TheVariants.{Keyword, Mark, Name, Number, String, Value}
+use Rattle.fts_sql.specs.declared.piece.Piece.TheVariants.{Keyword, Mark, Name, Number, String, Value, Session}
 use Rattle.fts_sql.specs.Table.{letters, is_piece, taken_by, Are, Often, Says, Part, Once, Optional, Repeated}
 use Rattle.fts_sql.specs.Reader.{are_apart, firsts, are_told, is_table, Spot, SaysFrom, or_else, enter, behind, can_end, ends}
 
@@ -56,14 +56,26 @@ apart (Mark d) (Mark e) (string s) is a b = no_true a
 apart (Mark d) (Mark e) (mark c) is a b =
     let same : d ≡ e = eqb-true d c a ∙ sym (eqb-true e c b) in
     no_true (sym (ap not (subst (λ x. (d == x) ≡ true) same (same_byte d))) ∙ is)
+apart Session (Keyword w) (name u) is a b = no_true a
+apart Session (Keyword w) (number n) is a b = no_true b
+apart Session (Keyword w) (string s) is a b = no_true a
+apart Session (Keyword w) (mark c) is a b = no_true a
+apart Session (Mark d) t is a b = no_true is
+apart Session Name t is a b = no_true is
+apart Session Number t is a b = no_true is
+apart Session String t is a b = no_true is
+apart Session Value t is a b = no_true is
+apart Session Session t is a b = no_true is
 apart (Keyword v) Name t is a b = no_true is
 apart (Keyword v) Number t is a b = no_true is
 apart (Keyword v) String t is a b = no_true is
 apart (Keyword v) Value t is a b = no_true is
+apart (Keyword v) Session t is a b = no_true is
 apart (Mark d) Name t is a b = no_true is
 apart (Mark d) Number t is a b = no_true is
 apart (Mark d) String t is a b = no_true is
 apart (Mark d) Value t is a b = no_true is
+apart (Mark d) Session t is a b = no_true is
 apart Name q t is a b = no_true is
 apart Number q t is a b = no_true is
 apart String q t is a b = no_true is
@@ -98,11 +110,12 @@ none_first : (p : Piece) (t : Token) → is_piece p t ≡ true → (parts : List
 none_first p t is [] table told all rest taken h = no_tokens t rest h.0
 none_first p t is (Once q ∷ parts) table told all rest taken h =
     apart p q t (and_parts (are_apart p q) true told).0 is (are_to q [] (Says parts all) t rest taken h).0
-none_first p t is (Optional q ∷ parts) table told all rest taken h =
+none_first p t is (Optional [] ∷ parts) table told all rest taken h = no_true table
+none_first p t is (Optional (q ∷ qs) ∷ parts) table told all rest taken h =
     let here = and_parts (are_apart p q) (list_all (are_apart p) (firsts parts)) told in
-    let later = and_parts (are_told (q ∷ []) (firsts parts)) (is_table parts) table in
+    let later = and_parts (are_told (q ∷ qs) (firsts parts)) (is_table parts) table in
     elim h [
-      | inl one ↦ apart p q t here.0 is (are_to q [] (Says parts all) t rest taken one).0
+      | inl one ↦ apart p q t here.0 is (are_to q qs (Says parts all) t rest taken one).0
       | inr other ↦ none_first p t is parts later.1 here.1 all rest taken other
     ]
 none_first p t is (Repeated [] ∷ parts) table told all rest taken h = no_true table
@@ -143,24 +156,24 @@ begun_is p ps parts t true e table = (
 )
 begun_is p ps parts t false e table = λ all rest taken h. both_ways (is_piece p t) e (are_to p ps (Says parts all) t rest taken h).0
 
-optional_is : (p : Piece) (parts : List Part) (t : Token) (b : Bool) → is_piece p t ≡ b → is_table (Optional p ∷ parts) ≡ true
+optional_is : (p : Piece) (ps : List Piece) (parts : List Part) (t : Token) (b : Bool) → is_piece p t ≡ b → is_table (Optional (p ∷ ps) ∷ parts) ≡ true
     → IsStep (Says parts) t (enter parts t)
-    → IsStep (Says (Optional p ∷ parts)) t (or_else (if b then Some (p, record { begun = []; ahead = parts }) else None) (enter parts t))
-optional_is p parts t true e table later =
-    let told = and_parts (are_told (p ∷ []) (firsts parts)) (is_table parts) table in (
+    → IsStep (Says (Optional (p ∷ ps) ∷ parts)) t (or_else (if b then Some (p, record { begun = ps; ahead = parts }) else None) (enter parts t))
+optional_is p ps parts t true e table later =
+    let told = and_parts (are_told (p ∷ ps) (firsts parts)) (is_table parts) table in (
       λ all rest taken. (
         λ h. elim h [
-          | inl one ↦ (are_to p [] (Says parts all) t rest taken one).1
+          | inl one ↦ (are_to p ps (Says parts all) t rest taken one).1
           | inr other ↦ absurd (none_first p t e parts told.1 told.0 all rest taken other)
         ],
         λ k. inl (t, rest, refl, e, k),
       ),
       told.1,
     )
-optional_is p parts t false e table later =
-    step_by (Says parts) (Says (Optional p ∷ parts)) t (λ all rest taken. (
+optional_is p ps parts t false e table later =
+    step_by (Says parts) (Says (Optional (p ∷ ps) ∷ parts)) t (λ all rest taken. (
       λ h. elim h [
-        | inl one ↦ absurd (both_ways (is_piece p t) e (are_to p [] (Says parts all) t rest taken one).0)
+        | inl one ↦ absurd (both_ways (is_piece p t) e (are_to p ps (Says parts all) t rest taken one).0)
         | inr other ↦ other
       ],
       λ k. inr k,
@@ -204,8 +217,9 @@ repeated_is p ps parts t false e table later =
 enter_is : (parts : List Part) (t : Token) → is_table parts ≡ true → IsStep (Says parts) t (enter parts t)
 enter_is [] t table = λ all rest taken h. no_tokens t rest h.0
 enter_is (Once p ∷ parts) t table = begun_is p [] parts t (is_piece p t) refl table
-enter_is (Optional p ∷ parts) t table =
-    optional_is p parts t (is_piece p t) refl table (enter_is parts t (and_parts (are_told (p ∷ []) (firsts parts)) (is_table parts) table).1)
+enter_is (Optional [] ∷ parts) t table = absurd (no_true table)
+enter_is (Optional (p ∷ ps) ∷ parts) t table =
+    optional_is p ps parts t (is_piece p t) refl table (enter_is parts t (and_parts (are_told (p ∷ ps) (firsts parts)) (is_table parts) table).1)
 enter_is (Repeated [] ∷ parts) t table = absurd (no_true table)
 enter_is (Repeated (p ∷ ps) ∷ parts) t table =
     repeated_is p ps parts t (is_piece p t) refl table (enter_is parts t (and_parts (are_told (p ∷ ps) (firsts parts)) (is_table parts) table).1)
@@ -222,10 +236,11 @@ end_is : (parts : List Part) → is_table parts ≡ true → (all taken : List T
 end_is [] table all taken = (λ h. (refl, h.1), λ k. (refl, k.1))
 end_is (Once p ∷ parts) table all taken =
     (λ h. absurd (are_none p [] (Says parts all) taken h), λ k. absurd (no_true k.0))
-end_is (Optional p ∷ parts) table all taken =
-    let later = end_is parts (and_parts (are_told (p ∷ []) (firsts parts)) (is_table parts) table).1 all taken in (
+end_is (Optional [] ∷ parts) table all taken = absurd (no_true table)
+end_is (Optional (p ∷ ps) ∷ parts) table all taken =
+    let later = end_is parts (and_parts (are_told (p ∷ ps) (firsts parts)) (is_table parts) table).1 all taken in (
       λ h. elim h [
-        | inl one ↦ absurd (are_none p [] (Says parts all) taken one)
+        | inl one ↦ absurd (are_none p ps (Says parts all) taken one)
         | inr other ↦ later.0 other
       ],
       λ k. inr (later.1 k),
@@ -253,10 +268,13 @@ sample Name = name []
 sample Number = number 0
 sample String = string []
 sample Value = number 0
+sample Session = number 1
 
 sample_is : (p : Piece) → is_piece p (sample p) ≡ true
 sample_is (Keyword word.Against) = refl
+sample_is (Keyword word.Begin) = refl
 sample_is (Keyword word.Boolean) = refl
+sample_is (Keyword word.Commit) = refl
 sample_is (Keyword word.Delete) = refl
 sample_is (Keyword word.From) = refl
 sample_is (Keyword word.FtsDocId) = refl
@@ -266,9 +284,14 @@ sample_is (Keyword word.Insert) = refl
 sample_is (Keyword word.Into) = refl
 sample_is (Keyword word.Match) = refl
 sample_is (Keyword word.Mode) = refl
+sample_is (Keyword word.Optimize) = refl
+sample_is (Keyword word.Rollback) = refl
 sample_is (Keyword word.Select) = refl
 sample_is (Keyword word.Set) = refl
+sample_is (Keyword word.Start) = refl
 sample_is (Keyword word.Sync) = refl
+sample_is (Keyword word.Table) = refl
+sample_is (Keyword word.Transaction) = refl
 sample_is (Keyword word.Update) = refl
 sample_is (Keyword word.Values) = refl
 sample_is (Keyword word.Where) = refl
@@ -277,6 +300,7 @@ sample_is Name = refl
 sample_is Number = refl
 sample_is String = refl
 sample_is Value = refl
+sample_is Session = refl
 
 abbrev Completes : (List Token → List Token → List Token → Type 0) → Type 0
 Completes R = (taken : List Token) → (rest all : List Token) × R all rest taken
@@ -291,7 +315,7 @@ are_complete (p ∷ ps) R completes = λ taken.
 complete : (parts : List Part) → Completes (Says parts)
 complete [] = λ taken. ([], taken, (refl, refl))
 complete (Once p ∷ parts) = are_complete (p ∷ []) (Says parts) (complete parts)
-complete (Optional p ∷ parts) = λ taken. (let r = complete parts taken in (r.0, r.1, inr r.2))
+complete (Optional pieces ∷ parts) = λ taken. (let r = complete parts taken in (r.0, r.1, inr r.2))
 complete (Repeated pieces ∷ parts) = λ taken. (let r = complete parts taken in (r.0, r.1, (0, r.2)))
 
 pub spot_completes : (begun : List Piece) (ahead : List Part) → Completes (λ all. Are begun (Says ahead all))
@@ -336,3 +360,28 @@ parted (Once p ∷ parts) (Once q ∷ others) is a b tokens taken kept (t, rest,
       | inl one ↦ apart p q t one here there.0
       | inr none ↦ parted parts others (sym (ap (λ c. if c then true else are_parted parts others) none) ∙ is) a b rest (taken_by p t taken) (taken_by q t kept) h there.1
     ]
+
+-- so have tables that may begin with the same pieces, and are parted behind these
+
+same_behind : (ps : List Piece) (R S : List Token → List Token → Type 0) (tokens taken kept : List Token) → Are ps R tokens taken → Are ps S tokens kept
+    → (rest some other : List Token) × R rest some × S rest other
+same_behind [] R S tokens taken kept h k = (tokens, taken, kept, h, k)
+same_behind (p ∷ ps) R S tokens taken kept (t, rest, e, here, h) k =
+    let there = are_to p ps S t rest kept (subst (λ ts. Are (p ∷ ps) S ts kept) e k) in
+    same_behind ps R S rest (taken_by p t taken) (taken_by p t kept) h there.1
+
+none_begun : (p : Piece) (ps : List Piece) (R : List Token → List Token → Type 0) (parts : List Part) → is_table (Optional (p ∷ ps) ∷ parts) ≡ true
+    → (a tokens taken kept : List Token) → Are (p ∷ ps) R tokens taken → Says parts a tokens kept → ⊥
+none_begun p ps R parts table a tokens taken kept (t, rest, e, here, h) says =
+    let told = and_parts (are_told (p ∷ ps) (firsts parts)) (is_table parts) table in
+    none_first p t here parts told.1 told.0 a rest kept (subst (λ ts. Says parts a ts kept) e says)
+
+pub parted_behind : (p : Piece) (ps : List Piece) (parts others : List Part) → is_table (Optional (p ∷ ps) ∷ parts) ≡ true
+    → is_table (Optional (p ∷ ps) ∷ others) ≡ true → are_parted parts others ≡ true → (a b tokens taken kept : List Token)
+    → Says (Optional (p ∷ ps) ∷ parts) a tokens taken → Says (Optional (p ∷ ps) ∷ others) b tokens kept → ⊥
+parted_behind p ps parts others table table2 is a b tokens taken kept (inl h) (inl k) =
+    let both = same_behind (p ∷ ps) (Says parts a) (Says others b) tokens taken kept h k in
+    parted parts others is a b both.0 both.1 both.2 both.3 both.4
+parted_behind p ps parts others table table2 is a b tokens taken kept (inl h) (inr k) = none_begun p ps (Says parts a) others table2 b tokens taken kept h k
+parted_behind p ps parts others table table2 is a b tokens taken kept (inr h) (inl k) = none_begun p ps (Says others b) parts table a tokens kept taken k h
+parted_behind p ps parts others table table2 is a b tokens taken kept (inr h) (inr k) = parted parts others is a b tokens taken kept h k

@@ -1,20 +1,25 @@
 -- Small statements, worked out by hand: what the tables and the definitions say of them.
-use Rattle.std.proofs.Common.{◌≡◌, ◌↔◌, ◌++◌, Bool, true, false, List, [], ◌∷◌, Option, Some, None, refl, sym, ap, subst, codes}
-use Rattle.std.proofs.lemmas.Bool.{both_ways}
+use Rattle.std.proofs.Common.{◌≡◌, ◌==◌, ◌↔◌, ◌++◌, Bool, true, false, not, List, [], ◌∷◌, Option, Some, None, refl, sym, ap, subst, inl, inr, arith, codes}
+use Rattle.std.specs.List.{list_all}
+use Rattle.std.proofs.lemmas.Bool.{both_ways, not-true}
 use Rattle.std.proofs.lemmas.List.{append-nil}
-use Rattle.fts_sql.specs.Token.{Token, name, number, string, mark}
+use Rattle.fts_sql.specs.Token.{Token, name, number, string, mark, begins_with}
 use Rattle.fts_sql.specs.declared.piece.Piece.{Piece}
 use Rattle.fts_sql.specs.declared.value.Value.TheVariants.{Number, Text}
 use Rattle.fts_sql.specs.declared.statement.Statement.{Statement}
-use Rattle.fts_sql.specs.declared.statement.Statement.TheVariants.{Insert, Update, Delete, Match, Sync, List as ListView}
+use Rattle.fts_sql.specs.declared.statement.Statement.TheVariants.{Insert, Update, Delete, Match, Sync, Optimize, List as ListView, Begin, Commit, Rollback}
 use Rattle.fts_sql.specs.declared.form.Form.{Form}
 use Rattle.fts_sql.specs.declared.form.Form.TheVariants as form
+use Rattle.fts_sql.specs.declared.form.TheConstants.{FORMS}
 use Rattle.fts_sql.specs.Table.{taken_by, Says}
 use Rattle.fts_sql.specs.Statement.{table_of, Writes}
+use Rattle.fts_sql.specs.Session.{IsNumbered, IsSession}
 use Rattle.fts_sql.specs.Fault.{Viable}
 use Rattle.fts_sql.specs.Reader.{is_table, Spot, SaysFrom, behind, ends}
 use Rattle.fts_sql.proofs.Tables.{IsStep, behind_is, spot_end, spot_completes}
-use Rattle.fts_sql.proofs.Written.{tables_are, form_of, viable_of}
+use Rattle.fts_sql.proofs.Sessions.{numbered_no_blank, not_marked, not_numbered}
+use Rattle.fts_sql.proofs.Blanks.{not_blank}
+use Rattle.fts_sql.proofs.Written.{each_form, tables_are, form_of, viable_of}
 
 -- the spot behind some tokens, and what is taken of them, if a table's tokens can begin with them
 
@@ -116,10 +121,16 @@ front_by one tokens (Some read) is e =
 says : (one : Form) (tokens all : List Token) → takes (after (start one) tokens []) ≡ Some all → Says (table_of one) all tokens []
 says one tokens all e = whole_by one tokens all (after (start one) tokens []) (after_is tokens (start one) [] (tables_are one)) e
 
+none_said : (said : Option (List Token)) → not (is_said said) ≡ true → said ≡ None
+none_said None is = refl
+none_said (Some taken) is = absurd (both_ways false refl is)
+
 -- they are none of any form
-writes_none : (tokens : List Token) → ((one : Form) → takes (after (start one) tokens []) ≡ None) → (statement : Statement) → Writes statement tokens → ⊥
+writes_none : (tokens : List Token) → list_all (λ one. not (is_said (takes (after (start one) tokens [])))) FORMS ≡ true
+    → (statement : Statement) → Writes statement tokens → ⊥
 writes_none tokens none statement (one, all, is, same) =
-    none_by one tokens (after (start one) tokens []) (after_is tokens (start one) [] (tables_are one)) (none one) all is
+    none_by one tokens (after (start one) tokens []) (after_is tokens (start one) [] (tables_are one))
+    (none_said (takes (after (start one) tokens [])) (each_form (λ f. not (is_said (takes (after (start f) tokens [])))) none one)) all is
 
 -- some statement begins with them
 begins : (one : Form) (tokens : List Token) → is_front (after (start one) tokens []) ≡ true → Viable tokens
@@ -131,10 +142,11 @@ not_front one tokens None is e all more h = is all more h
 not_front one tokens (Some read) is e all more h = both_ways true e refl
 
 -- none does
-begins_none : (tokens : List Token) → ((one : Form) → is_front (after (start one) tokens []) ≡ false) → Viable tokens → ⊥
+begins_none : (tokens : List Token) → list_all (λ one. not (is_front (after (start one) tokens []))) FORMS ≡ true → Viable tokens → ⊥
 begins_none tokens none viable =
     let of = form_of tokens viable in
-    not_front of.0 tokens (after (start of.0) tokens []) (after_is tokens (start of.0) [] (tables_are of.0)) (none of.0) of.1.0 of.1.1 of.1.2
+    not_front of.0 tokens (after (start of.0) tokens []) (after_is tokens (start of.0) [] (tables_are of.0))
+    (not-true (is_front (after (start of.0) tokens [])) (each_form (λ f. not (is_front (after (start f) tokens []))) none of.0)) of.1.0 of.1.1 of.1.2
 
 -- INSERT INTO t (a, b) VALUES (1, 'x')
 
@@ -150,30 +162,14 @@ closed_row : Writes (Insert (codes "t") (codes "a" ∷ codes "b" ∷ []) (Number
 closed_row = (form.Insert, _, says form.Insert (insert_front ++ mark 41 ∷ mark 59 ∷ []) _ refl, refl)
 
 open_row : (statement : Statement) → Writes statement insert_front → ⊥
-open_row = writes_none insert_front none
-  where
-    none : (one : Form) → takes (after (start one) insert_front []) ≡ None
-    none form.Insert = refl
-    none form.Update = refl
-    none form.Delete = refl
-    none form.Match = refl
-    none form.Sync = refl
-    none form.List = refl
+open_row = writes_none insert_front refl
 
 open_front : Viable insert_front
 open_front = begins form.Insert insert_front refl
 
 -- INSERT INTO t () ..
 no_column : Viable (name (codes "insert") ∷ name (codes "into") ∷ name (codes "t") ∷ mark 40 ∷ mark 41 ∷ []) → ⊥
-no_column = begins_none (name (codes "insert") ∷ name (codes "into") ∷ name (codes "t") ∷ mark 40 ∷ mark 41 ∷ []) none
-  where
-    none : (one : Form) → is_front (after (start one) (name (codes "insert") ∷ name (codes "into") ∷ name (codes "t") ∷ mark 40 ∷ mark 41 ∷ []) []) ≡ false
-    none form.Insert = refl
-    none form.Update = refl
-    none form.Delete = refl
-    none form.Match = refl
-    none form.Sync = refl
-    none form.List = refl
+no_column = begins_none (name (codes "insert") ∷ name (codes "into") ∷ name (codes "t") ∷ mark 40 ∷ mark 41 ∷ []) refl
 
 -- SELECT FTS_DOC_ID FROM t WHERE MATCH (a) AGAINST ('q' IN BOOLEAN MODE)
 
@@ -190,15 +186,7 @@ match_closed : Writes (Match (codes "t") (codes "a" ∷ []) (codes "q")) (match_
 match_closed = (form.Match, _, says form.Match (match_front ++ mark 41 ∷ mark 59 ∷ []) _ refl, refl)
 
 match_open : (statement : Statement) → Writes statement match_front → ⊥
-match_open = writes_none match_front none
-  where
-    none : (one : Form) → takes (after (start one) match_front []) ≡ None
-    none form.Insert = refl
-    none form.Update = refl
-    none form.Delete = refl
-    none form.Match = refl
-    none form.Sync = refl
-    none form.List = refl
+match_open = writes_none match_front refl
 
 -- SYNC
 
@@ -207,6 +195,28 @@ sync_row = (form.Sync, _, says form.Sync (name (codes "sync") ∷ []) _ refl, re
 
 sync_closed : Writes Sync (name (codes "SYNC") ∷ mark 59 ∷ [])
 sync_closed = (form.Sync, _, says form.Sync (name (codes "SYNC") ∷ mark 59 ∷ []) _ refl, refl)
+
+-- OPTIMIZE TABLE t
+
+abbrev optimize_front : List Token
+optimize_front = name (codes "OPTIMIZE") ∷ name (codes "table") ∷ []
+
+optimize_row : Writes (Optimize (codes "t")) (optimize_front ++ name (codes "t") ∷ [])
+optimize_row = (form.Optimize, _, says form.Optimize (optimize_front ++ name (codes "t") ∷ []) _ refl, refl)
+
+optimize_closed : Writes (Optimize (codes "t")) (optimize_front ++ name (codes "t") ∷ mark 59 ∷ [])
+optimize_closed = (form.Optimize, _, says form.Optimize (optimize_front ++ name (codes "t") ∷ mark 59 ∷ []) _ refl, refl)
+
+-- without a table it is no statement yet, and it may become one
+optimize_open : (statement : Statement) → Writes statement optimize_front → ⊥
+optimize_open = writes_none optimize_front refl
+
+optimize_viable : Viable optimize_front
+optimize_viable = begins form.Optimize optimize_front refl
+
+-- OPTIMIZE t ..
+no_table_without_its_word : Viable (name (codes "optimize") ∷ name (codes "t") ∷ []) → ⊥
+no_table_without_its_word = begins_none (name (codes "optimize") ∷ name (codes "t") ∷ []) refl
 
 -- SELECT * FROM s.v
 
@@ -220,27 +230,11 @@ list_closed : Writes (ListView (codes "s") (codes "V")) (list_front ++ name (cod
 list_closed = (form.List, _, says form.List (list_front ++ name (codes "V") ∷ mark 59 ∷ []) _ refl, refl)
 
 list_open : (statement : Statement) → Writes statement list_front → ⊥
-list_open = writes_none list_front none
-  where
-    none : (one : Form) → takes (after (start one) list_front []) ≡ None
-    none form.Insert = refl
-    none form.Update = refl
-    none form.Delete = refl
-    none form.Match = refl
-    none form.Sync = refl
-    none form.List = refl
+list_open = writes_none list_front refl
 
 -- SELECT * FTS_DOC_ID ..
 no_column_behind : Viable (name (codes "select") ∷ mark 42 ∷ name (codes "fts_doc_id") ∷ []) → ⊥
-no_column_behind = begins_none (name (codes "select") ∷ mark 42 ∷ name (codes "fts_doc_id") ∷ []) none
-  where
-    none : (one : Form) → is_front (after (start one) (name (codes "select") ∷ mark 42 ∷ name (codes "fts_doc_id") ∷ []) []) ≡ false
-    none form.Insert = refl
-    none form.Update = refl
-    none form.Delete = refl
-    none form.Match = refl
-    none form.Sync = refl
-    none form.List = refl
+no_column_behind = begins_none (name (codes "select") ∷ mark 42 ∷ name (codes "fts_doc_id") ∷ []) refl
 
 -- UPDATE t SET a = 'x', b = 'y' WHERE id = 7
 
@@ -260,15 +254,7 @@ update_open = begins form.Update update_front refl
 
 -- UPDATE t SET a = 7 ..
 no_number_is_set : Viable (name (codes "update") ∷ name (codes "t") ∷ name (codes "set") ∷ name (codes "a") ∷ mark 61 ∷ number 7 ∷ []) → ⊥
-no_number_is_set = begins_none (name (codes "update") ∷ name (codes "t") ∷ name (codes "set") ∷ name (codes "a") ∷ mark 61 ∷ number 7 ∷ []) none
-  where
-    none : (one : Form) → is_front (after (start one) (name (codes "update") ∷ name (codes "t") ∷ name (codes "set") ∷ name (codes "a") ∷ mark 61 ∷ number 7 ∷ []) []) ≡ false
-    none form.Insert = refl
-    none form.Update = refl
-    none form.Delete = refl
-    none form.Match = refl
-    none form.Sync = refl
-    none form.List = refl
+no_number_is_set = begins_none (name (codes "update") ∷ name (codes "t") ∷ name (codes "set") ∷ name (codes "a") ∷ mark 61 ∷ number 7 ∷ []) refl
 
 -- DELETE FROM t WHERE id = 7
 
@@ -284,4 +270,104 @@ delete_closed = (
   _,
   says form.Delete (name (codes "delete") ∷ name (codes "FROM") ∷ name (codes "t") ∷ name (codes "where") ∷ name (codes "ID") ∷ mark 61 ∷ number 7 ∷ mark 59 ∷ []) _ refl,
   refl,
+)
+
+-- BEGIN, START TRANSACTION, COMMIT, ROLLBACK
+
+begin_row : Writes Begin (name (codes "Begin") ∷ [])
+begin_row = (form.Begin, _, says form.Begin (name (codes "Begin") ∷ []) _ refl, refl)
+
+start_row : Writes Begin (name (codes "start") ∷ name (codes "TRANSACTION") ∷ mark 59 ∷ [])
+start_row = (form.Start, _, says form.Start (name (codes "start") ∷ name (codes "TRANSACTION") ∷ mark 59 ∷ []) _ refl, refl)
+
+start_open : (statement : Statement) → Writes statement (name (codes "START") ∷ []) → ⊥
+start_open = writes_none (name (codes "START") ∷ []) refl
+
+commit_row : Writes Commit (name (codes "COMMIT") ∷ mark 59 ∷ [])
+commit_row = (form.Commit, _, says form.Commit (name (codes "COMMIT") ∷ mark 59 ∷ []) _ refl, refl)
+
+rollback_row : Writes Rollback (name (codes "rollback") ∷ [])
+rollback_row = (form.Rollback, _, says form.Rollback (name (codes "rollback") ∷ []) _ refl, refl)
+
+-- BEGIN TRANSACTION
+no_begin_of_a_transaction : Viable (name (codes "begin") ∷ name (codes "transaction") ∷ []) → ⊥
+no_begin_of_a_transaction = begins_none (name (codes "begin") ∷ name (codes "transaction") ∷ []) refl
+
+-- 7: ..
+
+numbered_row : Writes Begin (number 7 ∷ mark 58 ∷ name (codes "BEGIN") ∷ [])
+numbered_row = (form.Begin, _, says form.Begin (number 7 ∷ mark 58 ∷ name (codes "BEGIN") ∷ []) _ refl, refl)
+
+-- the key is the statement's number, not the session's
+numbered_delete : Writes (Delete (codes "t") 9)
+    (number 7 ∷ mark 58 ∷ name (codes "delete") ∷ name (codes "from") ∷ name (codes "t") ∷ name (codes "where") ∷ name (codes "id") ∷ mark 61 ∷ number 9 ∷ [])
+numbered_delete = (
+  form.Delete,
+  _,
+  says form.Delete (number 7 ∷ mark 58 ∷ name (codes "delete") ∷ name (codes "from") ∷ name (codes "t") ∷ name (codes "where") ∷ name (codes "id") ∷ mark 61 ∷ number 9 ∷ []) _ refl,
+  refl,
+)
+
+least_number : Viable (number 1 ∷ mark 58 ∷ [])
+least_number = begins form.Sync (number 1 ∷ mark 58 ∷ []) refl
+
+largest_number : Viable (number 65535 ∷ mark 58 ∷ [])
+largest_number = begins form.Sync (number 65535 ∷ mark 58 ∷ []) refl
+
+no_number_above : Viable (number 65536 ∷ []) → ⊥
+no_number_above = begins_none (number 65536 ∷ []) refl
+
+no_number_zero : Viable (number 0 ∷ []) → ⊥
+no_number_zero = begins_none (number 0 ∷ []) refl
+
+-- 7 BEGIN, 7: alone, 7: 8: ..
+no_number_without_its_mark : Viable (number 7 ∷ name (codes "BEGIN") ∷ []) → ⊥
+no_number_without_its_mark = begins_none (number 7 ∷ name (codes "BEGIN") ∷ []) refl
+
+number_alone : (statement : Statement) → Writes statement (number 7 ∷ mark 58 ∷ []) → ⊥
+number_alone = writes_none (number 7 ∷ mark 58 ∷ []) refl
+
+no_two_numbers : Viable (number 7 ∷ mark 58 ∷ number 8 ∷ []) → ⊥
+no_two_numbers = begins_none (number 7 ∷ mark 58 ∷ number 8 ∷ []) refl
+
+-- the sessions of some lines
+
+session_of_a_number : IsSession (codes "\t7 : x") (Some 7)
+session_of_a_number = (numbered_no_blank (codes "\t7 : x") 7 is, inl is)
+  where
+    is : IsNumbered (codes "\t7 : x") 7
+    is = record {
+      before = codes "\t";
+      digits = codes "7";
+      between = codes " ";
+      rest = codes " x";
+      cut = refl;
+      blank_before = refl;
+      blank_between = refl;
+      spelled = (omega arith, refl, refl, omega arith);
+      is = refl;
+    }
+
+session_of_a_comment : IsSession (codes " -- 7:") None
+session_of_a_comment = inr (codes " ", codes " 7:", refl, refl)
+
+session_without_a_mark : IsSession (codes "7 B") (Some 1)
+session_without_a_mark = (
+  not_blank (codes "7 B") [] (codes "7 B") (record { cut = refl; passes = refl; ends = refl }) (λ e. omega (arith, e)) refl,
+  inr (
+    refl,
+    not_marked (codes "7 B") [] (codes "7 B") (codes "7") (codes " B") (codes " ") (codes "B") (record { cut = refl; passes = refl; ends = refl })
+        (record { cut = refl; passes = refl; ends = refl }) (record { cut = refl; passes = refl; ends = refl })
+        (λ after e. both_ways false refl (ap (begins_with (λ b. b == 58)) e)),
+  ),
+)
+
+session_of_a_large_number : IsSession (codes "65536:B") (Some 1)
+session_of_a_large_number = (
+  not_blank (codes "65536:B") [] (codes "65536:B") (record { cut = refl; passes = refl; ends = refl }) (λ e. omega (arith, e)) refl,
+  inr (
+    refl,
+    not_numbered (codes "65536:B") [] (codes "65536:B") (codes "65536") (codes ":B") [] (codes ":B") None (record { cut = refl; passes = refl; ends = refl })
+        (record { cut = refl; passes = refl; ends = refl }) (record { cut = refl; passes = refl; ends = refl }) refl,
+  ),
 )

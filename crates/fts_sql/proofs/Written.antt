@@ -1,17 +1,20 @@
 -- The forms of statement: tokens are of one form, and take one list.
-use Rattle.std.proofs.Common.{◌≡◌, ◌⊎◌, inl, inr, ℕ, zero, suc, ◌+◌, ◌<◌, ◌≤◌, ◌==◌, true, false, List, [], ◌∷◌, ◌++◌, length, take, drop, get_or, refl, sym, ap, ◌∙◌, subst, arith}
-use Rattle.std.proofs.lemmas.Bool.{both_ways, cases_Bool, eqb-true, eqb-false}
+use Rattle.std.proofs.Common.{◌≡◌, ◌⊎◌, inl, inr, ℕ, zero, suc, ◌+◌, ◌<◌, ◌≤◌, ◌==◌, Bool, true, false, ◌||◌, not, List, [], ◌∷◌, ◌++◌, length, take, drop, get_or, refl, sym, ap, ◌∙◌, subst, arith}
+use Rattle.std.specs.List.{list_all}
+use Rattle.std.proofs.lemmas.Bool.{both_ways, cases_Bool, eqb-true, eqb-false, not-true}
+use Rattle.std.proofs.lemmas.List.Folds.{list_all_at}
 use Rattle.std.proofs.lemmas.List.{append_assoc, append-nil, take-append-drop}
 use Rattle.fts_sql.specs.Token.{Token}
 use Rattle.fts_sql.specs.declared.statement.Statement.{Statement}
 use Rattle.fts_sql.specs.declared.form.Form.{Form}
 use Rattle.fts_sql.specs.declared.form.Form.TheVariants as form
 use Rattle.fts_sql.specs.declared.form.TheConstants.{FORMS}
-use Rattle.fts_sql.specs.Table.{Says, Part}
+use Rattle.fts_sql.specs.declared.piece.Piece.TheVariants.{Mark, Session}
+use Rattle.fts_sql.specs.Table.{Says, Part, Optional}
 use Rattle.fts_sql.specs.Statement.{table_of, statement_of, Writes}
 use Rattle.fts_sql.specs.Fault.{Viable}
-use Rattle.fts_sql.specs.Reader.{is_table, Begins, IsReached, IsFurthest}
-use Rattle.fts_sql.proofs.Tables.{one_taken, no_tokens, spot_completes, are_parted, parted}
+use Rattle.fts_sql.specs.Reader.{is_table, can_end, Begins, IsReached, IsFurthest}
+use Rattle.fts_sql.proofs.Tables.{one_taken, spot_completes, spot_end, are_parted, parted_behind}
 
 -- each form is one of the list
 
@@ -21,7 +24,12 @@ place_of form.Update = 1
 place_of form.Delete = 2
 place_of form.Match = 3
 place_of form.Sync = 4
-place_of form.List = 5
+place_of form.Optimize = 5
+place_of form.List = 6
+place_of form.Begin = 7
+place_of form.Start = 8
+place_of form.Commit = 9
+place_of form.Rollback = 10
 
 pub is_listed : (one : Form) (d : Form) → (place_of one < length FORMS) × (get_or FORMS (place_of one) d ≡ one)
 is_listed form.Insert d = (omega arith, refl)
@@ -29,61 +37,68 @@ is_listed form.Update d = (omega arith, refl)
 is_listed form.Delete d = (omega arith, refl)
 is_listed form.Match d = (omega arith, refl)
 is_listed form.Sync d = (omega arith, refl)
+is_listed form.Optimize d = (omega arith, refl)
 is_listed form.List d = (omega arith, refl)
+is_listed form.Begin d = (omega arith, refl)
+is_listed form.Start d = (omega arith, refl)
+is_listed form.Commit d = (omega arith, refl)
+is_listed form.Rollback d = (omega arith, refl)
+
+-- what holds of each of the list holds of each form
+pub each_form : (test : Form → Bool) → list_all test FORMS ≡ true → (one : Form) → test one ≡ true
+each_form test all one =
+    let listed = is_listed one one in
+    elim (cases_Bool (test (get_or FORMS (place_of one) one))) [
+      | inl is ↦ subst (λ f. test f ≡ true) listed.1 is
+      | inr isnt ↦ absurd (both_ways (list_all test FORMS) (list_all_at test FORMS (place_of one) one listed.0 isnt) all)
+    ]
 
 -- each table can be read from the left
 pub tables_are : (one : Form) → is_table (table_of one) ≡ true
-tables_are form.Insert = refl
-tables_are form.Update = refl
-tables_are form.Delete = refl
-tables_are form.Match = refl
-tables_are form.Sync = refl
-tables_are form.List = refl
+tables_are = each_form (λ one. is_table (table_of one)) refl
 
--- two of them part
-one_or_parted : (one other : Form) → (one ≡ other) ⊎ (are_parted (table_of one) (table_of other) ≡ true)
-one_or_parted form.Insert form.Insert = inl refl
-one_or_parted form.Insert form.Update = inr refl
-one_or_parted form.Insert form.Delete = inr refl
-one_or_parted form.Insert form.Match = inr refl
-one_or_parted form.Insert form.Sync = inr refl
-one_or_parted form.Insert form.List = inr refl
-one_or_parted form.Update form.Insert = inr refl
-one_or_parted form.Update form.Update = inl refl
-one_or_parted form.Update form.Delete = inr refl
-one_or_parted form.Update form.Match = inr refl
-one_or_parted form.Update form.Sync = inr refl
-one_or_parted form.Update form.List = inr refl
-one_or_parted form.Delete form.Insert = inr refl
-one_or_parted form.Delete form.Update = inr refl
-one_or_parted form.Delete form.Delete = inl refl
-one_or_parted form.Delete form.Match = inr refl
-one_or_parted form.Delete form.Sync = inr refl
-one_or_parted form.Delete form.List = inr refl
-one_or_parted form.Match form.Insert = inr refl
-one_or_parted form.Match form.Update = inr refl
-one_or_parted form.Match form.Delete = inr refl
-one_or_parted form.Match form.Match = inl refl
-one_or_parted form.Match form.Sync = inr refl
-one_or_parted form.Match form.List = inr refl
-one_or_parted form.Sync form.Insert = inr refl
-one_or_parted form.Sync form.Update = inr refl
-one_or_parted form.Sync form.Delete = inr refl
-one_or_parted form.Sync form.Match = inr refl
-one_or_parted form.Sync form.Sync = inl refl
-one_or_parted form.Sync form.List = inr refl
-one_or_parted form.List form.Insert = inr refl
-one_or_parted form.List form.Update = inr refl
-one_or_parted form.List form.Delete = inr refl
-one_or_parted form.List form.Match = inr refl
-one_or_parted form.List form.Sync = inr refl
-one_or_parted form.List form.List = inl refl
+-- each begins with a session's number, or without
+abbrev behind_session : Form → List Part
+behind_session one = drop 1 (table_of one)
+
+abbrev may_be_numbered : List Part → List Part
+may_be_numbered parts = Optional (Session ∷ Mark 58 ∷ []) ∷ parts
+
+numbered_or_not : (one : Form) → table_of one ≡ may_be_numbered (behind_session one)
+numbered_or_not form.Insert = refl
+numbered_or_not form.Update = refl
+numbered_or_not form.Delete = refl
+numbered_or_not form.Match = refl
+numbered_or_not form.Sync = refl
+numbered_or_not form.Optimize = refl
+numbered_or_not form.List = refl
+numbered_or_not form.Begin = refl
+numbered_or_not form.Start = refl
+numbered_or_not form.Commit = refl
+numbered_or_not form.Rollback = refl
+
+-- two of them part behind it
+abbrev are_one_or_parted : Form → Form → Bool
+are_one_or_parted one other = (place_of one == place_of other) || are_parted (behind_session one) (behind_session other)
+
+one_or_parted : (one other : Form) → (one ≡ other) ⊎ (are_parted (behind_session one) (behind_session other) ≡ true)
+one_or_parted one other =
+    let either = each_form (are_one_or_parted one) (each_form (λ f. list_all (are_one_or_parted f) FORMS) refl one) other in
+    elim (cases_Bool (place_of one == place_of other)) [
+      | inl same ↦ inl (sym (is_listed one one).1 ∙ ap (λ n. get_or FORMS n one) (eqb-true (place_of one) (place_of other) same) ∙ (is_listed other one).1)
+      | inr apart ↦ inr (sym (ap (λ b. b || are_parted (behind_session one) (behind_session other)) apart) ∙ either)
+    ]
 
 one_form : (tokens : List Token) (one other : Form) (a b : List Token) → Says (table_of one) a tokens [] → Says (table_of other) b tokens [] → one ≡ other
 one_form tokens one other a b h k =
     elim (one_or_parted one other) [
       | inl same ↦ same
-      | inr apart ↦ absurd (parted (table_of one) (table_of other) apart a b tokens [] [] h k)
+      | inr apart ↦ (
+          let e = numbered_or_not one in
+          let f = numbered_or_not other in
+          absurd (parted_behind Session (Mark 58 ∷ []) (behind_session one) (behind_session other)
+          (ap is_table (sym e) ∙ tables_are one) (ap is_table (sym f) ∙ tables_are other) apart a b tokens [] []
+          (subst (λ parts. Says parts a tokens []) e h) (subst (λ parts. Says parts b tokens []) f k)))
     ]
 
 -- tokens write one statement
@@ -120,12 +135,9 @@ viable_nothing =
 
 -- no tokens write no statement
 pub none_written : (statement : Statement) → Writes statement [] → ⊥
-none_written statement (form.Insert, all, (t, more, e, is, says), same) = no_tokens t more (sym e)
-none_written statement (form.Update, all, (t, more, e, is, says), same) = no_tokens t more (sym e)
-none_written statement (form.Delete, all, (t, more, e, is, says), same) = no_tokens t more (sym e)
-none_written statement (form.Match, all, (t, more, e, is, says), same) = no_tokens t more (sym e)
-none_written statement (form.Sync, all, (t, more, e, is, says), same) = no_tokens t more (sym e)
-none_written statement (form.List, all, (t, more, e, is, says), same) = no_tokens t more (sym e)
+none_written statement (one, all, says, same) =
+    let ends = ((spot_end [] (table_of one) (tables_are one) all []).0 says).0 in
+    both_ways (can_end (table_of one)) (not-true (can_end (table_of one)) (each_form (λ f. not (can_end (table_of f))) refl one)) ends
 
 take_take : (k m : ℕ) (tokens : List Token) → k ≤ m → take k (take m tokens) ≡ take k tokens
 take_take zero m tokens less = refl

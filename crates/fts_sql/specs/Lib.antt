@@ -2,6 +2,7 @@ pub mod Token
 pub mod Line
 pub mod Table
 pub mod Statement
+pub mod Session
 pub mod Fault
 pub mod Reading
 pub mod Reader

@@ -9,7 +9,7 @@ use Rattle.fts_sql.specs.Reading.{token_of}
 use Rattle.fts_sql.specs.Statement.{tokens_in, IsStatement, Writes, table_of}
 use Rattle.fts_sql.specs.Table.{letters, is_piece, Are, Says, Part, Once, Optional, Repeated, parts_of}
 use Rattle.fts_sql.specs.declared.piece.Piece.{Piece}
-use Rattle.fts_sql.specs.declared.piece.Piece.TheVariants.{Keyword, Mark}
+use Rattle.fts_sql.specs.declared.piece.Piece.TheVariants.{Keyword, Mark, Session}
 use Rattle.fts_sql.specs.declared.line.Placed as code
 use Rattle.fts_sql.specs.declared.reader.Step.{Step}
 use Rattle.fts_sql.specs.declared.reader.Place as code_place
@@ -30,6 +30,7 @@ are_apart (Keyword word) (Keyword other) = not (str_eq_ignore_ascii_case (letter
 are_apart (Keyword word) (Mark b) = true
 are_apart (Mark b) (Keyword word) = true
 are_apart (Mark b) (Mark c) = not (b == c)
+are_apart Session (Keyword word) = true
 are_apart piece other = false
 
 -- the pieces that tokens of these parts can begin with
@@ -40,7 +41,7 @@ first_of (piece ∷ pieces) = piece ∷ []
 abbrev pub firsts : List Part → List Piece
 firsts [] = []
 firsts (Once piece ∷ parts) = piece ∷ []
-firsts (Optional piece ∷ parts) = piece ∷ firsts parts
+firsts (Optional pieces ∷ parts) = first_of pieces ++ firsts parts
 firsts (Repeated pieces ∷ parts) = first_of pieces ++ firsts parts
 
 -- whether the first token tells these pieces from what may follow them
@@ -52,7 +53,7 @@ are_told (piece ∷ pieces) others = list_all (are_apart piece) others
 abbrev pub is_table : List Part → Bool
 is_table [] = true
 is_table (Once piece ∷ parts) = is_table parts
-is_table (Optional piece ∷ parts) = are_told (piece ∷ []) (firsts parts) && is_table parts
+is_table (Optional pieces ∷ parts) = are_told pieces (firsts parts) && is_table parts
 is_table (Repeated pieces ∷ parts) = are_told pieces (firsts parts) && is_table parts
 
 -- a place in a table: the pieces that are left of a part, and the parts behind it
@@ -81,7 +82,7 @@ or_else (Some step) other = Some step
 abbrev pub enter : List Part → Token → Option (Piece × Spot)
 enter [] token = None
 enter (Once piece ∷ parts) token = begin (piece ∷ []) parts token
-enter (Optional piece ∷ parts) token = or_else (begin (piece ∷ []) parts token) (enter parts token)
+enter (Optional pieces ∷ parts) token = or_else (begin pieces parts token) (enter parts token)
 enter (Repeated pieces ∷ parts) token = or_else (begin pieces (Repeated pieces ∷ parts) token) (enter parts token)
 
 -- of one that stands at a place
@@ -96,7 +97,7 @@ step_of step = (step.piece, spot_of step.place)
 abbrev pub can_end : List Part → Bool
 can_end [] = true
 can_end (Once piece ∷ parts) = false
-can_end (Optional piece ∷ parts) = can_end parts
+can_end (Optional pieces ∷ parts) = can_end parts
 can_end (Repeated pieces ∷ parts) = can_end parts
 
 -- whether they can end at a place

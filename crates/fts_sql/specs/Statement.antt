@@ -2,11 +2,12 @@ use Rattle.std.specs.Prelude.{◌≡◌, ℕ, List, [], ◌∷◌, drop}
 use Rattle.fts_sql.specs.declared.value.Value.{Value}
 use Rattle.fts_sql.specs.declared.value.Value.TheVariants.{Number, Text}
 use Rattle.fts_sql.specs.declared.statement.Statement.{Statement}
-use Rattle.fts_sql.specs.declared.statement.Statement.TheVariants.{Insert, Update, Delete, Match, Sync}
-use Rattle.fts_sql.specs.declared.statement.Statement.TheVariants.{List as ListView}
+use Rattle.fts_sql.specs.declared.statement.Statement.TheVariants.{Insert, Update, Delete, Match, Sync, Optimize}
+use Rattle.fts_sql.specs.declared.statement.Statement.TheVariants.{List as ListView, Begin, Commit, Rollback}
 use Rattle.fts_sql.specs.declared.form.Form.{Form}
 use Rattle.fts_sql.specs.declared.form.Form.TheVariants as form
-use Rattle.fts_sql.specs.declared.form.TheConstants.{INSERT, UPDATE, DELETE, MATCH, SYNC, LIST}
+use Rattle.fts_sql.specs.declared.form.TheConstants.{INSERT, UPDATE, DELETE, MATCH, SYNC, OPTIMIZE, LIST}
+use Rattle.fts_sql.specs.declared.form.TheConstants.{BEGIN, START, COMMIT, ROLLBACK}
 use Rattle.fts_sql.specs.Token.{Token, name, number, string, mark}
 use Rattle.fts_sql.specs.Line.{Placed, placed, whole, Reads}
 use Rattle.fts_sql.specs.Table.{Says, Part, parts_of}
@@ -63,7 +64,12 @@ table_of form.Update = parts_of UPDATE
 table_of form.Delete = parts_of DELETE
 table_of form.Match = parts_of MATCH
 table_of form.Sync = parts_of SYNC
+table_of form.Optimize = parts_of OPTIMIZE
 table_of form.List = parts_of LIST
+table_of form.Begin = parts_of BEGIN
+table_of form.Start = parts_of START
+table_of form.Commit = parts_of COMMIT
+table_of form.Rollback = parts_of ROLLBACK
 
 -- the statement of a form that takes these tokens
 abbrev pub statement_of : Form → List Token → Statement
@@ -73,7 +79,12 @@ statement_of form.Update taken =
 statement_of form.Delete taken = Delete (first_name taken) (first_number taken)
 statement_of form.Match taken = Match (first_name taken) (names_in (drop 1 taken)) (first_string taken)
 statement_of form.Sync taken = Sync
+statement_of form.Optimize taken = Optimize (first_name taken)
 statement_of form.List taken = ListView (first_name taken) (first_name (drop 1 taken))
+statement_of form.Begin taken = Begin
+statement_of form.Start taken = Begin
+statement_of form.Commit taken = Commit
+statement_of form.Rollback taken = Rollback
 
 -- the tokens write the statement
 abbrev pub Writes : Statement → List Token → Type 0

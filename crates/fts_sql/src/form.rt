@@ -11,8 +11,8 @@ use crate::copy::{
     first_number, first_string,
 };
 use crate::line::Placed;
-use crate::piece::Part::{self, Fours, Once, Optional, Pairs};
-use crate::piece::Piece::{Keyword, Mark, Name, Number, String, Value};
+use crate::piece::Part::{self, Fours, Once, Optional, OptionalPair, Pairs};
+use crate::piece::Piece::{Keyword, Mark, Name, Number, Session, String, Value};
 use crate::reader::{Reached, read};
 use crate::statement::Statement;
 use crate::token::Token;
@@ -27,21 +27,35 @@ pub enum Form {
     Delete,
     Match,
     Sync,
+    Optimize,
     List,
+    Begin,
+    Start,
+    Commit,
+    Rollback,
 }
 
 /// The forms that there are.
-pub const FORMS: [Form; 6] = [
+pub const FORMS: [Form; 11] = [
     Form::Insert,
     Form::Update,
     Form::Delete,
     Form::Match,
     Form::Sync,
+    Form::Optimize,
     Form::List,
+    Form::Begin,
+    Form::Start,
+    Form::Commit,
+    Form::Rollback,
 ];
 
+/// `[ number : ]`, with which each statement may begin
+const SESSION: Part = OptionalPair([Session, Mark(b':')]);
+
 /// `INSERT INTO table (column, ..) VALUES (value, ..)`
-pub const INSERT: [Part; 13] = [
+pub const INSERT: [Part; 14] = [
+    SESSION,
     Once(Keyword(Word::Insert)),
     Once(Keyword(Word::Into)),
     Once(Name),
@@ -58,7 +72,8 @@ pub const INSERT: [Part; 13] = [
 ];
 
 /// `UPDATE table SET column = 'text', .. WHERE id = key`
-pub const UPDATE: [Part; 12] = [
+pub const UPDATE: [Part; 13] = [
+    SESSION,
     Once(Keyword(Word::Update)),
     Once(Name),
     Once(Keyword(Word::Set)),
@@ -74,7 +89,8 @@ pub const UPDATE: [Part; 12] = [
 ];
 
 /// `DELETE FROM table WHERE id = key`
-pub const DELETE: [Part; 8] = [
+pub const DELETE: [Part; 9] = [
+    SESSION,
     Once(Keyword(Word::Delete)),
     Once(Keyword(Word::From)),
     Once(Name),
@@ -86,7 +102,8 @@ pub const DELETE: [Part; 8] = [
 ];
 
 /// `SELECT FTS_DOC_ID FROM table WHERE MATCH (column, ..) AGAINST ('query' IN BOOLEAN MODE)`
-pub const MATCH: [Part; 18] = [
+pub const MATCH: [Part; 19] = [
+    SESSION,
     Once(Keyword(Word::Select)),
     Once(Keyword(Word::FtsDocId)),
     Once(Keyword(Word::From)),
@@ -108,10 +125,20 @@ pub const MATCH: [Part; 18] = [
 ];
 
 /// `SYNC`
-pub const SYNC: [Part; 2] = [Once(Keyword(Word::Sync)), Optional(Mark(b';'))];
+pub const SYNC: [Part; 3] = [SESSION, Once(Keyword(Word::Sync)), Optional(Mark(b';'))];
+
+/// `OPTIMIZE TABLE table`
+pub const OPTIMIZE: [Part; 5] = [
+    SESSION,
+    Once(Keyword(Word::Optimize)),
+    Once(Keyword(Word::Table)),
+    Once(Name),
+    Optional(Mark(b';')),
+];
 
 /// `SELECT * FROM schema.view`
-pub const LIST: [Part; 7] = [
+pub const LIST: [Part; 8] = [
+    SESSION,
     Once(Keyword(Word::Select)),
     Once(Mark(b'*')),
     Once(Keyword(Word::From)),
@@ -120,6 +147,23 @@ pub const LIST: [Part; 7] = [
     Once(Name),
     Optional(Mark(b';')),
 ];
+
+/// `BEGIN`
+pub const BEGIN: [Part; 3] = [SESSION, Once(Keyword(Word::Begin)), Optional(Mark(b';'))];
+
+/// `START TRANSACTION`
+pub const START: [Part; 4] = [
+    SESSION,
+    Once(Keyword(Word::Start)),
+    Once(Keyword(Word::Transaction)),
+    Optional(Mark(b';')),
+];
+
+/// `COMMIT`
+pub const COMMIT: [Part; 3] = [SESSION, Once(Keyword(Word::Commit)), Optional(Mark(b';'))];
+
+/// `ROLLBACK`
+pub const ROLLBACK: [Part; 3] = [SESSION, Once(Keyword(Word::Rollback)), Optional(Mark(b';'))];
 
 impl Form {
     /// How far the tokens are those of the form.
@@ -133,7 +177,12 @@ impl Form {
             Form::Delete => read(alloc, &DELETE, tokens),
             Form::Match => read(alloc, &MATCH, tokens),
             Form::Sync => read(alloc, &SYNC, tokens),
+            Form::Optimize => read(alloc, &OPTIMIZE, tokens),
             Form::List => read(alloc, &LIST, tokens),
+            Form::Begin => read(alloc, &BEGIN, tokens),
+            Form::Start => read(alloc, &START, tokens),
+            Form::Commit => read(alloc, &COMMIT, tokens),
+            Form::Rollback => read(alloc, &ROLLBACK, tokens),
         }
     }
 
@@ -164,10 +213,16 @@ impl Form {
                 query: copy_unquoted(alloc, first_string(taken))?,
             }),
             Form::Sync => Ok(Statement::Sync),
+            Form::Optimize => Ok(Statement::Optimize {
+                table: copy_first_name(alloc, taken)?,
+            }),
             Form::List => Ok(Statement::List {
                 schema: copy_first_name(alloc, taken)?,
                 view: copy_first_name(alloc, behind_first(taken))?,
             }),
+            Form::Begin | Form::Start => Ok(Statement::Begin),
+            Form::Commit => Ok(Statement::Commit),
+            Form::Rollback => Ok(Statement::Rollback),
         }
     }
 }

@@ -3,7 +3,7 @@
 //!
 //! `parse_statement(alloc, b"SELECT ..")?` gives the statement, or none of a blank line; a line at
 //! fault is `ParseError::Syntax { at }`, with the place from 1. `docs/LANGUAGE.md`, "Statements",
-//! has the grammar.
+//! has the grammar. `session_of(line)` gives the session that a line counts for.
 //!
 //! A line is read once from the left, and one at fault once more.
 #![tactic(auto)]
@@ -17,6 +17,7 @@ mod piece;
 mod place;
 mod reader;
 mod run;
+mod session;
 mod statement;
 mod token;
 mod value;
@@ -24,6 +25,7 @@ mod values;
 mod word;
 
 pub use parse::parse_statement;
+pub use session::session_of;
 pub use statement::{ParseError, Statement};
 pub use value::Value;
 pub use values::Values;

@@ -38,7 +38,7 @@ pub fn parse_statement(alloc: Global, line: &[u8]) -> Result<Option<Statement>, 
 }
 
 /// Whether the line is white space alone, or a comment.
-fn is_blank(line: &[u8]) -> bool
+pub fn is_blank(line: &[u8]) -> bool
     ensures { IsTrue result ↔ IsBlank line.now }
 {
     let text = skip_blanks(line);

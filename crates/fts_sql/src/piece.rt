@@ -1,6 +1,6 @@
 ghost use Rattle.std.specs.Prelude.{◌≡◌, map, OnOk};
 ghost use Rattle.fts_sql.specs.Reading.{token_of};
-ghost use Rattle.fts_sql.specs.Table.{is_piece, taken_by};
+ghost use Rattle.fts_sql.specs.Table.{is_session, is_piece, taken_by};
 
 use crate::token::Token;
 use crate::word::Word;
@@ -21,6 +21,8 @@ pub enum Piece {
     String,
     /// A number or a string.
     Value,
+    /// The number of a session: 1 to 65,535.
+    Session,
 }
 
 /// A part of a table. Whether one is left out or comes again is told by the first of its pieces.
@@ -30,6 +32,8 @@ pub enum Part {
     Once(Piece),
     /// This piece, or nothing.
     Optional(Piece),
+    /// These two pieces, or nothing.
+    OptionalPair([Piece; 2]),
     /// These two pieces, as often as one likes.
     Pairs([Piece; 2]),
     /// These four pieces, as often as one likes.
@@ -48,20 +52,28 @@ impl Piece {
             (Piece::Number, Token::Number(_)) => true,
             (Piece::String, Token::String(_)) => true,
             (Piece::Value, Token::Number(_) | Token::String(_)) => true,
+            (Piece::Session, Token::Number(number)) => is_session(*number),
             _ => false,
         }
     }
 
     /// Puts the token behind those that are taken, if a statement takes what stands there: all but
-    /// keywords and marks.
+    /// keywords, marks and a session's number.
     pub fn take<'l>(&self, taken: &mut Vec<Token<'l>>, token: Token<'l>) -> Result<(), AllocError>
         ensures { OnOk result (map token_of taken.new.items
             ≡ taken_by self.now (token_of token.entry) (map token_of taken.old.items)) }
     {
         match self {
-            Piece::Keyword(_) | Piece::Mark(_) => {}
+            Piece::Keyword(_) | Piece::Mark(_) | Piece::Session => {}
             Piece::Name | Piece::Number | Piece::String | Piece::Value => taken.push(token)?,
         }
         Ok(())
     }
+}
+
+/// Whether the number is one of a session.
+pub fn is_session(number: u64) -> bool
+    ensures { result ≡ is_session number }
+{
+    1 <= number && number <= 65_535
 }

@@ -77,6 +77,10 @@ fn enter<'g>(ahead: &'g [Part], token: &Token) -> Option<Step<'g>>
             Some(step) => Some(step),
             None => enter(rest, token),
         },
+        Part::OptionalPair(pieces) => match begin(pieces, rest, token) {
+            Some(step) => Some(step),
+            None => enter(rest, token),
+        },
         Part::Pairs(pieces) => match begin(pieces, ahead, token) {
             Some(step) => Some(step),
             None => enter(rest, token),

@@ -35,11 +35,21 @@ pub enum Statement {
     },
     /// `SYNC`
     Sync,
+    /// `OPTIMIZE TABLE table`
+    Optimize {
+        table: Text,
+    },
     /// `SELECT * FROM schema.view`
     List {
         schema: Text,
         view: Text,
     },
+    /// `BEGIN`, or `START TRANSACTION`
+    Begin,
+    /// `COMMIT`
+    Commit,
+    /// `ROLLBACK`
+    Rollback,
 }
 
 /// Why there is no statement.

@@ -69,7 +69,7 @@ fn next_number(bytes: &[u8]) -> Next
 }
 
 /// The number that the digits write, if it is below 2^64.
-fn number_of(digits: &[u8]) -> Option<u64>
+pub fn number_of(digits: &[u8]) -> Option<u64>
     requires { list_all is_ascii_digit digits.now ≡ true }
     ensures { SomeIff result (digits_value 10 digits.now < 2 ^ 64) (digits_value 10 digits.now) }
 {

@@ -1,5 +1,5 @@
 -- What steps add to the commits and to the entries, and what they leave of the two logs.
-use Rattle.std.proofs.Common.{◌≡◌, ℕ, List, [], ◌∷◌, ◌++◌, refl, ap, ap₂, subst, sym, ◌∙◌, append_assoc, inl, inr}
+use Rattle.std.proofs.Common.{◌≡◌, ℕ, List, [], ◌∷◌, ◌++◌, refl, ap, ap₂, subst, sym, ◌∙◌, append_assoc}
 use Rattle.std.proofs.lemmas.List.{append-nil}
 use Rattle.std.specs.Prelude.{Option, Some, None}
 use Rattle.fts_types.specs.declared.limits.Limits.{Limits}
@@ -8,10 +8,12 @@ use Rattle.fts_commits.specs.Commit.{Commit}
 use Rattle.fts_entries.specs.Entry.{IndexEntry}
 use Rattle.fts_disk.specs.Device.{Files}
 use Rattle.fts_steps.specs.State.{State, with_commits, with_entries, IsRows, IsIndex}
-use Rattle.fts_steps.specs.Running.{Running, What, made, batched, failed, loosened, Entry, with_what, grown, next_batch, IsSure}
+use Rattle.std.specs.Prelude.{IsTrue}
+use Rattle.fts_steps.specs.declared.optimize.OptimizeStep.TheVariants.{Began, Word, Finished, Nothing}
+use Rattle.fts_steps.specs.Running.{Running, What, made, batched, optimized, failed, batch_failed, optimize_failed, Entry, with_what, grown, next_batch, next_optimized, IsSure}
 use Rattle.fts_steps.specs.Crash.{IsBetween, IsIndexBetween}
-use Rattle.fts_steps.specs.Step.{Ask, to_commit, to_sync, to_view, to_find, to_list, to_measure, Answer, committed, refused, full, flushed, all_flushed, viewed, found, listed, measured}
-use Rattle.fts_steps.specs.Step.{disk_fault, stopped, no_memory, unless_stopped, Writes, MayAnswer}
+use Rattle.fts_steps.specs.Step.{Ask, to_commit, to_sync, to_optimize, to_view, to_find, to_list, to_measure, Answer, committed, refused, full, flushed, all_flushed, passed, viewed, found, listed, measured}
+use Rattle.fts_steps.specs.Step.{disk_fault, stopped, no_memory, unless_stopped, writes, MayAnswer}
 use Rattle.fts_steps.specs.Step.{Call, Sight, Leaves, after, after_call, after_all, entries_of, Follows, AreAlone}
 use Rattle.fts_steps.proofs.Growing.{entries_stay}
 use Rattle.fts_steps.proofs.Leaving.{leaves_more}
@@ -71,8 +73,14 @@ grown_by running batched = record {
   entries = next_batch running ∷ [];
   same = ap (λ (commits : List Commit). of_parts running.state.settings commits (running.state.entries ++ next_batch running ∷ [])) (sym (append-nil running.state.commits));
 }
+grown_by running optimized = record {
+  commits = [];
+  entries = next_optimized running;
+  same = ap (λ (commits : List Commit). of_parts running.state.settings commits (running.state.entries ++ next_optimized running)) (sym (append-nil running.state.commits));
+}
 grown_by running (failed faults doubt) = grown_none running.state
-grown_by running (loosened faults) = grown_none running.state
+grown_by running (batch_failed faults) = grown_none running.state
+grown_by running (optimize_failed faults) = grown_none running.state
 
 grown_all : (running : Running) (entries : List Entry) → Grown running.state (grown running entries).state
 grown_all running [] = grown_none running.state
@@ -96,7 +104,9 @@ sure_by : (running : Running) (what : What) → IsSure running → IsSure (with_
 sure_by running (made commit) sure = sure
 sure_by running batched sure = sure
 sure_by running (failed faults doubt) sure = λ e. absurd (let no : ◌≡◌ {A = Option ℕ} (Some faults) None = e in cc)
-sure_by running (loosened faults) sure = λ e. absurd (let no : ◌≡◌ {A = Option ℕ} (Some faults) None = e in cc)
+sure_by running optimized sure = sure
+sure_by running (batch_failed faults) sure = λ e. absurd (let no : ◌≡◌ {A = Option ℕ} (Some faults) None = e in cc)
+sure_by running (optimize_failed faults) sure = λ e. absurd (let no : ◌≡◌ {A = Option ℕ} (Some faults) None = e in cc)
 
 sure_all : (running : Running) (entries : List Entry) → IsSure running → IsSure (grown running entries)
 sure_all running [] sure = sure
@@ -142,30 +152,26 @@ adds_more old mid new first behind = record {
   index = behind.index ∙ ap (λ (all : List IndexEntry). all ++ behind.entries) first.index ∙ append_assoc (all_entries old) first.entries behind.entries;
 }
 
--- what is in doubt behind the last is the last itself where nothing was in doubt
-last_sure : {A : Type 0} (all doubt : List A) (last : A) → doubt ≡ [] → (all ++ doubt) ++ last ∷ [] ≡ all ++ last ∷ []
-last_sure {A} all doubt last sure = ap (λ (rest : List A). (all ++ rest) ++ last ∷ []) sure ∙ ap (λ (front : List A). front ++ last ∷ []) (append-nil all)
+-- what is in doubt behind more is that itself where nothing was in doubt
+more_sure : {A : Type 0} (all doubt more : List A) → doubt ≡ [] → (all ++ doubt) ++ more ≡ all ++ more
+more_sure {A} all doubt more sure = ap (λ (rest : List A). (all ++ rest) ++ more) sure ∙ ap (λ (front : List A). front ++ more) (append-nil all)
 
-push_sure : {A : Type 0} (all doubt : List A) (last : A) → doubt ≡ [] → (all ++ last ∷ []) ++ doubt ≡ (all ++ doubt) ++ last ∷ []
-push_sure {A} all doubt last sure = ap (λ (rest : List A). (all ++ last ∷ []) ++ rest) sure ∙ append-nil (all ++ last ∷ []) ∙ sym (last_sure all doubt last sure)
+push_sure : {A : Type 0} (all doubt more : List A) → doubt ≡ [] → (all ++ more) ++ doubt ≡ (all ++ doubt) ++ more
+push_sure {A} all doubt more sure = ap (λ (rest : List A). (all ++ more) ++ rest) sure ∙ append-nil (all ++ more) ∙ sym (more_sure all doubt more sure)
 
 -- a step that wrote was not stopped
-committed_goes : (stop : Option ℕ) (answer : Answer) (number : ℕ) → unless_stopped stop answer ≡ committed number → stop ≡ None
-committed_goes None answer number is = refl
-committed_goes (Some faults) answer number is = absurd cc
+writes_goes : (stop : Option ℕ) (answer : Answer) → IsTrue (writes (unless_stopped stop answer)) → stop ≡ None
+writes_goes None answer is = refl
+writes_goes (Some faults) answer is = absurd cc
 
-flushed_goes : (stop : Option ℕ) (answer : Answer) (through commits : ℕ) → unless_stopped stop answer ≡ flushed through commits → stop ≡ None
-flushed_goes None answer through commits is = refl
-flushed_goes (Some faults) answer through commits is = absurd cc
-
-writes_goes : (running : Running) (stop : Option ℕ) (answer : Answer) → Writes running (unless_stopped stop answer) → stop ≡ None
-writes_goes running stop answer (inl is) = committed_goes stop answer _ is
-writes_goes running stop answer (inr is) = flushed_goes stop answer _ _ is
+-- as it tells by its answer
+told_goes : (stop : Option ℕ) (answer told : Answer) → unless_stopped stop answer ≡ told → IsTrue (writes told) → stop ≡ None
+told_goes stop answer told is wrote = writes_goes stop answer (subst (λ (a : Answer). IsTrue (writes a)) (sym is) wrote)
 
 adds_commit : (running : Running) (commit : Commit) → running.doubt ≡ [] → Adds running (with_what running (made commit))
 adds_commit running commit sure = record {
   commits = commit ∷ [];
-  rows = push_sure running.state.commits running.doubt commit sure;
+  rows = push_sure running.state.commits running.doubt (commit ∷ []) sure;
   entries = [];
   index = sym (append-nil (all_entries running));
 }
@@ -173,56 +179,80 @@ adds_commit running commit sure = record {
 adds_doubt : (running : Running) (faults : ℕ) (commit : Commit) → running.doubt ≡ [] → Adds running (with_what running (failed faults (commit ∷ [])))
 adds_doubt running faults commit sure = record {
   commits = commit ∷ [];
-  rows = sym (last_sure running.state.commits running.doubt commit sure);
+  rows = sym (more_sure running.state.commits running.doubt (commit ∷ []) sure);
   entries = [];
   index = sym (append-nil (all_entries running));
 }
 
-adds_entry : (running : Running) → running.loose ≡ [] → Adds running (with_what running batched)
-adds_entry running sure = record {
+adds_entries : (running : Running) (what : What) (more : List IndexEntry) → (with_what running what).state.entries ≡ running.state.entries ++ more
+    → (with_what running what).loose ≡ running.loose → all_commits (with_what running what) ≡ all_commits running → running.loose ≡ [] → Adds running (with_what running what)
+adds_entries running what more same still rows sure = record {
   commits = [];
-  rows = sym (append-nil (all_commits running));
-  entries = next_batch running ∷ [];
-  index = push_sure running.state.entries running.loose (next_batch running) sure;
+  rows = rows ∙ sym (append-nil (all_commits running));
+  entries = more;
+  index = ap₂ (λ (all rest : List IndexEntry). all ++ rest) same still ∙ push_sure running.state.entries running.loose more sure;
 }
 
-adds_loose : (running : Running) (faults : ℕ) → running.loose ≡ [] → Adds running (with_what running (loosened faults))
-adds_loose running faults sure = record {
+adds_loose : (running : Running) (what : What) (more : List IndexEntry) → (with_what running what).state.entries ≡ running.state.entries
+    → (with_what running what).loose ≡ more → all_commits (with_what running what) ≡ all_commits running → running.loose ≡ [] → Adds running (with_what running what)
+adds_loose running what more same still rows sure = record {
   commits = [];
-  rows = sym (append-nil (all_commits running));
-  entries = next_batch running ∷ [];
-  index = sym (last_sure running.state.entries running.loose (next_batch running) sure);
+  rows = rows ∙ sym (append-nil (all_commits running));
+  entries = more;
+  index = ap₂ (λ (all rest : List IndexEntry). all ++ rest) same still ∙ sym (more_sure running.state.entries running.loose more sure);
 }
+
+adds_optimized : (running : Running) → running.loose ≡ [] → Adds running (with_what running optimized)
+adds_optimized running sure = adds_entries running optimized (next_optimized running) refl refl refl sure
 
 adds_step : (limits : Limits) (running : Running) (ask : Ask) (answer : Answer) → IsSure running → MayAnswer limits running ask answer → Adds running (after running ask answer)
 adds_step limits running (to_commit commit) (committed number) sure may =
-    adds_commit running commit (sure (committed_goes running.stopped _ number may)).0
+    adds_commit running commit (sure (told_goes running.stopped _ (committed number) may refl)).0
 adds_step limits running (to_commit commit) (disk_fault faults) sure may =
-    adds_doubt running faults commit (sure (writes_goes running running.stopped _ may)).0
+    adds_doubt running faults commit (sure (writes_goes running.stopped _ may)).0
 adds_step limits running (to_commit commit) (refused why) sure may = adds_none running
 adds_step limits running (to_commit commit) (full end_) sure may = adds_none running
 adds_step limits running (to_commit commit) (viewed view) sure may = adds_none running
 adds_step limits running (to_commit commit) (found number docs) sure may = adds_none running
 adds_step limits running (to_commit commit) (flushed through commits) sure may = adds_none running
 adds_step limits running (to_commit commit) (all_flushed commits) sure may = adds_none running
+adds_step limits running (to_commit commit) (passed step) sure may = adds_none running
 adds_step limits running (to_commit commit) (listed number listing) sure may = adds_none running
 adds_step limits running (to_commit commit) (measured size) sure may = adds_none running
 adds_step limits running (to_commit commit) (stopped faults) sure may = adds_none running
 adds_step limits running (to_commit commit) no_memory sure may = adds_none running
 adds_step limits running to_sync (flushed through commits) sure may =
-    adds_entry running (sure (flushed_goes running.stopped _ through commits may)).1
+    adds_entries running batched (next_batch running ∷ []) refl refl refl (sure (told_goes running.stopped _ (flushed through commits) may refl)).1
 adds_step limits running to_sync (disk_fault faults) sure may =
-    adds_loose running faults (sure (writes_goes running running.stopped _ may)).1
+    adds_loose running (batch_failed faults) (next_batch running ∷ []) refl refl refl (sure (writes_goes running.stopped _ may)).1
 adds_step limits running to_sync (committed number) sure may = adds_none running
 adds_step limits running to_sync (refused why) sure may = adds_none running
 adds_step limits running to_sync (full end_) sure may = adds_none running
 adds_step limits running to_sync (all_flushed commits) sure may = adds_none running
+adds_step limits running to_sync (passed step) sure may = adds_none running
 adds_step limits running to_sync (viewed view) sure may = adds_none running
 adds_step limits running to_sync (found number docs) sure may = adds_none running
 adds_step limits running to_sync (listed number listing) sure may = adds_none running
 adds_step limits running to_sync (measured size) sure may = adds_none running
 adds_step limits running to_sync (stopped faults) sure may = adds_none running
 adds_step limits running to_sync no_memory sure may = adds_none running
+adds_step limits running to_optimize (passed Began) sure may = adds_optimized running (sure (told_goes running.stopped _ (passed Began) may refl)).1
+adds_step limits running to_optimize (passed Word) sure may = adds_optimized running (sure (told_goes running.stopped _ (passed Word) may refl)).1
+adds_step limits running to_optimize (passed Finished) sure may = adds_optimized running (sure (told_goes running.stopped _ (passed Finished) may refl)).1
+adds_step limits running to_optimize (passed Nothing) sure may = adds_none running
+adds_step limits running to_optimize (disk_fault faults) sure may =
+    adds_loose running (optimize_failed faults) (next_optimized running) refl refl refl (sure (writes_goes running.stopped _ may)).1
+adds_step limits running to_optimize (committed number) sure may = adds_none running
+adds_step limits running to_optimize (refused why) sure may = adds_none running
+adds_step limits running to_optimize (full end_) sure may = adds_none running
+adds_step limits running to_optimize (flushed through commits) sure may = adds_none running
+adds_step limits running to_optimize (all_flushed commits) sure may = adds_none running
+adds_step limits running to_optimize (viewed view) sure may = adds_none running
+adds_step limits running to_optimize (found number docs) sure may = adds_none running
+adds_step limits running to_optimize (listed number listing) sure may = adds_none running
+adds_step limits running to_optimize (measured size) sure may = adds_none running
+adds_step limits running to_optimize (stopped faults) sure may = adds_none running
+adds_step limits running to_optimize no_memory sure may = adds_none running
 adds_step limits running (to_view leaves) answer sure may = adds_none running
 adds_step limits running (to_find terms) answer sure may = adds_none running
 adds_step limits running (to_list kind) answer sure may = adds_none running

@@ -1,4 +1,4 @@
--- What a commit more, and a batch more, leave of a database's index.
+-- What a commit, a batch and a step of OPTIMIZE more leave of a database's index.
 use Rattle.std.proofs.Common.{◌≡◌, ℕ, ◌<◌, List, [], ◌∷◌, ◌++◌, refl, ap, subst, sym, ◌∙◌, arith}
 use Rattle.std.proofs.lemmas.List.Sums.{fold-append}
 use Rattle.std.proofs.lemmas.List.Elements.{All-push}
@@ -7,13 +7,15 @@ use Rattle.fts_types.specs.declared.settings.Settings.{Settings}
 use Rattle.fts_types.specs.Rules.{rules_of}
 use Rattle.fts_commits.specs.Commit.{Commit, Rows, no_rows, rows_after, replay}
 use Rattle.fts_commits.specs.Turn.{Turn, AreTurns, rows_by, turn_between, turns_from}
-use Rattle.fts_entries.specs.Entry.{Batch, IndexState, sealed, index_of}
+use Rattle.fts_entries.specs.Entry.{Batch, IndexEntry, IndexState, sealed, after_entry, index_of}
 use Rattle.fts_entries.specs.Batch.{IsBatch, after_batch}
 use Rattle.fts_entries.specs.Coming.{AreEntries}
 use Rattle.fts_entries.specs.Exact.{FitsTurns, IsExact}
 use Rattle.fts_entries.proofs.Commits.{one_exact, same_index, commits_exact}
 use Rattle.fts_entries.proofs.Kept.{still_exact, same_state, can_seal}
 use Rattle.fts_entries.proofs.Coming.{entries_more, entries_through, entries_fit, come_behind, index_behind}
+use Rattle.fts_entries.specs.Pass.{IsStep}
+use Rattle.fts_entries.proofs.Stepping.{step_comes, step_exact}
 use Rattle.fts_ixcodec.specs.Payload.{IsEntry}
 use Rattle.fts_steps.specs.State.{State, HasEntries, IsRight, turns_of, index_state, with_commits, with_entries}
 
@@ -100,6 +102,24 @@ module _ (state : State) (limit through synced : ℕ) (batch : Batch) (has : Has
       subst (λ (s : IndexState). IsExact (rules_of state.settings) (replay state.commits).list (turns_of state) s)
       (sym (index_behind (turns_of state) state.entries (sealed through synced batch)))
       (still_exact (rules_of state.settings) limit (turns_of state) (index_state state) through synced batch made (replay state.commits).list are (state_fits state are has) right)
+
+-- ---- a step of OPTIMIZE more
+
+module _ (state : State) (entry : IndexEntry) (has : HasEntries state) (are : AreTurns 0 (turns_of state)) (is : IsStep (index_state state) entry) where
+  -- its entry can stand behind those of the state
+  pub step_stands : IsEntry entry → HasEntries (with_entries state (entry ∷ []))
+  step_stands written = record {
+    written = All-push IsEntry state.entries entry has.written written;
+    come = come_behind (turns_of state) state.entries entry has.come (step_comes (turns_of state) (index_state state) entry is);
+  }
+
+  pub step_leaves : index_state (with_entries state (entry ∷ [])) ≡ after_entry (turns_of state) (index_state state) entry
+  step_leaves = index_behind (turns_of state) state.entries entry
+
+  pub step_right : IsRight state → IsRight (with_entries state (entry ∷ []))
+  step_right right =
+      subst (λ (s : IndexState). IsExact (rules_of state.settings) (replay state.commits).list (turns_of state) s) (sym step_leaves)
+      (step_exact (turns_of state) (index_state state) entry (state_fits state are has) is (rules_of state.settings) (replay state.commits).list are right)
 
 -- ---- no entries
 

@@ -3,13 +3,14 @@ use Rattle.fts_steps.specs.declared.commit.CommitError.{CommitError}
 use Rattle.fts_steps.specs.declared.commit.CommitError.TheVariants.{NoMemory, Refused, LogFull, DiskFault, Stopped}
 use Rattle.fts_steps.specs.declared.sync.SyncBatch.{SyncBatch}
 use Rattle.fts_steps.specs.declared.sync.SyncBatch.TheVariants.{Flushed, Nothing}
-use Rattle.fts_steps.specs.declared.sync.SyncError.{SyncError}
-use Rattle.fts_steps.specs.declared.sync.SyncError.TheVariants as sync
+use Rattle.fts_steps.specs.declared.index_error.IndexError.{IndexError}
+use Rattle.fts_steps.specs.declared.index_error.IndexError.TheVariants as index
+use Rattle.fts_steps.specs.declared.optimize.OptimizeStep.{OptimizeStep}
 use Rattle.fts_listing.specs.declared.listing.NumberedListing.{NumberedListing}
 use Rattle.fts_query.specs.declared.view.View.{View}
 use Rattle.fts_query.specs.Seen.{view_seen}
-use Rattle.fts_steps.specs.Step.{Answer, committed, refused, full, flushed, all_flushed, viewed, listed, disk_fault}
-use Rattle.fts_steps.specs.Step.{stopped, no_memory}
+use Rattle.fts_steps.specs.Step.{Answer, committed, refused, full, flushed, all_flushed, passed, viewed, listed}
+use Rattle.fts_steps.specs.Step.{disk_fault, stopped, no_memory}
 
 -- the answer that a commit's result is
 abbrev pub commit_answer_of : Result ℕ CommitError → Answer
@@ -25,14 +26,23 @@ abbrev pub view_answer_of : {E : Type 0} → Result View E → Answer
 view_answer_of (Ok view) = viewed (view_seen view)
 view_answer_of (Err error) = no_memory
 
+-- the answer that the error of a step of the index is
+abbrev pub error_answer_of : IndexError → Answer
+error_answer_of index.NoMemory = no_memory
+error_answer_of (index.LogFull end) = full end
+error_answer_of (index.DiskFault faults) = disk_fault faults
+error_answer_of (index.Stopped faults) = stopped faults
+
 -- the answer that a batch's result is
-abbrev pub sync_answer_of : Result SyncBatch SyncError → Answer
+abbrev pub sync_answer_of : Result SyncBatch IndexError → Answer
 sync_answer_of (Ok (Flushed through commits)) = flushed through commits
 sync_answer_of (Ok (Nothing commits)) = all_flushed commits
-sync_answer_of (Err sync.NoMemory) = no_memory
-sync_answer_of (Err (sync.LogFull end)) = full end
-sync_answer_of (Err (sync.DiskFault faults)) = disk_fault faults
-sync_answer_of (Err (sync.Stopped faults)) = stopped faults
+sync_answer_of (Err error) = error_answer_of error
+
+-- the answer that the result of a step of OPTIMIZE is
+abbrev pub optimize_answer_of : Result OptimizeStep IndexError → Answer
+optimize_answer_of (Ok step) = passed step
+optimize_answer_of (Err error) = error_answer_of error
 
 -- the answer that a listing's result is
 abbrev pub listing_answer_of : {E : Type 0} → Result NumberedListing E → Answer

@@ -1,10 +1,11 @@
 -- An engine as its steps see it, and what they add to it.
-use Rattle.std.specs.Prelude.{◌≡◌, ℕ, List, [], ◌∷◌, Option, Some, None}
+use Rattle.std.specs.Prelude.{◌≡◌, ℕ, List, [], ◌∷◌, fold, Option, Some, None}
 use Rattle.fts_types.specs.Rules.{rules_of}
 use Rattle.fts_commits.specs.Commit.{Commit}
 use Rattle.fts_commits.specs.Turn.{births_of}
-use Rattle.fts_entries.specs.Entry.{IndexEntry, IndexState, unflushed}
+use Rattle.fts_entries.specs.Entry.{IndexEntry, IndexState, after_entry, unflushed}
 use Rattle.fts_entries.specs.Batch.{after_batch, next_entry, next_through}
+use Rattle.fts_entries.specs.Pass.{next_steps}
 use Rattle.fts_entries.specs.Words.{rows_size}
 use Rattle.fts_steps.specs.State.{State, turns_of, index_state, with_commits, with_entries}
 
@@ -36,18 +37,24 @@ abbrev pub next_batch : Running → IndexEntry
 next_batch running = next_entry (rules_of running.state.settings) running.state.settings.batch_docs
     (turns_of running.state) running.index
 
+-- the entry of the next step of OPTIMIZE, none where it has nothing to do
+abbrev pub next_optimized : Running → List IndexEntry
+next_optimized running = next_steps running.state.entries running.index
+
 -- the size of the cache: what the rows count that were born in commits that are not flushed
 abbrev pub cache_size : Running → ℕ
 cache_size running =
     rows_size (rules_of running.state.settings) (births_of (unflushed (turns_of running.state) running.index))
 
--- what a step adds: a commit; a batch of the index; or a fault that stops the engine, with the sum of the counts, and
--- that leaves a commit in doubt, or the entry of a batch
+-- what a step adds: a commit; a batch of the index; a step of OPTIMIZE; or a fault that stops the engine, with the sum
+-- of the counts, and that leaves a commit in doubt, or the entry of a batch or of a step of OPTIMIZE
 pub data What : Type 0 where
   made : Commit → What
   batched : What
+  optimized : What
   failed : ℕ → List Commit → What
-  loosened : ℕ → What
+  batch_failed : ℕ → What
+  optimize_failed : ℕ → What
 
 -- what was added, and the number of who added it
 pub record Entry : Type 0 where
@@ -60,9 +67,15 @@ with_what running batched = record running {
   state = with_entries running.state (next_batch running ∷ []);
   index = next_index running.state running.index;
 }
+with_what running optimized = record running {
+  state = with_entries running.state (next_optimized running);
+  index = fold (after_entry (turns_of running.state)) running.index (next_optimized running);
+}
 with_what running (failed faults doubt) = record running { stopped = Some faults; doubt = doubt }
-with_what running (loosened faults) =
+with_what running (batch_failed faults) =
     record running { stopped = Some faults; loose = next_batch running ∷ [] }
+with_what running (optimize_failed faults) =
+    record running { stopped = Some faults; loose = next_optimized running }
 
 -- the engine, grown by these entries
 abbrev pub grown : Running → List Entry → Running

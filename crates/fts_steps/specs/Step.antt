@@ -17,29 +17,35 @@ use Rattle.fts_steps.specs.State.{State, turns_of, end_after, index_end_after}
 use Rattle.fts_listing.specs.declared.kind.ListingKind.{ListingKind}
 use Rattle.fts_listing.specs.declared.listing.Listing.{Listing}
 use Rattle.fts_listing.specs.Listing.{IsListed}
-use Rattle.fts_steps.specs.Running.{Running, What, made, batched, failed, loosened, Entry, grown, next_flushed}
-use Rattle.fts_steps.specs.Running.{next_batch, cache_size}
+use Rattle.fts_entries.specs.Entry.{IndexEntry, sealed, begun, worked, finished}
+use Rattle.fts_steps.specs.declared.optimize.OptimizeStep.{OptimizeStep}
+use Rattle.fts_steps.specs.declared.optimize.OptimizeStep.TheVariants.{Began, Word, Finished, Nothing}
+use Rattle.fts_steps.specs.Running.{Running, What, made, batched, optimized, failed, batch_failed, optimize_failed}
+use Rattle.fts_steps.specs.Running.{Entry, grown, next_flushed, next_batch, next_optimized, cache_size}
 use Rattle.fts_steps.specs.Crash.{IsBetween, IsIndexBetween}
 
--- what a step is asked: to make a commit; to make a batch of the index; to tell what the rows have for leaves; to find
--- the rows in which a query holds; to list what a view has; or to tell the size of the cache
+-- what a step is asked: to make a commit; to make a batch of the index; to make a step of OPTIMIZE; to tell what the
+-- rows have for leaves; to find the rows in which a query holds; to list what a view has; or to tell the size of the
+-- cache
 pub data Ask : Type 0 where
   to_commit : Commit → Ask
   to_sync : Ask
+  to_optimize : Ask
   to_view : List Leaf → Ask
   to_find : Terms → Ask
   to_list : ListingKind → Ask
   to_measure : Ask
 
 -- what it answers. A batch tells through which commit the index is flushed now, and how many commits there are; where
--- all are flushed, it tells how many there are. A disk fault tells the sum of the counts of faults, and so does each
--- refusal that follows from it
+-- all are flushed, it tells how many there are. A step of OPTIMIZE tells what it did. A disk fault tells the sum of the
+-- counts of faults, and so does each refusal that follows from it
 pub data Answer : Type 0 where
   committed : ℕ → Answer
   refused : Refusal → Answer
   full : ℕ → Answer
   flushed : ℕ → ℕ → Answer
   all_flushed : ℕ → Answer
+  passed : OptimizeStep → Answer
   viewed : View → Answer
   found : ℕ → List ℕ → Answer
   listed : ℕ → Listing → Answer
@@ -53,26 +59,45 @@ abbrev pub is_disk_fault : Answer → Bool
 is_disk_fault (disk_fault faults) = true
 is_disk_fault answer = false
 
--- the answer to a commit that the rows refuse or accept: its number, unless the log would pass its limit
+-- whether the answer tells that a device was written: that of a commit, of a batch, or of a step of OPTIMIZE
+abbrev pub writes : Answer → Bool
+writes (committed number) = true
+writes (flushed through commits) = true
+writes (passed Began) = true
+writes (passed Word) = true
+writes (passed Finished) = true
+writes answer = false
+
+-- the answer of a step that appends to a log which would end there, unless that is past the limit
+abbrev pub unless_full : Limits → ℕ → Answer → Answer
+unless_full limits end answer = if nat_lt limits.log_bytes end then full end else answer
+
+-- the answer to a commit that the rows refuse or accept: its number
 abbrev pub commit_answer : Limits → State → Commit → Result Rows Refusal → Answer
 commit_answer limits state commit (Err why) = refused why
 commit_answer limits state commit (Ok rows) =
-    if nat_lt limits.log_bytes (end_after state commit) then full (end_after state commit) else committed
-    (length state.commits + 1)
+    unless_full limits (end_after state commit) (committed (length state.commits + 1))
 
--- the answer to a batch: where all commits are flushed there is none, and else its entry is written, unless the log
--- would pass its limit
-abbrev pub entry_answer : Limits → Running → Answer
-entry_answer limits running =
-    if nat_lt limits.log_bytes (index_end_after running.state (next_batch running))
-    then full (index_end_after running.state (next_batch running))
-    else flushed (next_flushed running) (length running.state.commits)
-
+-- the answer to a batch: where all commits are flushed there is none
 abbrev pub batch_answer : Limits → Running → Answer
 batch_answer limits running =
     if nat_lt running.index.flushed (length running.state.commits)
-    then entry_answer limits running
+    then unless_full limits (index_end_after running.state (next_batch running))
+    (flushed (next_flushed running) (length running.state.commits))
     else all_flushed (length running.state.commits)
+
+-- which step of OPTIMIZE an entry is of
+abbrev pub step_of : IndexEntry → OptimizeStep
+step_of (sealed through synced batch) = Nothing
+step_of begun = Began
+step_of (worked word new) = Word
+step_of finished = Finished
+
+-- the answer to a step of OPTIMIZE that appends this entry, or none
+abbrev pub optimize_answer : Limits → State → List IndexEntry → Answer
+optimize_answer limits state [] = passed Nothing
+optimize_answer limits state (entry ∷ entries) =
+    unless_full limits (index_end_after state entry) (passed (step_of entry))
 
 -- the view of a database for leaves
 abbrev pub state_view : State → List Leaf → View
@@ -88,6 +113,8 @@ abbrev pub plain_answer : Limits → Running → Ask → Answer
 plain_answer limits running (to_commit commit) = unless_stopped running.stopped
     (commit_answer limits running.state commit (after_commit limits commit (replay running.state.commits)))
 plain_answer limits running to_sync = unless_stopped running.stopped (batch_answer limits running)
+plain_answer limits running to_optimize =
+    unless_stopped running.stopped (optimize_answer limits running.state (next_optimized running))
 plain_answer limits running (to_view asked) = viewed (state_view running.state asked)
 plain_answer limits running (to_find terms) = found (length running.state.commits)
     (scan (rules_of running.state.settings) (replay running.state.commits).list terms)
@@ -100,21 +127,17 @@ Lists running (to_list kind) number listing = (number ≡ length running.state.c
     × IsListed running.state.settings (turns_of running.state) running.index kind listing
 Lists running ask number listing = ⊥
 
--- the step would write: a commit, or the entry of a batch
-abbrev pub Writes : Running → Answer → Type 0
-Writes running answer = (answer ≡ committed (length running.state.commits + 1))
-    ⊎ (answer ≡ flushed (next_flushed running) (length running.state.commits))
-
 -- the answers that a step may give: its plain one, want of memory, and a disk fault where it would have written
 abbrev pub MayAnswer : Limits → Running → Ask → Answer → Type 0
 MayAnswer limits running ask no_memory = Unit {0}
-MayAnswer limits running ask (disk_fault faults) = Writes running (plain_answer limits running ask)
+MayAnswer limits running ask (disk_fault faults) = IsTrue (writes (plain_answer limits running ask))
 MayAnswer limits running ask (committed number) = plain_answer limits running ask ≡ committed number
 MayAnswer limits running ask (refused why) = plain_answer limits running ask ≡ refused why
 MayAnswer limits running ask (full end) = plain_answer limits running ask ≡ full end
 MayAnswer limits running ask (flushed through commits) =
     plain_answer limits running ask ≡ flushed through commits
 MayAnswer limits running ask (all_flushed commits) = plain_answer limits running ask ≡ all_flushed commits
+MayAnswer limits running ask (passed step) = plain_answer limits running ask ≡ passed step
 MayAnswer limits running ask (viewed view) = plain_answer limits running ask ≡ viewed view
 MayAnswer limits running ask (found number docs) = plain_answer limits running ask ≡ found number docs
 MayAnswer limits running ask (listed number listing) = Lists running ask number listing
@@ -126,7 +149,10 @@ abbrev pub changes_of : Ask → Answer → List What
 changes_of (to_commit commit) (committed number) = made commit ∷ []
 changes_of (to_commit commit) (disk_fault faults) = failed faults (commit ∷ []) ∷ []
 changes_of to_sync (flushed through commits) = batched ∷ []
-changes_of to_sync (disk_fault faults) = loosened faults ∷ []
+changes_of to_sync (disk_fault faults) = batch_failed faults ∷ []
+changes_of to_optimize (passed Nothing) = []
+changes_of to_optimize (passed step) = optimized ∷ []
+changes_of to_optimize (disk_fault faults) = optimize_failed faults ∷ []
 changes_of ask answer = []
 
 -- the entries that a step adds, by their number's owner

@@ -3,11 +3,16 @@
 //! A state is a database as a reader thinks of it: its settings, and the list of its commits. No
 //! cache or file appears in it; beside it stands how far the index is flushed, and what its tables
 //! have. The definitions stand in `specs/`; the crate has the types of the answers of a commit (its
-//! number, or a [`CommitError`]) and of a batch ([`SyncBatch`], or a [`SyncError`]).
+//! number, or a [`CommitError`]), of a batch ([`SyncBatch`]) and of a step of OPTIMIZE
+//! ([`OptimizeStep`]), or an [`IndexError`].
 #![tactic(auto)]
 
 mod commit;
+mod index_error;
+mod optimize;
 mod sync;
 
 pub use commit::CommitError;
-pub use sync::{SyncBatch, SyncError};
+pub use index_error::IndexError;
+pub use optimize::OptimizeStep;
+pub use sync::SyncBatch;

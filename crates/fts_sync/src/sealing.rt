@@ -13,7 +13,7 @@ ghost use Rattle.fts_ilist.specs.Packing.{packed};
 ghost use Rattle.fts_sync.specs.Leaving.{leaving, leaving_nodes, filled_word, sealed_words};
 
 use fts_cache::Cache;
-use fts_ilist::{Cursor, Document, Node, Nodes, Packing, WordNodes};
+use fts_ilist::{Cursor, Document, NodeGroup, Nodes, Packing, WordNodes};
 use fts_lists::{DeleteList, Lists};
 use fts_types::{DocId, Word};
 use std::alloc::{AllocError, Global};
@@ -40,14 +40,14 @@ fn put_alive(
 }
 
 /// The nodes of the documents up to an id that are not dead.
-fn packed_until(
+fn packed_until<'n>(
     alloc: Global,
     documents: Cursor<'_>,
     doc: DocId,
     lists: &Lists,
-) -> Result<Vec<Node>, AllocError>
+) -> Result<NodeGroup<'n>, AllocError>
     requires { ArePostings documents }
-    ensures { IfOk result (λ nodes. nodes.items
+    ensures { IfOk result (λ nodes. nodes
         ≡ packed (leaving doc (ids_of DeletedCache lists.now) documents.entry)) }
 {
     let mut packing = Packing::with_room(alloc, documents.bytes_left())?;
@@ -63,7 +63,7 @@ fn packed_until(
 /// Puts a word behind the others, with the nodes of its documents up to an id that are not dead,
 /// where it has some.
 fn put_word(
-    nodes: &mut Nodes,
+    nodes: &mut Nodes<'_>,
     word: &[u8],
     documents: Cursor<'_>,
     doc: DocId,
@@ -84,12 +84,12 @@ fn put_word(
 
 /// Words, each with the nodes of its documents up to an id that are not dead. A word without such
 /// a document is left out.
-fn sealed(
+fn sealed<'n>(
     alloc: Global,
     words: Vec<(&[u8], Cursor<'_>)>,
     doc: DocId,
     lists: &Lists,
-) -> Result<Nodes, AllocError>
+) -> Result<Nodes<'n>, AllocError>
     requires { All (λ e. ArePostings e.1) words.items }
     ensures { IfOk result (λ nodes. nodes.items
         ≡ sealed_words doc (ids_of DeletedCache lists.now) words.entry.items) }
@@ -106,7 +106,12 @@ fn sealed(
 /// not in DELETED_CACHE, packed into nodes. A word without such a document is left out.
 ///
 /// It costs the words and the postings of the documents up to `doc`, and a sort of these words.
-pub fn batch(alloc: Global, cache: &Cache, doc: DocId, lists: &Lists) -> Result<Nodes, AllocError>
+pub fn batch<'n>(
+    alloc: Global,
+    cache: &Cache,
+    doc: DocId,
+    lists: &Lists,
+) -> Result<Nodes<'n>, AllocError>
     ensures ascending { IfOk result (λ nodes. IsStrictlySortedBy byte_order (keys_of nodes.items)) }
     ensures filled { IfOk result (λ nodes. All (λ word. word.1 ≢ []) nodes.items) }
     ensures exact { IfOk result (λ nodes. (word : List ℕ)

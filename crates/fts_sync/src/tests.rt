@@ -67,7 +67,7 @@ fn are(rt: &impl Abort, nodes: &Nodes, rows: &[Row]) {
     assert_eq!(rt; nodes.len(), rows.len());
     for (word, row) in nodes.iter().zip(rows.iter()) {
         let (name, first, last, count) = *row;
-        assert_eq!(rt; word.word().as_bytes(), name);
+        assert_eq!(rt; word.word(), name);
         assert_eq!(rt; word.nodes().len(), 1);
         for node in word.nodes() {
             assert_eq!(rt;

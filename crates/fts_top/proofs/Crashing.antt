@@ -1,5 +1,5 @@
 -- What a crash leaves of a run behind others.
-use Rattle.std.proofs.Common.{◌≡◌, ◌⊎◌, ◌∙◌, subst, sym, inl, inr, ⊎_elim}
+use Rattle.std.proofs.Common.{◌≡◌, ◌⊎◌, subst, sym, inl, inr, ⊎_elim}
 use Rattle.fts_disk.specs.Crash.{Images}
 use Rattle.fts_disk.specs.Moments.{LeavesOnly, LeavesAsBefore}
 use Rattle.fts_disk.specs.declared.disk.Disk.{Ghosts}

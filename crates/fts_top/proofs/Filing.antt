@@ -1,5 +1,6 @@
 -- What was done by the steps of an engine, seen by its devices.
-use Rattle.std.proofs.Common.{◌≡◌, ℕ, ◌+◌, Bool, true, false, List, [], refl, subst, inr}
+use Rattle.std.specs.Prelude.{Result, Ok, Err}
+use Rattle.std.proofs.Common.{◌≡◌, ℕ, ◌+◌, Bool, true, false, List, [], ◌∷◌, refl, subst, inr}
 use Rattle.fts_types.specs.declared.limits.Limits.{Limits}
 use Rattle.fts_types.specs.declared.settings.Settings.{Settings}
 use Rattle.fts_disk.specs.Moments.{LeavesAsBefore}
@@ -14,6 +15,9 @@ use Rattle.fts_top.specs.declared.ends.Health.{Health}
 use Rattle.fts_top.specs.declared.ends.Health.TheVariants.{Failed}
 use Rattle.fts_top.specs.declared.ends.RunEnd.{RunEnd}
 use Rattle.fts_top.specs.declared.ends.RunEnd.TheVariants as end
+use Rattle.fts_top.specs.declared.ends.Unsent.{Unsent}
+use Rattle.fts_top.specs.declared.ends.Unsent.TheVariants as unsent
+use Rattle.fts_top.specs.Generate.{Tells, Generates}
 use Rattle.fts_top.specs.Run.{Sides, Front, Reads, Stops, Outcome}
 use Rattle.fts_top.specs.Talk.{Talks}
 use Rattle.fts_top.specs.Once.{Devices, devices_of, Disks, disks_of, disk_faults, device_sight}
@@ -52,10 +56,12 @@ module _ {S : Type 0} (sight : Sight S) (single : sight.is_shared ≡ false) (se
     calls = front.calls;
     replies = front.replies;
     met = front.met;
+    sessions = front.sessions;
     text = front.text;
     front = front.front;
     written = front.written;
-    talks = subst (λ (s : Settings). Talks s sent front.lines front.calls front.replies front.met) same_settings front.talks;
+    talks = subst (λ (s : Settings). Talks s sent [] front.lines front.calls front.replies front.met front.sessions) same_settings front.talks;
+    few = front.few;
     alone = λ e. front.alone single;
     follows = subst (λ (n : Limits). Follows n start front.calls) same_limits front.follows;
     settings = refl;
@@ -86,6 +92,27 @@ module _ {S : Type 0} (sight : Sight S) (single : sight.is_shared ≡ false) (se
   outcome_on end.DiskFault outcome = reads_on _ outcome
   outcome_on end.ReadFault outcome = stops_on 0 outcome
   outcome_on (end.ScriptTooLong lines bytes) outcome = (stops_on 1 outcome.0, outcome.1)
+  outcome_on (end.TooManySessions number) crowds = record {
+    line = crowds.line;
+    ahead = crowds.ahead;
+    front = front_on true (crowds.line ∷ crowds.ahead) crowds.front;
+    whole = crowds.whole;
+    of = crowds.of;
+    unmet = crowds.unmet;
+    many = crowds.many;
+    rest = crowds.rest;
+  }
   outcome_on end.WriteFault (n, late) = (n, record { ahead = late.ahead; front = front_on false late.ahead late.front; cut = late.cut; rest = late.rest })
   outcome_on end.NoMemory starves =
-      record { ahead = starves.ahead; sent = starves.sent; front = front_on starves.sent starves.ahead starves.front; written = starves.written; rest = starves.rest }
+      record { ahead = starves.ahead; sent = starves.sent; front = front_on starves.sent starves.ahead starves.front; written = starves.written; unread = starves.unread; rest = starves.rest }
+
+  -- that of a generated script
+  abbrev tells_on : (statements : ℕ) (Written : List ℕ → List ℕ → Type 0) → Tells sight statements start script Written before now
+      → Tells (device_sight both settings limits) statements start script Written begun done
+  tells_on statements Written tells = record { front = front_on true [] tells.front; summary = tells.summary; comes = tells.comes; written = tells.written }
+
+  pub generates_on : (result : Result Health Unsent) (statements : ℕ) → Generates sight result statements start script before now
+      → Generates (device_sight both settings limits) result statements start script begun done
+  generates_on (Ok met) statements generates = (tells_on statements _ generates.0, generates.1)
+  generates_on (Err unsent.WriteFault) statements generates = tells_on statements _ generates
+  generates_on (Err unsent.NoMemory) statements breaks = record { ahead = breaks.ahead; front = front_on true breaks.ahead breaks.front; silent = breaks.silent }

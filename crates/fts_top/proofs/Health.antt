@@ -1,5 +1,5 @@
 -- What replies tell of the lines.
-use Rattle.std.proofs.Common.{◌≡◌, ◌⊎◌, ℕ, ◌≤◌, List, [], ◌∷◌, ◌++◌, refl, ap, sym, ◌∙◌, inl, inr, ⊎_elim, arith}
+use Rattle.std.proofs.Common.{◌≡◌, ◌⊎◌, ℕ, ◌≤◌, refl, ap, sym, ◌∙◌, inl, inr, ⊎_elim, arith}
 use Rattle.std.specs.Prelude.{Result, Ok}
 use Rattle.fts_faults.specs.Count.{CountsFault, Rose}
 use Rattle.fts_schema.specs.declared.reply.Reply.{Reply}
@@ -96,6 +96,12 @@ fault_met : (told : Reply) → health_of told ≡ Failed → told ≡ reply.Disk
 fault_met reply.DiskFault is = refl
 fault_met reply.NoMemory is = absurd cc
 fault_met (reply.Committed number) is = absurd cc
+fault_met (reply.CommittedAndBegun number) is = absurd cc
+fault_met reply.Begun is = absurd cc
+fault_met (reply.Buffered changes) is = absurd cc
+fault_met reply.NothingToCommit is = absurd cc
+fault_met (reply.RolledBack changes) is = absurd cc
+fault_met (reply.TooManyChanges changes) is = absurd cc
 fault_met (reply.Found number docs) is = absurd cc
 fault_met (reply.Refused refusal) is = absurd cc
 fault_met (reply.LogFull end_) is = absurd cc
@@ -110,6 +116,8 @@ fault_met (reply.QueryTooDeep at_) is = absurd cc
 fault_met reply.LineTooLong is = absurd cc
 fault_met (reply.Stopped faults) is = absurd cc
 fault_met (reply.Synced through) is = absurd cc
+fault_met reply.NothingToOptimize is = absurd cc
+fault_met (reply.Optimized words finished) is = absurd cc
 fault_met (reply.Listed number listing) is = absurd cc
 
 -- the count of a line, by its reply

@@ -1,6 +1,9 @@
 pub mod Turning
 pub mod Talking
 pub mod OneText
+pub mod Counting
+pub mod Meeting
+pub mod Keeping
 pub mod Fronts
 pub mod Opening
 pub mod Filing
@@ -9,3 +12,5 @@ pub mod Health
 pub mod Crashing
 pub mod Making
 pub mod Rounds
+pub mod Rising
+pub mod Playing

@@ -1,12 +1,11 @@
 -- Steps that are made one after another.
-use Rattle.std.proofs.Common.{◌≡◌, ℕ, List, [], ◌∷◌, ◌++◌, refl, ap, subst, sym, ◌∙◌, inl}
+use Rattle.std.proofs.Common.{List, [], ◌∷◌, ◌++◌, refl, subst, sym, ◌∙◌, inl}
 use Rattle.fts_types.specs.declared.limits.Limits.{Limits}
-use Rattle.fts_io.specs.Text.{Line}
 use Rattle.fts_schema.specs.declared.reply.Reply.{Reply}
 use Rattle.fts_steps.specs.Running.{Running}
 use Rattle.fts_steps.specs.Crash.{IsBetween, IsIndexBetween}
 use Rattle.fts_steps.specs.Step.{Ask, Answer, Call, Sight, Leaves, Steps, Follows, after_all}
-use Rattle.fts_sessions.specs.Execute.{Executes}
+use Rattle.fts_sessions.specs.Execute.{Proceeds}
 use Rattle.fts_top.specs.Batches.{MakesSteps}
 use Rattle.fts_steps.proofs.Adding.{adds, grows, stays_sure, between_more, index_more}
 use Rattle.fts_top.proofs.Talking.{after_more, follows_more, alone_more}
@@ -39,8 +38,8 @@ module _ {S : Type 0} (sight : Sight S) where
   }
 
   -- the steps of a line
-  pub steps_of : (line : Line) (reply : Reply) (old new : S) (executes : Executes sight line old reply new) → MakesSteps sight executes.calls old new
-  steps_of line reply old new executes = record {
+  pub steps_of : (Told : List Call → Reply → Type 0) (reply : Reply) (old new : S) (executes : Proceeds sight Told old reply new) → MakesSteps sight executes.calls old new
+  steps_of Told reply old new executes = record {
     alone = executes.alone;
     follows = executes.follows;
     stands = executes.stands;

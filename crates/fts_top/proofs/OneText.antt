@@ -1,4 +1,4 @@
-use Rattle.std.proofs.Common.{◌≡◌, ℕ, zero, suc, Bool, true, false, nat_lt, List, [], ◌∷◌, ◌++◌, refl, ap, subst, sym, ◌∙◌, inl, inr, append_assoc}
+use Rattle.std.proofs.Common.{◌≡◌, ℕ, zero, suc, Bool, true, false, nat_lt, List, [], ◌∷◌, ◌++◌, refl, ap, subst, sym, ◌∙◌, inl, inr, Option, Some, None}
 use Rattle.fts_types.specs.declared.limits.Limits.{Limits}
 use Rattle.fts_types.specs.declared.settings.Settings.{Settings}
 use Rattle.fts_io.specs.Text.{Line}
@@ -6,38 +6,70 @@ use Rattle.fts_listing.specs.declared.listing.Listing.{Listing}
 use Rattle.fts_schema.specs.declared.reply.Reply.{Reply}
 use Rattle.fts_schema.specs.Reply.{text_of}
 use Rattle.fts_steps.specs.Running.{Running, Entry, grown}
-use Rattle.fts_steps.specs.Step.{Ask, to_sync, to_measure, Answer, committed, refused, full, flushed, all_flushed, viewed, found, listed, measured, disk_fault, stopped, no_memory}
+use Rattle.fts_steps.specs.Step.{Ask, to_sync, to_measure, Answer, committed, refused, full, flushed, all_flushed, passed, viewed, found, listed, measured, disk_fault, stopped, no_memory}
 use Rattle.fts_steps.specs.Step.{Call, MayAnswer, Lists, plain_answer, Follows, AreAlone, after_call, after_all}
 use Rattle.fts_sessions.specs.Request.{Request}
-use Rattle.fts_sessions.specs.Conversation.{Converses}
+use Rattle.fts_sessions.specs.Transaction.{Transaction}
+use Rattle.fts_sessions.specs.Conversation.{Converses, behind}
 use Rattle.fts_sessions.specs.Execute.{Says}
 use Rattle.fts_sessions.specs.Calm.{IsCalm}
 use Rattle.fts_sessions.proofs.Single.{one_request, one_conversation}
 use Rattle.fts_top.specs.declared.ends.Health.{Health}
 use Rattle.fts_top.specs.declared.ends.Health.TheVariants.{Sound, Short, Failed}
 use Rattle.fts_top.specs.Health.{health_of, health_of_answer, health_of_steps, worse}
+use Rattle.fts_top.specs.Sessions.{Met, open_in, leaving, SaysOf, Speaks}
 use Rattle.fts_top.specs.Talk.{Talks, AreBatches, if_above, unless_refused, most_behind, texts_of}
 use Rattle.fts_top.specs.Laws.{Converse}
+use Rattle.fts_top.proofs.Counting.{whose}
 use Rattle.fts_top.proofs.Health.{sound_before, sound_behind, sound_calm}
 
 -- the steps behind the first ones
-follows_behind : (limits : Limits) (running : Running) (here more : List Call) → Follows limits running (here ++ more) → Follows limits (after_all running here) more
+pub follows_behind : (limits : Limits) (running : Running) (here more : List Call) → Follows limits running (here ++ more) → Follows limits (after_all running here) more
 follows_behind limits running [] more follows = follows
 follows_behind limits running (call ∷ here) more follows = follows_behind limits (after_call running call) here more follows.1
 
-alone_behind : (here more : List Call) → AreAlone (here ++ more) → AreAlone more
+pub alone_behind : (here more : List Call) → AreAlone (here ++ more) → AreAlone more
 alone_behind [] more alone = alone
 alone_behind (call ∷ here) more alone = alone_behind here more alone.1
 
--- a calm line says one thing
-one_line : (limits : Limits) (running : Running) (settings : Settings) (line : Line) (here here' more more' : List Call) (reply reply' : Reply) → Says settings line here reply
-    → Says settings line here' reply' → Follows limits running (here ++ more) → Follows limits running (here' ++ more') → AreAlone (here ++ more) → AreAlone (here' ++ more')
-    → IsCalm reply → IsCalm reply' → (here ≡ here') × (reply ≡ reply')
-one_line limits running settings line here here' more more' reply reply' (inl (request, is, converses)) (inl (request', is', converses')) f g alone alone' calm calm' =
-    one_conversation limits running settings request here here' more more' reply reply' converses
-    (subst (λ (r : Request). Converses settings r [] here' reply') (one_request line request' request is' is) converses') f g alone alone' calm calm'
-one_line limits running settings line here here' more more' reply reply' (inl says) (inr (none, want)) f g alone alone' calm calm' = absurd (calm'.no_want want)
-one_line limits running settings line here here' more more' reply reply' (inr (none, want)) says f g alone alone' calm calm' = absurd (calm.no_want want)
+-- a calm line says one thing, and leaves one transaction
+abbrev OneSaid : List Call → List Call → Reply → Reply → Transaction → Transaction → Type 0
+OneSaid here here' reply reply' left left' = (here ≡ here') × (reply ≡ reply') × (left ≡ left')
+
+one_said : (limits : Limits) (running : Running) (settings : Settings) (line : Line) (transaction left left' : Transaction) (here here' more more' : List Call) (reply reply' : Reply)
+    → Says settings line transaction here reply left → Says settings line transaction here' reply' left'
+    → Follows limits running (here ++ more) → Follows limits running (here' ++ more') → AreAlone (here ++ more) → AreAlone (here' ++ more')
+    → IsCalm reply → IsCalm reply' → OneSaid here here' reply reply' left left'
+one_said limits running settings line transaction left left' here here' more more' reply reply' (inl (request, is, converses, leaves)) (inl (request', is', converses', leaves')) f g alone alone' calm calm' =
+    let requests = one_request line request' request is' is in
+    let same = one_conversation limits running settings transaction request here here' more more' reply reply' converses
+    (subst (λ (r : Request). Converses settings transaction r [] here' reply') requests converses') f g alone alone' calm calm' in
+    (same.0, same.1, leaves ∙ ap (behind settings transaction request) same.1 ∙ ap (λ (r : Request). behind settings transaction r reply') (sym requests) ∙ sym leaves')
+one_said limits running settings line transaction left left' here here' more more' reply reply' (inl says) (inr (none, want, stays)) f g alone alone' calm calm' = absurd (calm'.no_want want)
+one_said limits running settings line transaction left left' here here' more more' reply reply' (inr (none, want, stays)) says f g alone alone' calm calm' = absurd (calm.no_want want)
+
+-- so in its session it says one thing, and leaves one list of sessions
+abbrev OneSpoken : List Call → List Call → Reply → Reply → List Met → List Met → Type 0
+OneSpoken here here' reply reply' left left' = (here ≡ here') × (reply ≡ reply') × (left ≡ left')
+
+of_one : (limits : Limits) (running : Running) (settings : Settings) (line : Line) (session : Option ℕ) (sessions left left' : List Met) (here here' more more' : List Call) (reply reply' : Reply)
+    → SaysOf settings line session sessions here reply left → SaysOf settings line session sessions here' reply' left'
+    → Follows limits running (here ++ more) → Follows limits running (here' ++ more') → AreAlone (here ++ more) → AreAlone (here' ++ more')
+    → IsCalm reply → IsCalm reply' → OneSpoken here here' reply reply' left left'
+of_one limits running settings line None sessions left left' here here' more more' reply reply' says says' f g alone alone' calm calm' =
+    let same = one_said limits running settings line None None None here here' more more' reply reply' says.0 says'.0 f g alone alone' calm calm' in
+    (same.0, same.1, says.1 ∙ sym says'.1)
+of_one limits running settings line (Some number) sessions left left' here here' more more' reply reply' says says' f g alone alone' calm calm' =
+    let same = one_said limits running settings line (open_in sessions number) says.0 says'.0 here here' more more' reply reply' says.1 says'.1 f g alone alone' calm calm' in
+    (same.0, same.1, says.2 ∙ ap (leaving sessions number) same.2 ∙ sym says'.2)
+
+one_line : (limits : Limits) (running : Running) (settings : Settings) (line : Line) (sessions left left' : List Met) (here here' more more' : List Call) (reply reply' : Reply)
+    → Speaks settings line sessions here reply left → Speaks settings line sessions here' reply' left'
+    → Follows limits running (here ++ more) → Follows limits running (here' ++ more') → AreAlone (here ++ more) → AreAlone (here' ++ more')
+    → IsCalm reply → IsCalm reply' → OneSpoken here here' reply reply' left left'
+one_line limits running settings line sessions left left' here here' more more' reply reply' (session, of, says) (session', of', says') f g alone alone' calm calm' =
+    of_one limits running settings line session sessions left left' here here' more more' reply reply' says
+    (subst (λ (s : Option ℕ). SaysOf settings line s sessions here' reply' left') (whose line session' session of' of) says') f g alone alone' calm calm'
 
 -- ---- batches
 
@@ -49,6 +81,7 @@ sound_plain limits running ask (refused why) others may sound = sym may
 sound_plain limits running ask (full end_) others may sound = sym may
 sound_plain limits running ask (flushed through commits) others may sound = sym may
 sound_plain limits running ask (all_flushed commits) others may sound = sym may
+sound_plain limits running ask (passed step) others may sound = sym may
 sound_plain limits running ask (viewed view) others may sound = sym may
 sound_plain limits running ask (found number docs) others may sound = sym may
 sound_plain limits running ask (listed number listing) others may sound = absurd (others number listing may)
@@ -94,6 +127,7 @@ module _ (limits : Limits) where
   behind_batch bytes most one running (committed number) calls others more more' are are' f g alone alone' sound sound' = are ∙ sym are'
   behind_batch bytes most one running (refused why) calls others more more' are are' f g alone alone' sound sound' = are ∙ sym are'
   behind_batch bytes most one running (full end_) calls others more more' are are' f g alone alone' sound sound' = are ∙ sym are'
+  behind_batch bytes most one running (passed step) calls others more more' are are' f g alone alone' sound sound' = are ∙ sym are'
   behind_batch bytes most one running (viewed view) calls others more more' are are' f g alone alone' sound sound' = are ∙ sym are'
   behind_batch bytes most one running (found number docs) calls others more more' are are' f g alone alone' sound sound' = are ∙ sym are'
   behind_batch bytes most one running (listed number listing) calls others more more' are are' f g alone alone' sound sound' = are ∙ sym are'
@@ -134,13 +168,13 @@ module _ (limits : Limits) where
       ap (λ (c : Call). c ∷ calls) same ∙ ap (λ (cs : List Call). call' ∷ cs) behind
 
   module _ (settings : Settings) where
-    talk : (lines : List Line) (running : Running) (calls others : List Call) (replies told : List Reply) (met met' : Health)
-        → Talks settings true lines calls replies met → Talks settings true lines others told met'
+    talk : (lines : List Line) (sessions last last' : List Met) (running : Running) (calls others : List Call) (replies told : List Reply) (met met' : Health)
+        → Talks settings true sessions lines calls replies met last → Talks settings true sessions lines others told met' last'
         → AreAlone calls → AreAlone others → Follows limits running calls → Follows limits running others → met ≡ Sound → met' ≡ Sound
         → (calls ≡ others) × (texts_of replies ≡ texts_of told)
-    talk [] running calls others replies told met met' talks talks' alone alone' follows follows' sound sound' =
+    talk [] sessions last last' running calls others replies told met met' talks talks' alone alone' follows follows' sound sound' =
         (talks.0 ∙ sym talks'.0, ap texts_of (talks.1 ∙ sym talks'.1))
-    talk (line ∷ lines) running calls others replies told met met' talks talks' alone alone' follows follows' sound sound' =
+    talk (line ∷ lines) sessions last last' running calls others replies told met met' talks talks' alone alone' follows follows' sound sound' =
         let follow = subst (λ (c : List Call). Follows limits running c) talks.calls_are follows in
         let follow' = subst (λ (c : List Call). Follows limits running c) talks'.calls_are follows' in
         let single = subst AreAlone talks.calls_are alone in
@@ -149,7 +183,7 @@ module _ (limits : Limits) where
         let well' = sym talks'.met_is ∙ sound' in
         let here_well = sound_before (worse (health_of talks.reply) (health_of_steps talks.batches)) talks.later well in
         let here_well' = sound_before (worse (health_of talks'.reply) (health_of_steps talks'.batches)) talks'.later well' in
-        let same = one_line limits running settings line talks.here talks'.here (talks.batches ++ talks.more) (talks'.batches ++ talks'.more) talks.reply talks'.reply
+        let same = one_line limits running settings line sessions talks.behind talks'.behind talks.here talks'.here (talks.batches ++ talks.more) (talks'.batches ++ talks'.more) talks.reply talks'.reply
         talks.says talks'.says follow follow' single single'
         (sound_calm talks.reply (sound_before (health_of talks.reply) (health_of_steps talks.batches) here_well))
         (sound_calm talks'.reply (sound_before (health_of talks'.reply) (health_of_steps talks'.batches) here_well')) in
@@ -164,7 +198,8 @@ module _ (limits : Limits) where
         behind_line behind_line' alone_line alone_line'
         (sound_behind (health_of talks.reply) (health_of_steps talks.batches) here_well)
         (sound_behind (health_of talks'.reply) (health_of_steps talks'.batches) here_well') in
-        let behind = talk lines (after_all mid talks.batches) talks.more talks'.more talks.rest talks'.rest talks.later talks'.later talks.goes_on talks'.goes_on
+        let behind = talk lines talks.behind last last' (after_all mid talks.batches) talks.more talks'.more talks.rest talks'.rest talks.later talks'.later talks.goes_on
+        (subst (λ (s : List Met). Talks settings true s lines talks'.more talks'.rest talks'.later last') (sym same.2) talks'.goes_on)
         (alone_behind talks.batches talks.more alone_line) (alone_behind talks'.batches talks'.more alone_line')
         (follows_behind limits mid talks.batches talks.more behind_line)
         (subst (λ (c : List Call). Follows limits (after_all mid c) talks'.more) (sym same_batches) (follows_behind limits mid talks'.batches talks'.more behind_line'))
@@ -181,4 +216,4 @@ module _ (limits : Limits) where
 pub one_text : (limits : Limits) (start : Running) (lines : List Line) (calls others : List Call) (replies told : List Reply)
     → Converse limits start lines calls replies → Converse limits start lines others told → (calls ≡ others) × (texts_of replies ≡ texts_of told)
 one_text limits start lines calls others replies told one other =
-    talk limits start.state.settings lines start calls others replies told Sound Sound one.talks other.talks one.alone other.alone one.follows other.follows refl refl
+    talk limits start.state.settings lines [] one.sessions other.sessions start calls others replies told Sound Sound one.talks other.talks one.alone other.alone one.follows other.follows refl refl

@@ -1,7 +1,11 @@
 -- Why no database was opened, and what is made.
-use Rattle.std.proofs.Common.{◌≡◌, ℕ, List, [], refl, inr}
+use Rattle.std.proofs.Common.{◌≡◌, ℕ, List, [], refl, inl, inr, subst}
 use Rattle.fts_types.specs.declared.settings.Settings.{Settings}
-use Rattle.fts_steps.specs.State.{State, IsCreated, IsDatabase, IsRight, created_with}
+use Rattle.fts_steps.specs.State.{State, IsCreated, IsDatabase, IsRight, IsRows, IsIndex, created_with}
+use Rattle.fts_steps.specs.Running.{opened}
+use Rattle.fts_disk.specs.declared.disk.Disk.{Ghosts}
+use Rattle.fts_engine.specs.declared.engine.Engine.{Engine}
+use Rattle.fts_engine.specs.Stands.{Holds, Stands}
 use Rattle.fts_steps.proofs.Growing.{none_right}
 use Rattle.fts_steps.proofs.Faults.{is_created, not_at_fault}
 use Rattle.fts_engine.specs.declared.error.Device.TheVariants.{Rows, Index}
@@ -9,7 +13,9 @@ use Rattle.fts_engine.specs.declared.error.OpenError.{OpenError}
 use Rattle.fts_engine.specs.declared.error.OpenError.TheVariants as opening
 use Rattle.fts_engine.specs.Opening.{IsDamaged, IsIndexDamaged}
 use Rattle.fts_engine.proofs.Single.{one_rows}
-use Rattle.fts_top.specs.Ends.{status_of_opening}
+use Rattle.fts_top.specs.declared.ends.RunEnd.{RunEnd}
+use Rattle.fts_top.specs.declared.ends.RunEnd.TheVariants as end
+use Rattle.fts_top.specs.Ends.{status_of_opening, status_of_run}
 use Rattle.fts_top.specs.Once.{IsWhy, Finishes}
 
 -- why no database was opened, by its cases
@@ -35,8 +41,35 @@ can_open (opening.Damaged Index file place) rows index state database why calm =
 can_open opening.NoMemory rows index state database why calm = inr refl
 can_open opening.DiskFault rows index state database why calm = absurd (calm refl)
 
+-- a script is executed to its end, unless a fault, its length or its sessions end it
+pub run_finishes : (ended : RunEnd) → (ended ≡ end.ReadFault → ⊥) → (ended ≡ end.WriteFault → ⊥) → (ended ≡ end.DiskFault → ⊥)
+    → ((lines bytes : ℕ) → ended ≡ end.ScriptTooLong lines bytes → ⊥) → ((number : ℕ) → ended ≡ end.TooManySessions number → ⊥) → Finishes (status_of_run ended)
+run_finishes end.Done read write disk long many = inl refl
+run_finishes end.ShortOfMemory read write disk long many = inr refl
+run_finishes end.NoMemory read write disk long many = inr refl
+run_finishes end.DiskFault read write disk long many = absurd (disk refl)
+run_finishes end.ReadFault read write disk long many = absurd (read refl)
+run_finishes end.WriteFault read write disk long many = absurd (write refl)
+run_finishes (end.ScriptTooLong lines bytes) read write disk long many = absurd (long lines bytes refl)
+run_finishes (end.TooManySessions number) read write disk long many = absurd (many number refl)
+
 -- ---- what is made
 
 -- the index of a database that was just created is right
 pub created_right : (settings : Settings) → IsRight (created_with settings)
 created_right settings = none_right settings [] (record { ascend = tt; lead = refl })
+
+-- ---- what was opened
+
+-- the files are the logs of the database, as they are read again
+pub database_read : (state : State) {rows rows' index index' : ℕ → List ℕ} → rows' ≡ rows → index' ≡ index → IsRows state (rows' 0) → IsIndex state (index' 0)
+    → IsDatabase state (rows 0) (index 0)
+database_read state seen seen' of_rows of_index = record {
+  of_rows = subst (λ (f : ℕ → List ℕ). IsRows state (f 0)) seen of_rows;
+  of_index = subst (λ (f : ℕ → List ℕ). IsIndex state (f 0)) seen' of_index;
+}
+
+-- an engine that was opened on a database whose index is right
+pub stands_right : {D E : Type 0} {rows : Ghosts D} {index : Ghosts E} (state : State) (engine : Engine D E rows index) → Holds (opened state) engine → IsRight state
+    → Stands (opened state) engine
+stands_right state engine holds right = record { holds = holds; right = right }

@@ -1,13 +1,14 @@
 -- Batches that a run makes behind a reply.
 use Rattle.std.specs.Prelude.{◌≡◌, ℕ, suc, false, List, ◌++◌, Option, Some, None, IsTrue}
 use Rattle.fts_faults.specs.Count.{CountsFault}
+use Rattle.fts_schema.specs.declared.reply.Reply.{Reply}
 use Rattle.fts_steps.specs.Running.{Running, IsSure}
 use Rattle.fts_steps.specs.Crash.{IsBetween, IsIndexBetween}
 use Rattle.fts_steps.specs.Step.{Call, Sight, Leaves, AreAlone, Follows, after_all}
 use Rattle.fts_top.specs.declared.ends.Health.{Health}
 use Rattle.fts_top.specs.declared.ends.Health.TheVariants.{Sound, Failed}
-use Rattle.fts_top.specs.Health.{health_of_steps}
-use Rattle.fts_top.specs.Talk.{AreBatches}
+use Rattle.fts_top.specs.Health.{health_of, health_of_steps, worse}
+use Rattle.fts_top.specs.Talk.{AreBatches, committed_by}
 
 -- steps that were made one after another: on each engine for which they stood they answered as they may, and stand then
 -- for what these made of it; where there are no others, a crash at any moment leaves of each log what was before them
@@ -43,3 +44,9 @@ pub record MakesRound {S : Type 0} (sight : Sight S) (end : Option Health) (old 
   pub is : IsRound (sight.settings old).cache_bytes end calls
   pub steps : MakesSteps sight calls old new
   pub faults : CountsFault (end ≡ Some Failed) (sight.faults old) (sight.faults new)
+
+-- the batches that follow a reply were made, and this is the worse of what its line met and what they did
+pub record IsMetBehind {S : Type 0} (sight : Sight S) (reply : Reply) (met : Health) (old new : S) : Type 0 where
+  pub later : Health
+  pub batches : MakesBatches sight (committed_by reply) later old new
+  pub met_is : met ≡ worse (health_of reply) later

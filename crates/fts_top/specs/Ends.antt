@@ -25,6 +25,7 @@ status_of_run run_end.ReadFault = status.ReadFault
 status_of_run run_end.WriteFault = status.WriteFault
 status_of_run run_end.DiskFault = status.DiskFault
 status_of_run (run_end.ScriptTooLong lines bytes) = status.ScriptTooLong lines bytes
+status_of_run (run_end.TooManySessions number) = status.TooManySessions number
 
 -- the status of an end of `create`
 abbrev pub status_of_create : CreateEnd → Status

@@ -48,6 +48,7 @@ end_of halt.NoMemory health = end.NoMemory
 end_of halt.ReadFault health = end.ReadFault
 end_of halt.WriteFault health = end.WriteFault
 end_of (halt.TooLong lines bytes) health = end.ScriptTooLong lines bytes
+end_of (halt.TooManySessions number) health = end.TooManySessions number
 
 -- the script was read to its end
 abbrev pub IsRead : RunEnd → Type 0
@@ -58,3 +59,4 @@ IsRead end.NoMemory = ⊥
 IsRead end.ReadFault = ⊥
 IsRead end.WriteFault = ⊥
 IsRead (end.ScriptTooLong lines bytes) = ⊥
+IsRead (end.TooManySessions number) = ⊥

@@ -1,3 +1,5 @@
+pub mod Sessions
+pub mod Kept
 pub mod Talk
 pub mod Ends
 pub mod Health
@@ -6,4 +8,7 @@ pub mod Run
 pub mod Once
 pub mod Number
 pub mod StatusText
+pub mod Sight
 pub mod Laws
+pub mod Generate
+pub mod Generated

@@ -14,3 +14,4 @@ number_of status.NotCreated = 6
 number_of status.AlreadyCreated = 7
 number_of (status.Damaged device file at) = 8
 number_of (status.ScriptTooLong lines bytes) = 9
+number_of (status.TooManySessions number) = 10

@@ -1,5 +1,6 @@
 use Rattle.std.specs.Prelude.{◌≡◌, ◌⊎◌, ◌≤◌, ◌+◌, ◌^◌, Bool, false, ℕ, List, ◌∷◌, [], ◌++◌, length, take, codes, IsTrue}
-use Rattle.fts_io.specs.Text.{lines_of}
+use Rattle.fts_io.specs.Text.{Line, lines_of}
+use Rattle.fts_top.specs.Sessions.{AreOf, IsCrowded}
 use Rattle.fts_steps.specs.State.{State, IsDatabase, IsRight, IsCreated, created_with}
 use Rattle.fts_steps.specs.Running.{opened}
 use Rattle.fts_steps.specs.Step.{Sight}
@@ -17,7 +18,7 @@ use Rattle.fts_engine.specs.declared.error.Device.TheVariants.{Rows, Index}
 use Rattle.fts_engine.specs.Opening.{IsDamaged, IsIndexDamaged}
 use Rattle.fts_engine.specs.Stands.{OnRows, OnIndex}
 use Rattle.fts_args.specs.Asked.{Asks}
-use Rattle.fts_args.specs.declared.command.Command.TheVariants.{Create, Run}
+use Rattle.fts_args.specs.declared.command.Command.TheVariants.{Create, Run, Gen}
 use Rattle.fts_top.specs.declared.status.Status.{Status}
 use Rattle.fts_top.specs.declared.status.Status.TheVariants as status
 use Rattle.fts_top.specs.declared.ends.RunEnd.{RunEnd}
@@ -119,6 +120,8 @@ pub record Executed {D E : Type 0} (disks : Disks D E) (limits : Limits) (end : 
       → Outcome (device_sight disks start.settings limits) end (opened start) (lines_of before.source.left)
       (seen_from before) (seen_from after)
   pub whole : IsRead end → IsTrue before.source.tells → length before.source.left ≤ 2 ^ 40
+  pub crowded : (number : ℕ) → end ≡ run_end.TooManySessions number → IsTrue before.source.tells
+      → IsCrowded (lines_of before.source.left) number
   pub too_long : (lines bytes : ℕ) → end ≡ run_end.ScriptTooLong lines bytes → IsTrue before.source.tells
       → PassesLimit bytes before.source.left after.source.left
   pub fault : IsRead end
@@ -205,11 +208,18 @@ pub record NoneRose {D E : Type 0} (disks : Disks D E) (before after : Outside D
 abbrev pub Finishes : Status → Type 0
 Finishes result = (result ≡ status.Done) ⊎ (result ≡ status.NoMemory)
 
+-- the lines are of 16 sessions at most
+abbrev pub HasFewSessions : List Line → Type 0
+HasFewSessions lines = (numbers : List ℕ) × AreOf [] lines numbers × (length numbers ≤ 16)
+
 -- the words are a command that fits the devices: `create` where no database was created, or `run` on a database, with a
--- script of at most 2^40 bytes
+-- script of at most 2^40 bytes, of 16 sessions at most, or `gen` on a database
 abbrev pub CanFinish : {D E : Type 0} → Disks D E → List (List ℕ) → Outside D E → Type 0
 CanFinish disks words before =
     ((settings : Settings) × Asks words (Create settings) × IsTrue disks.rows.tells
     × (IsCreated (file_of disks.rows before.devices.rows) → ⊥))
-    ⊎ (Asks words Run × IsTrue before.source.tells × DisksTell disks
-    × ((state : State) × Holds disks state before.devices) × (length before.source.left ≤ 2 ^ 40))
+    ⊎ ((Asks words Run × IsTrue before.source.tells × DisksTell disks
+    × ((state : State) × Holds disks state before.devices) × (length before.source.left ≤ 2 ^ 40)
+    × HasFewSessions (lines_of before.source.left))
+    ⊎ (((seed : ℕ) × (statements : ℕ) × Asks words (Gen seed statements)) × DisksTell disks
+    × ((state : State) × Holds disks state before.devices)))

@@ -1,16 +1,15 @@
-use Rattle.std.specs.Prelude.{◌≡◌, ◌⊎◌, ◌<◌, ◌+◌, ◌^◌, ℕ, Bool, true, false, List, [], ◌∷◌, ◌++◌, length, take, IsTrue}
-use Rattle.std.specs.Prelude.{Result, Ok, Err}
+use Rattle.std.specs.Prelude.{◌≡◌, ◌⊎◌, ◌<◌, ◌≤◌, ◌+◌, ◌^◌, ℕ, Bool, true, false, List, [], ◌∷◌, ◌++◌, length, take}
+use Rattle.std.specs.Prelude.{IsTrue, Result, Ok, Err, Some}
 use Rattle.fts_faults.specs.Count.{CountsFault}
 use Rattle.fts_io.specs.Text.{Line}
 use Rattle.fts_io.specs.Reading.{OnlyBegun, lines_from}
 use Rattle.fts_schema.specs.declared.reply.Reply.{Reply}
-use Rattle.fts_schema.specs.declared.reply.Reply.TheVariants.{DiskFault}
-use Rattle.fts_schema.specs.Reply.{text_of}
+use Rattle.fts_schema.specs.Reply.{text_of, is_fixed}
 use Rattle.fts_steps.specs.Running.{Running, IsSure}
 use Rattle.fts_disk.specs.Crash.{Images}
 use Rattle.fts_steps.specs.Crash.{IsBetween, IsIndexBetween}
 use Rattle.fts_steps.specs.Step.{Call, Sight, Leaves, AreAlone, Follows, after_all}
-use Rattle.fts_sessions.specs.Execute.{Executes}
+use Rattle.fts_top.specs.Sessions.{IsOf, Met, is_met, Serves}
 use Rattle.fts_top.specs.declared.ends.Health.{Health}
 use Rattle.fts_top.specs.declared.ends.Health.TheVariants as health
 use Rattle.fts_top.specs.declared.ends.Halt.{Halt}
@@ -46,20 +45,23 @@ abbrev pub MayCrashIndex : {S : Type 0} → Sight S → Running → Running → 
 MayCrashIndex sight start now before c =
     sight.index.disk.images (sight.index.device before) c ⊎ IsIndexBetween start now c
 
--- the lines from the front of the script that were executed, what is ahead, and the text that was written; `sent` says
--- that the last reply was sent, and the batches behind it were made. While no line met a fault, commits are taken; a
--- fault was counted exactly where one met it. A crash at any moment leaves of each log what it could leave before, or
--- the log with a front of what was added: the commits, and the entries of batches
+-- the lines from the front of the script that were executed, which are those of 16 sessions at most, what is ahead, and
+-- the text that was written; `sent` says that the last reply was sent, and the batches behind it were made. While no
+-- line met a fault, commits are taken; a fault was counted exactly where one met it. A crash at any moment leaves of
+-- each log what it could leave before, or the log with a front of what was added: the commits, and the entries of
+-- batches
 pub record Front {S : Type 0} (sight : Sight S) (start : Running) (sent : Bool) (script ahead : List Line)
     (before after : Sides S) : Type 0 where
   pub lines : List Line
   pub calls : List Call
   pub replies : List Reply
   pub met : Health
+  pub sessions : List Met
   pub text : List ℕ
   pub front : script ≡ lines ++ ahead
   pub written : after.held ≡ before.held ++ text
-  pub talks : Talks (sight.settings before.steps) sent lines calls replies met
+  pub talks : Talks (sight.settings before.steps) sent [] lines calls replies met sessions
+  pub few : length sessions ≤ 16
   pub alone : sight.is_shared ≡ false → AreAlone calls
   pub follows : Follows (sight.limits before.steps) start calls
   pub settings : sight.settings after.steps ≡ sight.settings before.steps
@@ -116,19 +118,32 @@ pub record Late {S : Type 0} (sight : Sight S) (start : Running) (script : List 
   pub cut : IsCut n front.replies front.text
   pub rest : IsLeft ahead after.left
 
--- each reply was sent, or all but the last, which tells no fault
+-- each reply was sent, or all but the last, which has a number or a name: a text that is fixed takes no memory
 abbrev pub IsSent : Bool → List Reply → List ℕ → Type 0
 IsSent true replies text = IsWhole replies text
-IsSent false replies text = (cut : IsCut 0 replies text) × (cut.last ≡ DiskFault → ⊥)
+IsSent false replies text = (cut : IsCut 0 replies text) × (is_fixed cut.last ≡ false)
 
--- memory ran out for a line or for a reply: the lines before it were executed and each reply written; or it too was
--- executed, which met no fault, and nothing of its reply written
+-- memory ran out for a line or for a reply: the lines before it were executed and each reply written, and a line is
+-- ahead, unless none was executed; or it too was executed, and nothing of its reply written
 pub record Starves {S : Type 0} (sight : Sight S) (start : Running) (script : List Line) (before after : Sides S)
     : Type 0 where
   pub ahead : List Line
   pub sent : Bool
   pub front : Front sight start sent script ahead before after
   pub written : IsSent sent front.replies front.text
+  pub unread : sent ≡ true → (front.lines ≡ []) ⊎ (ahead ≡ [] → ⊥)
+  pub rest : IsLeft ahead after.left
+
+-- whole lines from the front were executed, and the first of those ahead is the first line of a 17th session
+pub record Crowds {S : Type 0} (sight : Sight S) (start : Running) (script : List Line) (number : ℕ)
+    (before after : Sides S) : Type 0 where
+  pub line : Line
+  pub ahead : List Line
+  pub front : Front sight start true script (line ∷ ahead) before after
+  pub whole : IsWhole front.replies front.text
+  pub of : IsOf line (Some number)
+  pub unmet : is_met front.sessions number ≡ false
+  pub many : length front.sessions ≡ 16
   pub rest : IsLeft ahead after.left
 
 -- what a run has done with these lines, by its end
@@ -139,38 +154,48 @@ Outcome sight end.DiskFault start script before after = Reads sight health.Faile
 Outcome sight end.ReadFault start script before after = Stops sight start script 0 before after
 Outcome sight (end.ScriptTooLong lines bytes) start script before after =
     (stops : Stops sight start script 1 before after) × (lines ≡ length stops.front.lines)
+Outcome sight (end.TooManySessions number) start script before after = Crowds sight start script number before after
 Outcome sight end.WriteFault start script before after = (n : ℕ) × Late sight start script n before after
 Outcome sight end.NoMemory start script before after = Starves sight start script before after
 
 -- a line was executed, and of its reply the first n bytes were written
-pub record Replies {S : Type 0} (sight : Sight S) (line : Line) (n : ℕ) (before after : Sides S) : Type 0 where
+pub record Replies {S : Type 0} (sight : Sight S) (line : Line) (n : ℕ) (sessions left : List Met)
+    (before after : Sides S) : Type 0 where
   pub reply : Reply
-  pub executes : Executes sight line before.steps reply after.steps
+  pub serves : Serves sight line sessions before.steps reply left after.steps
   pub written : after.held ≡ before.held ++ take n (text_of reply)
 
 -- a line was executed and its reply written, and then the batches were made that follow it
-pub record IsDone {S : Type 0} (sight : Sight S) (line : Line) (met : Health) (before after : Sides S) : Type 0 where
+pub record IsDone {S : Type 0} (sight : Sight S) (line : Line) (met : Health) (sessions left : List Met)
+    (before after : Sides S) : Type 0 where
   pub reply : Reply
   pub middle : S
-  pub executes : Executes sight line before.steps reply middle
+  pub serves : Serves sight line sessions before.steps reply left middle
   pub written : after.held ≡ before.held ++ text_of reply
   pub later : Health
   pub batches : MakesBatches sight (committed_by reply) later middle after.steps
   pub met_is : met ≡ worse (health_of reply) later
 
--- one line of a run, which goes on or ends: from the lines ahead to those behind it
-abbrev pub OneLine : {S : Type 0} → Sight S → Result Health Halt → List Line → List Line → Sides S → Sides S → Type 0
-OneLine sight (Ok met) ahead behind before after =
-    (line : Line) × (ahead ≡ line ∷ behind) × IsDone sight line met before after
-OneLine sight (Err halt.End) ahead behind before after = (ahead ≡ []) × (after.left ≡ []) × Stays before after
-OneLine sight (Err halt.ReadFault) ahead behind before after = Begun 0 ahead after.left × Stays before after
-OneLine sight (Err (halt.TooLong lines bytes)) ahead behind before after = Begun 1 ahead after.left × Stays before after
-OneLine sight (Err halt.WriteFault) ahead behind before after = (line : Line) × (ahead ≡ line ∷ behind)
-    × ((n : ℕ) × Replies sight line n before after) × IsLeft behind after.left
-OneLine sight (Err halt.NoMemory) ahead behind before after =
-    IsLeft behind after.left × (((ahead ≡ behind) × Stays before after)
+-- one line of a run, which goes on or ends: from the lines ahead to those behind it, and from these sessions to those
+abbrev pub OneLine : {S : Type 0} → Sight S → Result Health Halt → List Line → List Line → List Met → List Met
+    → Sides S → Sides S → Type 0
+OneLine sight (Ok met) ahead behind sessions left before after =
+    (line : Line) × (ahead ≡ line ∷ behind) × IsDone sight line met sessions left before after
+OneLine sight (Err halt.End) ahead behind sessions left before after =
+    (ahead ≡ []) × (after.left ≡ []) × Stays before after
+OneLine sight (Err halt.ReadFault) ahead behind sessions left before after =
+    Begun 0 ahead after.left × Stays before after
+OneLine sight (Err (halt.TooLong lines bytes)) ahead behind sessions left before after =
+    Begun 1 ahead after.left × Stays before after
+OneLine sight (Err (halt.TooManySessions number)) ahead behind sessions left before after = (line : Line)
+    × (ahead ≡ line ∷ behind) × IsOf line (Some number) × (is_met sessions number ≡ false) × (length sessions ≡ 16)
+    × IsLeft behind after.left × Stays before after
+OneLine sight (Err halt.WriteFault) ahead behind sessions left before after = (line : Line) × (ahead ≡ line ∷ behind)
+    × ((n : ℕ) × Replies sight line n sessions left before after) × IsLeft behind after.left
+OneLine sight (Err halt.NoMemory) ahead behind sessions left before after =
+    IsLeft behind after.left × (((ahead ≡ behind) × (behind ≡ [] → ⊥) × Stays before after)
     ⊎ ((line : Line) × (ahead ≡ line ∷ behind)
-    × ((replies : Replies sight line 0 before after) × (replies.reply ≡ DiskFault → ⊥))))
+    × ((replies : Replies sight line 0 sessions left before after) × (is_fixed replies.reply ≡ false))))
 
 -- the script was too long: more than 2^40 bytes of it were taken, and the rest is left
 abbrev pub PassesLimit : ℕ → List ℕ → List ℕ → Type 0

@@ -16,3 +16,4 @@ status_text status.AlreadyCreated = codes "already created"
 status_text (status.Damaged device file at) =
     codes "damaged " ++ (device_text device ++ (codes " file " ++ (decimal file ++ (codes " at " ++ decimal at))))
 status_text (status.ScriptTooLong lines bytes) = codes "script too long"
+status_text (status.TooManySessions number) = codes "too many sessions"

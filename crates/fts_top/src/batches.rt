@@ -1,11 +1,11 @@
 ghost use Rattle.std.specs.Prelude.{◌≡◌};
-ghost use Rattle.fts_top.specs.Batches.{MakesBatches, MakesRound};
+ghost use Rattle.fts_top.specs.Batches.{MakesBatches, MakesRound, IsMetBehind};
 ghost use Rattle.fts_top.specs.Talk.{committed_by};
 
-use crate::ends::Health;
+use crate::ends::{Health, health_of};
 use fts_schema::Reply;
 use fts_sessions::EngineSteps;
-use fts_steps::{SyncBatch, SyncError};
+use fts_steps::{IndexError, SyncBatch};
 
 /// Makes the batches that follow a reply, and tells what they met: a fault of a device in one of
 /// them too, which the status of the run tells at its end. Behind a commit one batch after another
@@ -17,14 +17,29 @@ pub fn batches_behind<S: EngineSteps>(steps: &mut S, reply: &Reply) -> Health
     make_batches(steps, commits_told(reply))
 }
 
+/// Makes the batches that follow a reply, and tells what the line of the reply met, and they.
+pub fn met_behind<S: EngineSteps>(steps: &mut S, reply: &Reply) -> Health
+    ensures { IsMetBehind S.sight reply.now result steps.old steps.new }
+{
+    health_of(reply).worse(batches_behind(steps, reply))
+}
+
 // The number of the commit that a reply tells, 0 where it tells none.
 fn commits_told(reply: &Reply) -> u64
     ensures { result ≡ committed_by reply.now }
 {
     match reply {
         Reply::Committed { number } => *number,
+        Reply::CommittedAndBegun { number } => *number,
+        Reply::Begun => 0,
+        Reply::Buffered { .. } => 0,
+        Reply::NothingToCommit => 0,
+        Reply::RolledBack { .. } => 0,
+        Reply::TooManyChanges { .. } => 0,
         Reply::Found { .. } => 0,
         Reply::Synced { .. } => 0,
+        Reply::NothingToOptimize => 0,
+        Reply::Optimized { .. } => 0,
         Reply::Listed { .. } => 0,
         Reply::Refused { .. } => 0,
         Reply::LogFull { .. } => 0,
@@ -69,9 +84,9 @@ fn one_round<S: EngineSteps>(steps: &mut S) -> Option<Health>
     match steps.sync_batch() {
         Ok(SyncBatch::Flushed { .. }) => None,
         Ok(SyncBatch::Nothing { .. }) => Some(Health::Sound),
-        Err(SyncError::NoMemory) => Some(Health::Short),
-        Err(SyncError::LogFull { .. }) => Some(Health::Sound),
-        Err(SyncError::DiskFault { .. }) => Some(Health::Failed),
-        Err(SyncError::Stopped { .. }) => Some(Health::Sound),
+        Err(IndexError::NoMemory) => Some(Health::Short),
+        Err(IndexError::LogFull { .. }) => Some(Health::Sound),
+        Err(IndexError::DiskFault { .. }) => Some(Health::Failed),
+        Err(IndexError::Stopped { .. }) => Some(Health::Sound),
     }
 }

@@ -2,6 +2,7 @@
 ghost use Rattle.std.specs.Prelude.{◌≡◌};
 ghost use Rattle.fts_top.specs.Ends.{halt_of_unsent, status_of_create};
 ghost use Rattle.fts_top.specs.Ends.{status_of_opening, status_of_run};
+ghost use Rattle.fts_top.specs.Generated.{status_of_gen as the_status_of_gen};
 ghost use Rattle.fts_top.specs.Health.{end_of as the_end_of, worse as the_worse};
 ghost use Rattle.fts_top.specs.Health.{health_of as the_health_of};
 
@@ -27,6 +28,8 @@ pub enum RunEnd {
     WriteFault,
     /// The script has more than 2^40 bytes. `lines` and `bytes` were taken.
     ScriptTooLong { lines: u64, bytes: u64 },
+    /// A line was the first of a 17th session, which has this number.
+    TooManySessions { session: u32 },
 }
 
 /// What the lines of a script and the batches behind them met so far.
@@ -53,6 +56,8 @@ pub enum Halt {
     WriteFault,
     /// The script has more than 2^40 bytes. `lines` and `bytes` were taken.
     TooLong { lines: u64, bytes: u64 },
+    /// A line is the first of a 17th session, which has this number.
+    TooManySessions { session: u32 },
 }
 
 /// What a line met, by its reply.
@@ -63,6 +68,12 @@ pub fn health_of(reply: &Reply) -> Health
         Reply::NoMemory => Health::Short,
         Reply::DiskFault => Health::Failed,
         Reply::Committed { .. } => Health::Sound,
+        Reply::CommittedAndBegun { .. } => Health::Sound,
+        Reply::Begun => Health::Sound,
+        Reply::Buffered { .. } => Health::Sound,
+        Reply::NothingToCommit => Health::Sound,
+        Reply::RolledBack { .. } => Health::Sound,
+        Reply::TooManyChanges { .. } => Health::Sound,
         Reply::Found { .. } => Health::Sound,
         Reply::Refused { .. } => Health::Sound,
         Reply::LogFull { .. } => Health::Sound,
@@ -77,6 +88,8 @@ pub fn health_of(reply: &Reply) -> Health
         Reply::LineTooLong => Health::Sound,
         Reply::Stopped { .. } => Health::Sound,
         Reply::Synced { .. } => Health::Sound,
+        Reply::NothingToOptimize => Health::Sound,
+        Reply::Optimized { .. } => Health::Sound,
         Reply::Listed { .. } => Health::Sound,
     }
 }
@@ -110,6 +123,7 @@ impl Halt {
             Halt::ReadFault => RunEnd::ReadFault,
             Halt::WriteFault => RunEnd::WriteFault,
             Halt::TooLong { lines, bytes } => RunEnd::ScriptTooLong { lines, bytes },
+            Halt::TooManySessions { session } => RunEnd::TooManySessions { session },
         }
     }
 }
@@ -149,6 +163,19 @@ impl From<Unsent> for Halt {
     }
 }
 
+/// The status of how a generated script ends.
+pub fn status_of_gen(end: Result<Health, Unsent>) -> Status
+    ensures { result ≡ the_status_of_gen end }
+{
+    match end {
+        Ok(Health::Sound) => Status::Done,
+        Ok(Health::Short) => Status::NoMemory,
+        Ok(Health::Failed) => Status::DiskFault,
+        Err(Unsent::NoMemory) => Status::NoMemory,
+        Err(Unsent::WriteFault) => Status::WriteFault,
+    }
+}
+
 impl From<RunEnd> for Status {
     ghost from_gives = { λ end status. status ≡ status_of_run end };
 
@@ -161,6 +188,7 @@ impl From<RunEnd> for Status {
             RunEnd::WriteFault => Status::WriteFault,
             RunEnd::DiskFault => Status::DiskFault,
             RunEnd::ScriptTooLong { lines, bytes } => Status::ScriptTooLong { lines, bytes },
+            RunEnd::TooManySessions { session } => Status::TooManySessions { session },
         }
     }
 }

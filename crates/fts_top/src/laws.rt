@@ -1,12 +1,13 @@
 //! What holds of each script.
-ghost use Rattle.std.specs.Prelude.{◌≡◌, ℕ, List};
+ghost use Rattle.std.specs.Prelude.{◌≡◌, ℕ, List, length};
 ghost use Rattle.fts_types.specs.declared.limits.Limits.{Limits};
 ghost use Rattle.fts_io.specs.Text.{Line};
 ghost use Rattle.fts_schema.specs.declared.reply.Reply.{Reply};
 ghost use Rattle.fts_steps.specs.Running.{Running};
 ghost use Rattle.fts_steps.specs.Step.{Call};
 ghost use Rattle.fts_top.specs.Talk.{texts_of};
-ghost use Rattle.fts_top.specs.Laws.{Converse};
+ghost use Rattle.fts_top.specs.Laws.{Converse, Talked};
+ghost use Rattle.fts_top.specs.Sight.{Rise, AreOwn};
 
 /// The lines of a script, executed to their end on an engine under some limits, with nobody else
 /// and without a fault or want of memory, make one list of steps and have one text. It does
@@ -16,4 +17,18 @@ pub fn one_text()
         → (calls others : List Call) → (replies told : List Reply)
         → Converse limits start lines calls replies → Converse limits start lines others told
         → (calls ≡ others) × (texts_of replies ≡ texts_of told) }
+{}
+
+/// Along a run with nobody else the numbers of commits that replies tell never fall, and those of
+/// commits rise: of all replies, and so of those of each session. A search or a listing behind a
+/// commit tells of that commit, or of more. It does nothing: its contract is the theorem.
+pub fn sight_rises()
+    ensures all { (limits : Limits) → (start : Running) → (lines : List Line)
+        → (calls : List Call) → (replies : List Reply)
+        → Talked limits start lines calls replies
+        → Rise (length start.state.commits) replies }
+    ensures own { (limits : Limits) → (start : Running) → (lines : List Line)
+        → (calls : List Call) → (replies own : List Reply) → (session : ℕ)
+        → Talked limits start lines calls replies → AreOwn session lines replies own
+        → Rise (length start.state.commits) own }
 {}

@@ -11,15 +11,17 @@
 
 mod batches;
 mod ends;
+mod generate;
 mod laws;
 mod once;
 mod script;
+mod sessions;
 mod status;
 
 pub use ends::{CreateEnd, RunEnd};
 pub use fts_args::{Command, command_of};
 pub use fts_engine::Device;
-pub use laws::one_text;
+pub use laws::{one_text, sight_rises};
 pub use once::fts_once;
 pub use script::run;
 pub use status::Status;

@@ -7,12 +7,14 @@ ghost use Rattle.fts_types.specs.Limits.{standard_limits};
 ghost use Rattle.fts_args.specs.Asked.{Asks};
 ghost use Rattle.fts_args.specs.declared.command.Command.{Command};
 ghost use Rattle.fts_engine.specs.Bounds.{AreWithin};
+ghost use Rattle.fts_top.specs.Generated.{GenEnds};
 ghost use Rattle.fts_top.specs.Once.{outside, devices_of, disks_of, sink_seen, CreateEnds, Creates};
 ghost use Rattle.fts_top.specs.Once.{Executed, RunEnds, Unopened};
 ghost use Rattle.fts_top.specs.Once.{CountsFaults, NoneRose, CanFinish, Finishes};
 
 use crate::Status;
-use crate::ends::{CreateEnd, RunEnd};
+use crate::ends::{CreateEnd, RunEnd, status_of_gen};
+use crate::generate::gen_script;
 use crate::script::run;
 use fts_args::{Command, command_of};
 use fts_disk::Disk;
@@ -90,6 +92,8 @@ fn create<O: Sink, D: Disk, E: Disk>(
 
 /// Does what the words ask for: `create` makes a database on the two devices, and `run` opens it
 /// and executes the lines of the input, each line's reply written before the next line is executed.
+/// `gen` opens it too, executes the lines of a script that is made from a number, and writes one
+/// line that tells what these come to.
 ///
 /// `words` are all words behind the program's name. The first names the folder, which concerns the
 /// caller that made the devices of it. Both devices are handed back.
@@ -123,6 +127,13 @@ pub fn fts_once<I: Source, O: Sink, D: Disk, E: Disk, G: Gate>(
         (outside I.Source O.Sink input.old out.old rows index)
         (outside I.Source O.Sink input.new out.new result.1 result.2) }
 
+    ensures generates { (seed count : ℕ)
+        → Asks (map string_bytes words.now) (Command.Gen seed count)
+        → (input.new ≡ input.old)
+        × GenEnds (disks_of D.Disk E.Disk) seed count result.0 (out.new ≡ out.old)
+        (sink_seen O.Sink out.old) (sink_seen O.Sink out.new)
+        (devices_of rows index) (devices_of result.1 result.2) }
+
     // When a stream's fault is told, and that without any all is done, but for want of memory.
     ensures faults { CountsFaults result.0
         (outside I.Source O.Sink input.old out.old rows index)
@@ -144,6 +155,13 @@ pub fn fts_once<I: Source, O: Sink, D: Disk, E: Disk, G: Gate>(
             let (end, rows, index) = run_script(alloc, input, out, rows, index, limits, gate);
             match end {
                 Ok(end) => (Status::from(end), rows, index),
+                Err(error) => (Status::from(error), rows, index),
+            }
+        }
+        Ok(Some(Command::Gen { seed, count })) => {
+            let (end, rows, index) = gen_script(alloc, seed, count, out, rows, index, gate);
+            match end {
+                Ok(end) => (status_of_gen(end), rows, index),
                 Err(error) => (Status::from(error), rows, index),
             }
         }

@@ -1,21 +1,26 @@
-ghost use Rattle.std.specs.Prelude.{◌≡◌, ◌^◌, ◌<◌, ◌≤◌, ◌+◌, ℕ, [], length, IsTrue, IsOk, Ok, Err};
+ghost use Rattle.std.specs.Prelude.{◌≡◌, ◌^◌, ◌<◌, ◌≤◌, ◌+◌, ℕ, [], length, IsTrue, IsOk};
+ghost use Rattle.std.specs.Prelude.{false, Ok, Err};
 ghost use Rattle.fts_faults.specs.Count.{CountsFault};
 ghost use Rattle.fts_io.specs.Text.{lines_of};
 ghost use Rattle.fts_io.specs.Reading.{ahead, given_by, taken_by, work_left};
+ghost use Rattle.fts_schema.specs.Reply.{is_fixed};
 ghost use Rattle.fts_steps.specs.Running.{Running};
 ghost use Rattle.fts_top.specs.Health.{IsRead};
+ghost use Rattle.fts_top.specs.Kept.{mets, AreKept, AllFit, NextSession};
+ghost use Rattle.fts_top.specs.Sessions.{IsCrowded};
 ghost use Rattle.fts_top.specs.Run.{Outcome, OneLine, PassesLimit, Sends, sides};
 
-use crate::batches::batches_behind;
-use crate::ends::{Halt, Health, RunEnd, Unsent, health_of};
+use crate::batches::met_behind;
+use crate::ends::{Halt, Health, RunEnd, Unsent};
+use crate::sessions::Sessions;
 use fts_io::{Gate, Lines, Next, Sink, Source, write_whole};
 use fts_schema::{Reply, fixed_text, reply_text};
-use fts_sessions::{EngineSteps, Session};
+use fts_sessions::EngineSteps;
 use std::alloc::Global;
 
-/// Executes the lines of the source in order. Each reply is written before the next line is
-/// executed. A refused line ends nothing, also where it is refused for want of memory or by a fault
-/// of a device.
+/// Executes the lines of the source in order, each in its own session. Each reply is written before
+/// the next line is executed. A refused line ends nothing, also where it is refused for want of
+/// memory or by a fault of a device. Behind the last line what is open in the sessions is given up.
 pub fn run<I: Source, O: Sink, S: EngineSteps, G: Gate>(
     alloc: Global,
     input: &mut I,
@@ -38,15 +43,20 @@ pub fn run<I: Source, O: Sink, S: EngineSteps, G: Gate>(
         → IsTrue I.tells
         → PassesLimit bytes (I.left input.old) (I.left input.new) }
     ensures whole { IsTrue I.tells → IsRead result → length (I.left input.old) ≤ 2 ^ 40 }
+    ensures crowded { (number : ℕ) → result ≡ RunEnd.TooManySessions number → IsTrue I.tells
+        → IsCrowded (lines_of (I.left input.old)) number }
 {
     let mut lines = match Lines::new(alloc) {
         Ok(lines) => lines,
         Err(_) => return RunEnd::NoMemory,
     };
-    let mut session = Session::new(alloc, 1);
+    let mut sessions = match Sessions::new(alloc) {
+        Ok(sessions) => sessions,
+        Err(_) => return RunEnd::NoMemory,
+    };
     let mut met = Health::Sound;
     'lines: loop {
-        match one_line(alloc, &mut lines, input, out, &mut session, steps, gate) {
+        match one_line(alloc, &mut lines, input, out, &mut sessions, steps, gate) {
             Ok(now) => met = met.worse(now),
             Err(halt) => return halt.end_of(met),
         }
@@ -59,14 +69,22 @@ fn one_line<I: Source, O: Sink, S: EngineSteps, G: Gate>(
     lines: &mut Lines,
     input: &mut I,
     out: &mut O,
-    session: &mut Session,
+    sessions: &mut Sessions,
     steps: &mut S,
     gate: &G,
 ) -> Result<Health, Halt>
+    requires kept { AreKept sessions.old }
+    requires fit { AllFit (length (S.sight.settings steps.old).columns) sessions.old }
     ensures line { IsTrue I.tells → IsTrue O.tells → OneLine S.sight result
         (ahead lines.old (I.left input.old)) (ahead lines.new (I.left input.new))
+        (mets sessions.old) (mets sessions.new)
         (sides (I.left input.old) (O.holds out.old) steps.old)
         (sides (I.left input.new) (O.holds out.new) steps.new) }
+    ensures session { IsTrue I.tells → NextSession result
+        (ahead lines.old (I.left input.old)) (ahead lines.new (I.left input.new))
+        (mets sessions.old) (mets sessions.new) }
+    ensures kept { AreKept sessions.new }
+    ensures fit { AllFit (length (S.sight.settings steps.new).columns) sessions.new }
     ensures progress { IsOk result → work_left lines.new < work_left lines.old }
     ensures counts { IsTrue I.tells
         → taken_by lines.new + length (I.left input.new)
@@ -85,16 +103,19 @@ fn one_line<I: Source, O: Sink, S: EngineSteps, G: Gate>(
         → (I.left input.new ≡ []) × (taken_by lines.new ≤ 2 ^ 40) }
 {
     match lines.next_line(input) {
-        Next::Line(line) => {
-            let reply = session.execute(steps, gate, &line);
-            match send(alloc, out, &reply) {
-                Ok(()) => Ok(health_of(&reply).worse(batches_behind(steps, &reply))),
+        Next::Line(line) => match sessions.execute(steps, gate, &line) {
+            Ok(reply) => match send(alloc, out, &reply) {
+                Ok(()) => Ok(met_behind(steps, &reply)),
                 Err(unsent) => Err(Halt::from(unsent)),
-            }
-        }
-        Next::TooLong { line: _ } => match send(alloc, out, &Reply::LineTooLong) {
-            Ok(()) => Ok(Health::Sound),
-            Err(unsent) => Err(Halt::from(unsent)),
+            },
+            Err(session) => Err(Halt::TooManySessions { session }),
+        },
+        Next::TooLong { line: _ } => match sessions.skip() {
+            Ok(()) => match send(alloc, out, &Reply::LineTooLong) {
+                Ok(()) => Ok(Health::Sound),
+                Err(unsent) => Err(Halt::from(unsent)),
+            },
+            Err(session) => Err(Halt::TooManySessions { session }),
         },
         Next::End => Err(Halt::End),
         Next::Endless { bytes } => Err(Halt::TooLong {
@@ -106,10 +127,10 @@ fn one_line<I: Source, O: Sink, S: EngineSteps, G: Gate>(
     }
 }
 
-// Writes a reply. That of a fault takes no memory.
+// Writes a reply. A text that is fixed, as that of a fault, takes no memory.
 fn send<O: Sink>(alloc: Global, out: &mut O, reply: &Reply) -> Result<(), Unsent>
     ensures sends { IsTrue O.tells → Sends result reply.now (O.holds out.old) (O.holds out.new) }
-    ensures fault { result ≡ Err Unsent.NoMemory → reply.now ≡ Reply.DiskFault → ⊥ }
+    ensures fixed { result ≡ Err Unsent.NoMemory → is_fixed reply.now ≡ false }
     ensures write { CountsFault (result ≡ Err Unsent.WriteFault)
         (O.faults out.old) (O.faults out.new) }
 {

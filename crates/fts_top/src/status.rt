@@ -28,6 +28,8 @@ pub enum Status {
     Damaged { device: Device, file: u32, at: u64 },
     /// The script has more than 2^40 bytes. `lines` and `bytes` were taken.
     ScriptTooLong { lines: u64, bytes: u64 },
+    /// A line of the script was the first of a 17th session, which has this number.
+    TooManySessions { session: u32 },
 }
 
 impl Status {
@@ -46,6 +48,7 @@ impl Status {
             Status::AlreadyCreated => 7,
             Status::Damaged { .. } => 8,
             Status::ScriptTooLong { .. } => 9,
+            Status::TooManySessions { .. } => 10,
         }
     }
 }
@@ -68,6 +71,7 @@ impl fmt::Display for Status {
                 "damaged {device} file {file} at {at}"
             ),
             Status::ScriptTooLong { .. } => write!(f, "script too long"),
+            Status::TooManySessions { .. } => write!(f, "too many sessions"),
         }
     }
 }

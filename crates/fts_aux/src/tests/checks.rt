@@ -10,7 +10,6 @@ ghost use Rattle.fts_aux.specs.Tables.{ComesAfter};
 
 use crate::Tables;
 use fts_ilist::{Node, NodeSlice, WordNodes};
-use fts_types::Word;
 use std::cmp::Ordering;
 
 // The last id of nodes, and `before` where there is none.
@@ -54,7 +53,7 @@ pub fn come_after(tables: &Tables, batch: &[WordNodes]) -> bool
     match batch {
         [] => true,
         [first, rest @ ..] => {
-            let last = last_in(0, tables.nodes_of(first.word().as_bytes()));
+            let last = last_in(0, tables.nodes_of(first.word()));
             if !are_after(last, first.nodes()) {
                 return false;
             }
@@ -64,7 +63,7 @@ pub fn come_after(tables: &Tables, batch: &[WordNodes]) -> bool
 }
 
 // Whether a word stands before those of a batch.
-fn is_before(word: &Word, batch: &[WordNodes]) -> bool
+fn is_before(word: &[u8], batch: &[WordNodes]) -> bool
     ensures { IsTrue result → AllByRecursion (λ other. byte_order word.now other ≡ Less)
         (keys_of batch.now) }
 {

@@ -1,5 +1,5 @@
 use super::*;
-use fts_ilist::{Ilist, Nodes};
+use fts_ilist::{Ilist, NodeGroup, Nodes};
 use fts_listing::ListedWords;
 use fts_types::DocIds;
 use std::process::Abort;
@@ -13,29 +13,29 @@ fn lists(rt: &impl Abort, alloc: Global, listing: Listing, wanted: &str) -> Resu
     Ok(())
 }
 
-fn words_of(words: Nodes) -> Listing {
+fn words_of(words: Nodes<'static>) -> Listing {
     Listing::Words {
         words: ListedWords::new(words),
     }
 }
 
-fn push_group(nodes: &mut Vec<Node>, list: Ilist) -> Result<(), AllocError> {
+fn push_group(alloc: Global, nodes: &mut NodeGroup<'_>, list: Ilist) -> Result<(), AllocError> {
     if !list.is_empty() {
-        nodes.push(Node::new(list))?;
+        nodes.push(alloc, Node::new(list))?;
     }
     Ok(())
 }
 
 /// Two documents in a group, and one in another.
-fn groups(alloc: Global) -> Result<Vec<Node>, AllocError> {
-    let mut nodes = Vec::new(alloc);
+fn groups(alloc: Global) -> Result<NodeGroup<'static>, AllocError> {
+    let mut nodes = NodeGroup::new(alloc);
     let mut list = Ilist::new(alloc);
     list.push(7, &[0, 400])?;
     list.push(9, &[3])?;
-    push_group(&mut nodes, list)?;
+    push_group(alloc, &mut nodes, list)?;
     let mut list = Ilist::new(alloc);
     list.push(131_071, &[18])?;
-    push_group(&mut nodes, list)?;
+    push_group(alloc, &mut nodes, list)?;
     Ok(nodes)
 }
 
@@ -62,11 +62,11 @@ OK 2 rows as of 12
 ";
 
 /// The word with one document.
-fn word(alloc: Global, bytes: &[u8]) -> Result<WordNodes, AllocError> {
-    let mut nodes = Vec::new(alloc);
+fn word(alloc: Global, bytes: &[u8]) -> Result<WordNodes<'static>, AllocError> {
+    let mut nodes = NodeGroup::new(alloc);
     let mut list = Ilist::new(alloc);
     list.push(1, &[5])?;
-    push_group(&mut nodes, list)?;
+    push_group(alloc, &mut nodes, list)?;
     Ok(WordNodes::new(Word::copied(alloc, bytes)?, nodes))
 }
 

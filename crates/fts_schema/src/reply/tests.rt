@@ -25,7 +25,34 @@ fn numbers_are_told(rt: HostRuntime) -> Result<(), Fail> {
     let alloc = rt.alloc();
     for (reply, wanted) in [
         (Reply::Committed { number: 1 }, "OK commit 1\n"),
+        (
+            Reply::CommittedAndBegun { number: 2 },
+            "OK commit 2 begin\n",
+        ),
+        (Reply::Begun, "OK begin\n"),
+        (Reply::Buffered { changes: 3 }, "OK buffered 3\n"),
+        (Reply::NothingToCommit, "OK nothing to commit\n"),
+        (Reply::RolledBack { changes: 0 }, "OK rollback 0\n"),
+        (
+            Reply::TooManyChanges { changes: 1_001 },
+            "ERROR too many changes 1001\n",
+        ),
         (Reply::Synced { through: 7 }, "OK sync as of 7\n"),
+        (Reply::NothingToOptimize, "OK optimize nothing\n"),
+        (
+            Reply::Optimized {
+                words: 0,
+                finished: true,
+            },
+            "OK optimize 0 words, pass finished\n",
+        ),
+        (
+            Reply::Optimized {
+                words: 2_000,
+                finished: false,
+            },
+            "OK optimize 2000 words, pass open\n",
+        ),
         (Reply::LogFull { end: 4096 }, "ERROR log full at 4096\n"),
         (Reply::Syntax { at: 1 }, "ERROR syntax at 1\n"),
         (Reply::QuerySyntax { at: 1 }, "ERROR query syntax at 1\n"),

@@ -135,6 +135,74 @@ fn fronts_of_a_sync(rt: HostRuntime) {
     }
 }
 
+const OPTIMIZE: &str = "OPTIMIZE TABLE t ;";
+
+/// The answer to each front of `OPTIMIZE`, by its length.
+const OPTIMIZE_PLACES: [u64; 19] = [
+    NONE, 1, 1, 1, 1, 1, 1, 1, 9, 10, 10, 10, 10, 10, 15, 16, 0, 0, 0,
+];
+
+#[test]
+fn fronts_of_an_optimize(rt: HostRuntime) {
+    for (length, wanted) in OPTIMIZE_PLACES.iter().enumerate() {
+        assert_eq!(rt;
+            place(rt.alloc(), front(OPTIMIZE, length)),
+            *wanted,
+            "at {length}"
+        );
+    }
+}
+
+/// Statements of transactions, and of sessions.
+const TRANSACTIONS: [&str; 10] = [
+    "begin",
+    " START\ttransaction ; ",
+    "Commit;",
+    "ROLLBACK \r",
+    "1:BEGIN",
+    " 65535 : Commit ; ",
+    "007: INSERT INTO docs (id, body) VALUES (7, '7:')",
+    "7: DELETE FROM docs WHERE id = 8",
+    "7: SELECT FTS_DOC_ID FROM docs WHERE MATCH (body) AGAINST ('pie' IN BOOLEAN MODE)",
+    "7:SYNC",
+];
+
+#[test]
+fn transactions_are_taken(rt: HostRuntime) {
+    for line in TRANSACTIONS {
+        assert_eq!(rt; place(rt.alloc(), line.as_bytes()), 0, "in {line}");
+    }
+}
+
+/// Lines that are nearly one, and the place of the fault.
+const NEARLY_TRANSACTIONS: [(&str, u64); 18] = [
+    ("START", 6),
+    ("START;", 6),
+    ("BEGIN TRANSACTION", 7),
+    ("COMMIT 7", 8),
+    ("7 BEGIN", 3),
+    ("7", 2),
+    ("7:", 3),
+    ("7: ", 4),
+    ("7: -- x", 4),
+    ("7: 8: BEGIN", 4),
+    ("7:: BEGIN", 3),
+    ("BEGIN: 7", 6),
+    ("70000 BEGIN", 1),
+    ("70000: BEGIN", 1),
+    ("65536: BEGIN", 1),
+    (" 0 BEGIN", 2),
+    ("0: BEGIN", 1),
+    ("18446744073709551623: BEGIN", 1),
+];
+
+#[test]
+fn transactions_have_faults(rt: HostRuntime) {
+    for (line, wanted) in NEARLY_TRANSACTIONS {
+        assert_eq!(rt; place(rt.alloc(), line.as_bytes()), wanted, "in {line}");
+    }
+}
+
 const TAKEN: [&str; 8] = [
     "insert into DOCS (ID, Body) values (1, 'it''s'); ",
     "INSERT INTO docs (id) VALUES (1)",
@@ -153,13 +221,15 @@ fn statements_are_taken(rt: HostRuntime) {
     }
 }
 
-const TAKEN_OF_THE_INDEX: [&str; 6] = [
+const TAKEN_OF_THE_INDEX: [&str; 8] = [
     "select*from a . b",
     "SELECT * FROM information_schema.innodb_ft_config",
     "Select\t*\tFrom from.select ; ",
     " sync\r",
     "Sync;",
     "SYNC\t;\t",
+    " Optimize\ttable DOCS; ",
+    "optimize table table",
 ];
 
 #[test]
@@ -170,7 +240,7 @@ fn statements_of_the_index_are_taken(rt: HostRuntime) {
 }
 
 /// Lines that are nearly one, and the place of the fault.
-const NEARLY: [(&str, u64); 9] = [
+const NEARLY: [(&str, u64); 14] = [
     ("SELECT * FROM docs", 19),
     ("SELECT * FROM a.", 17),
     ("SELECT * FROM a b", 17),
@@ -180,6 +250,11 @@ const NEARLY: [(&str, u64); 9] = [
     ("SELECT FTS_DOC_ID FROM a.b", 25),
     ("SYNC docs", 6),
     ("SYNC;;", 6),
+    ("OPTIMIZE docs", 10),
+    ("OPTIMIZE TABLE", 15),
+    ("OPTIMIZE TABLE 'docs'", 16),
+    ("OPTIMIZE TABLE docs, docs", 20),
+    ("OPTIMIZE TABLE a.b", 17),
 ];
 
 #[test]
@@ -243,9 +318,9 @@ fn blank_lines_say_nothing(rt: HostRuntime) {
 const MISPLACED: [(&str, u64); 16] = [
     ("SELEC", 1),
     ("REPLACE INTO docs (id) VALUES (1)", 1),
-    ("BEGIN", 1),
+    ("BEGIN TRANSACTION", 7),
     ("SELECT id FROM docs", 8),
-    ("7: INSERT INTO docs (id) VALUES (1)", 1),
+    ("7; INSERT INTO docs (id) VALUES (1)", 2),
     (";", 1),
     ("INSERTINTO docs (id) VALUES (1)", 1),
     ("INSERT INTO docs () VALUES (1)", 19),
@@ -385,6 +460,49 @@ fn a_match_has_its_parts(rt: HostRuntime) -> Result<(), Fail> {
             && columns.text(1) == b"b".as_slice()
     );
     assert_eq!(rt; query.as_slice(), b"+pie".as_slice());
+    Ok(())
+}
+
+#[test]
+fn transactions_have_their_statements(rt: HostRuntime) -> Result<(), Fail> {
+    let alloc = rt.alloc();
+    for line in ["BEGIN", "2: start transaction"] {
+        assert!(rt;
+            matches!(
+                parse_statement(alloc, line.as_bytes())?,
+                Some(Statement::Begin)
+            )
+        );
+    }
+    assert!(rt; matches!(parse_statement(alloc, b"commit")?, Some(Statement::Commit)));
+    assert!(rt;
+        matches!(
+            parse_statement(alloc, b"3:rollback;")?,
+            Some(Statement::Rollback)
+        )
+    );
+    Ok(())
+}
+
+#[test]
+fn a_session_is_no_key(rt: HostRuntime) -> Result<(), Fail> {
+    let line = b"7: DELETE FROM docs WHERE id = 8";
+    let Some(Statement::Delete { key, .. }) = parse_statement(rt.alloc(), line)? else {
+        assert!(rt; false);
+        return Ok(());
+    };
+    assert_eq!(rt; key, 8);
+    Ok(())
+}
+
+#[test]
+fn an_optimize_has_its_table(rt: HostRuntime) -> Result<(), Fail> {
+    let Some(Statement::Optimize { table }) = parse_statement(rt.alloc(), b"OPTIMIZE table Docs;")?
+    else {
+        assert!(rt; false);
+        return Ok(());
+    };
+    assert_eq!(rt; table.as_slice(), b"Docs".as_slice());
     Ok(())
 }
 

@@ -160,3 +160,22 @@ pub fn finds(rt: &impl Abort, alloc: Global, bytes: &[u8], text: &str) -> Result
     ended(rt, &outcome, &Status::Done, text, text);
     Ok(())
 }
+
+/// What the lines of a script are answered, each in a run of its own.
+pub fn line_by_line(
+    alloc: Global,
+    script: &str,
+    rows: MemDisk,
+    index: MemDisk,
+) -> Result<Vec<u8>, AllocError> {
+    let mut text = Vec::new(alloc);
+    let mut rows = rows;
+    let mut index = index;
+    for line in script.lines() {
+        let run = call_on(alloc, RUN, line.as_bytes(), rows, index)?;
+        text.extend_from_slice(run.out.bytes())?;
+        rows = run.rows;
+        index = run.index;
+    }
+    Ok(text)
+}

@@ -1,4 +1,4 @@
-use super::calling::{FIND_APPLE, answers, call, created, empty_disk};
+use super::calling::{CREATE, INDEX, answers, call, disk_of, empty_disk, line_by_line};
 use std::alloc::AllocError;
 use std::test::Fail;
 
@@ -117,38 +117,6 @@ ERROR columns and values do not fit
 OK as of 0: none
 ";
 
-const SCRIPTS: [(&str, &str); 5] = [
-    (REPLACED, OF_REPLACED),
-    (NEVER_FLUSHED, OF_NEVER_FLUSHED),
-    (GIVEN, OF_GIVEN),
-    (ABSENT, OF_ABSENT),
-    (REFUSED, OF_REFUSED),
-];
-
-#[test]
-fn rows_are_changed(rt: HostRuntime) -> Result<(), Fail> {
-    for (script, text) in SCRIPTS {
-        let rows = created(rt.alloc())?;
-        let _ = answers(&rt, rt.alloc(), rows, script.as_bytes(), text)?;
-    }
-    Ok(())
-}
-
-/// What a search finds when the database is opened again.
-#[test]
-fn changes_outlive_the_run(rt: HostRuntime) -> Result<(), Fail> {
-    for (script, text, found) in [
-        (REPLACED, OF_REPLACED, "OK as of 2: 2\n"),
-        (GIVEN, OF_GIVEN, "OK as of 2: 65535 65536\n"),
-        (ABSENT, OF_ABSENT, "OK as of 5: 2\n"),
-    ] {
-        let rows = created(rt.alloc())?;
-        let rows = answers(&rt, rt.alloc(), rows, script.as_bytes(), text)?;
-        let _ = answers(&rt, rt.alloc(), rows, FIND_APPLE.as_bytes(), found)?;
-    }
-    Ok(())
-}
-
 /// With a document a batch: one dies behind its own batch, and enters DELETED with the next.
 const ONE_A_BATCH: &str = "shop create --columns body --batch-docs 1";
 
@@ -172,11 +140,35 @@ DOC_ID
 OK 1 rows as of 3
 ";
 
+/// How a database is made, a script, and what it is answered.
+const SCRIPTS: [(&str, &str, &str); 6] = [
+    (CREATE, REPLACED, OF_REPLACED),
+    (CREATE, NEVER_FLUSHED, OF_NEVER_FLUSHED),
+    (CREATE, GIVEN, OF_GIVEN),
+    (CREATE, ABSENT, OF_ABSENT),
+    (CREATE, REFUSED, OF_REFUSED),
+    (ONE_A_BATCH, LATER, OF_LATER),
+];
+
 #[test]
-fn a_death_enters_deleted_with_its_batch(rt: HostRuntime) -> Result<(), Fail> {
+fn rows_are_changed(rt: HostRuntime) -> Result<(), Fail> {
     let alloc = rt.alloc();
-    let rows = call(alloc, ONE_A_BATCH, b"", empty_disk(alloc)?)?.rows;
-    let _ = answers(&rt, alloc, rows, LATER.as_bytes(), OF_LATER)?;
+    for (line, script, text) in SCRIPTS {
+        let rows = call(alloc, line, b"", empty_disk(alloc)?)?.rows;
+        let _ = answers(&rt, alloc, rows, script.as_bytes(), text)?;
+    }
+    Ok(())
+}
+
+/// Each line in a run of its own, which opens what the last one left.
+#[test]
+fn changes_outlive_their_run(rt: HostRuntime) -> Result<(), Fail> {
+    let alloc = rt.alloc();
+    for (line, script, text) in SCRIPTS {
+        let rows = call(alloc, line, b"", empty_disk(alloc)?)?.rows;
+        let told = line_by_line(alloc, script, rows, disk_of(alloc, INDEX)?)?;
+        assert_eq!(rt; told.as_slice(), text.as_bytes(), "of {script}");
+    }
     Ok(())
 }
 

@@ -4,7 +4,7 @@ use std::alloc::Global;
 use std::process::Abort;
 use std::test::Fail;
 
-const FAULTY_COMMANDS: [&str; 8] = [
+const FAULTY_COMMANDS: [&str; 10] = [
     "",
     "shop",
     "shop runs",
@@ -13,6 +13,8 @@ const FAULTY_COMMANDS: [&str; 8] = [
     "shop create --columns",
     "shop create --column body",
     "shop create --columns body --frob",
+    "shop gen 65536 1",
+    "shop gen 1",
 ];
 
 const FAULTY_SETTINGS: [&str; 6] = [

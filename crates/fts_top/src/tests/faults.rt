@@ -208,6 +208,100 @@ fn each_failing_call_of_a_sync_stops_the_engine(rt: HostRuntime) -> Result<(), F
     Ok(())
 }
 
+/// An INSERT, a SYNC and a search.
+const LINES: &str = "INSERT INTO docs (id, body) VALUES (1, 'apple pie')\nSYNC\n\
+    SELECT FTS_DOC_ID FROM docs WHERE MATCH (body) AGAINST ('pie' IN BOOLEAN MODE)\n";
+
+/// What a search finds without the commit, and with it.
+const NONE: &str = "OK as of 0: none\n";
+
+const ONE: &str = "OK as of 1: 1\n";
+
+/// What the three lines write where the INSERT fails, and where the SYNC does.
+const AT_INSERT: &str = "ERROR disk fault\nERROR stopped after 1 disk faults\nOK as of 0: none\n";
+
+const AT_SYNC: &str = "OK commit 1\nERROR disk fault\nOK as of 1: 1\n";
+
+/// A call that fails, by its kind and number; what the three lines then write; how many bytes the
+/// rows log and the index log are left with; and what a search then finds.
+type Failing = (Kind, u64, &'static str, (usize, usize), &'static str);
+
+/// All calls of the rows device in the three lines, in their order: a sync, the length and two
+/// reads of the opening; of the INSERT a write and a sync of its record, and of the gate. A write
+/// that fails leaves nothing, and behind a sync that fails the file has what was written.
+const ROWS_CALLS: [Failing; 8] = [
+    (Kind::Sync, 1, "", (34, 9), NONE),
+    (Kind::Len, 1, "", (34, 9), NONE),
+    (Kind::Read, 1, "", (34, 9), NONE),
+    (Kind::Read, 2, "", (34, 9), NONE),
+    (Kind::Write, 1, AT_INSERT, (34, 9), NONE),
+    (Kind::Sync, 2, AT_INSERT, (63, 9), NONE),
+    (Kind::Write, 2, AT_INSERT, (63, 9), NONE),
+    (Kind::Sync, 3, AT_INSERT, (63, 9), ONE),
+];
+
+/// All calls of the index device in them: a sync, the length and a read of the opening, and of the
+/// SYNC those of an entry. The search makes none.
+const INDEX_CALLS: [Failing; 7] = [
+    (Kind::Sync, 1, "", (34, 9), NONE),
+    (Kind::Len, 1, "", (34, 9), NONE),
+    (Kind::Read, 1, "", (34, 9), NONE),
+    (Kind::Write, 1, AT_SYNC, (63, 9), ONE),
+    (Kind::Sync, 2, AT_SYNC, (63, 59), ONE),
+    (Kind::Write, 2, AT_SYNC, (63, 59), ONE),
+    (Kind::Sync, 3, AT_SYNC, (63, 59), ONE),
+];
+
+/// A run of the three lines ends with a disk fault, as the row of the table says.
+fn lines_fail(
+    rt: &impl Abort,
+    alloc: Global,
+    rows: MemDisk,
+    index: MemDisk,
+    then: Failing,
+) -> Result<(), Fail> {
+    let (_, _, text, left, found) = then;
+    let run = call_on(alloc, RUN, LINES.as_bytes(), rows, index)?;
+    ended(rt, &run, &Status::DiskFault, text, "three lines");
+    assert_eq!(rt; run.rows.file(0).len(), left.0, "{then:?}");
+    assert_eq!(rt; run.index.file(0).len(), left.1, "{then:?}");
+    let again = call_on(alloc, RUN, SEARCH.as_bytes(), run.rows, run.index)?;
+    ended(rt, &again, &Status::Done, found, "behind three lines");
+    Ok(())
+}
+
+/// Without a fault they make no call that the tables don't have.
+#[test]
+fn three_lines_make_fifteen_calls(rt: HostRuntime) -> Result<(), Fail> {
+    let made = created(rt.alloc())?;
+    let rows = disk_of(rt.alloc(), made.file(0))?;
+    let run = call(rt.alloc(), RUN, LINES.as_bytes(), rows)?;
+    assert!(rt; run.status == Status::Done);
+    assert!(rt; run.rows.calls().len() == 8 && run.index.calls().len() == 7);
+    Ok(())
+}
+
+#[test]
+fn each_failing_call_of_the_rows_device_in_three_lines(rt: HostRuntime) -> Result<(), Fail> {
+    let made = created(rt.alloc())?;
+    for then in ROWS_CALLS {
+        let rows = failing(rt.alloc(), made.file(0), (then.0, then.1))?;
+        lines_fail(&rt, rt.alloc(), rows, index(rt.alloc())?, then)?;
+    }
+    Ok(())
+}
+
+#[test]
+fn each_failing_call_of_the_index_device_in_three_lines(rt: HostRuntime) -> Result<(), Fail> {
+    let made = created(rt.alloc())?;
+    for then in INDEX_CALLS {
+        let rows = disk_of(rt.alloc(), made.file(0))?;
+        let index = failing(rt.alloc(), INDEX, (then.0, then.1))?;
+        lines_fail(&rt, rt.alloc(), rows, index, then)?;
+    }
+    Ok(())
+}
+
 /// The index device of a database.
 fn index(alloc: Global) -> Result<MemDisk, AllocError> {
     disk_of(alloc, INDEX)

@@ -9,7 +9,9 @@ const DAMAGED: Status = Status::Damaged {
 
 const TOO_LONG: Status = Status::ScriptTooLong { lines: 2, bytes: 3 };
 
-const STATUSES: [(Status, u8, &str); 10] = [
+const TOO_MANY: Status = Status::TooManySessions { session: 17 };
+
+const STATUSES: [(Status, u8, &str); 11] = [
     (Status::Done, 0, "done"),
     (Status::NoMemory, 1, "no memory"),
     (Status::Usage, 2, "usage: fts DIR create|run|serve|gen .."),
@@ -20,6 +22,7 @@ const STATUSES: [(Status, u8, &str); 10] = [
     (Status::AlreadyCreated, 7, "already created"),
     (DAMAGED, 8, "damaged index file 1 at 34"),
     (TOO_LONG, 9, "script too long"),
+    (TOO_MANY, 10, "too many sessions"),
 ];
 
 #[test]

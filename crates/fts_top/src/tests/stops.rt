@@ -106,3 +106,50 @@ fn a_stop_in_a_sync_leaves_what_searches_find(rt: HostRuntime) -> Result<(), Fai
     }
     Ok(())
 }
+
+/// A pass over three words, of which one loses all its documents.
+const OPTIMIZED: &str = "INSERT INTO docs (id, body) VALUES (1, 'apple pie')
+INSERT INTO docs (id, body) VALUES (2, 'pear pie')
+SYNC
+DELETE FROM docs WHERE id = 1
+SYNC
+OPTIMIZE TABLE docs
+";
+
+/// What is done behind a stop in the pass.
+const ON: &str = "OPTIMIZE TABLE docs
+SELECT * FROM INFORMATION_SCHEMA.INNODB_FT_INDEX_TABLE
+SELECT * FROM INFORMATION_SCHEMA.INNODB_FT_DELETED
+";
+
+/// What then is listed, wherever the stop was.
+const REWORKED: &[u8] = b"
+WORD|FIRST_DOC_ID|LAST_DOC_ID|DOC_COUNT|DOC_ID|POSITION
+pear|2|2|1|2|0
+pie|2|2|1|2|5
+OK 2 rows as of 3
+DOC_ID
+OK 0 rows as of 3
+";
+
+/// The index device has three calls in the opening and four for each of two batches; then four for
+/// each of five steps: the begin, three words and the finish.
+#[test]
+fn a_stop_in_an_optimize_leaves_what_searches_find(rt: HostRuntime) -> Result<(), Fail> {
+    let made = created(rt.alloc())?;
+    let rows = disk_of(rt.alloc(), made.file(0))?;
+    let run = call(rt.alloc(), RUN, OPTIMIZED.as_bytes(), rows)?;
+    assert!(rt; run.index.calls().len() == 31);
+    for call in 11..31 {
+        for choice in 0..16 {
+            let again = search_behind(rt.alloc(), &run, call, choice)?;
+            ended(&rt, &again, &Status::Done, "OK as of 3: 2\n", "a stop");
+            let on = call_on(rt.alloc(), RUN, ON.as_bytes(), again.rows, again.index)?;
+            assert!(rt;
+                on.out.bytes().ends_with(REWORKED),
+                "in call {call} by {choice}"
+            );
+        }
+    }
+    Ok(())
+}

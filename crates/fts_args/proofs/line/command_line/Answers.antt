@@ -35,5 +35,6 @@ returns c =
     ∙ ap globals c.disable_help_flag.ensures ∙ c.new.ensures.local in
     let first = described_subcommand top_line _ c.subcommand_required.result c.in_ok-create_line.field-0 c.in_ok-subcommand.field-0
     (record { is = top; local = local }) c.in_ok-create_line.ensures.shape c.in_ok-create_line.ensures.local c.in_ok-subcommand.ensures in
-    IfOk-weaker c.subcommand-2.result _ _ (λ line adds.
-    (described_subcommand _ _ _ _ line first (ap (λ (a : App). a.top) c.new-2.ensures.app) c.new-2.ensures.local adds).is) c.subcommand-2.ensures
+    let second = described_subcommand _ _ _ _ _ first (ap (λ (a : App). a.top) c.new-2.ensures.app) c.new-2.ensures.local c.in_ok-subcommand-2.ensures in
+    IfOk-weaker c.subcommand-3.result _ _ (λ line adds.
+    (described_subcommand _ _ _ _ line second c.in_ok-gen_line.ensures.shape c.in_ok-gen_line.ensures.local adds).is) c.subcommand-3.ensures

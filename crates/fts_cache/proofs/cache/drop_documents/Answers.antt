@@ -18,10 +18,11 @@ loop-first-preserved c =
       ascend = p.ascend;
       behind = p.behind ∙ inv.behind;
       size = omega (arith, p.size, inv.size, c.from-size.ensures);
-      noted = note_rest c.loop-first.words c.drop_words.new.words c.args.doc first c.pop_until.new.documents.items h.1 (subst (NoteWords c.loop-first.words) h.0 inv.noted) c.drop_words.ensures.numbers
-          (λ w. c.drop_words.ensures.postings w ∙ ap (λ ns. left_of c.args.doc ns (number_in c.loop-first.words w) (queue_in c.loop-first.words w).postings) c.deref.ensures.value);
-      postings = λ w. ap (postings_behind c.args.doc) (c.drop_words.ensures.postings w) ∙ behind_left c.args.doc c.deref.result.now (number_in c.loop-first.words w) (queue_in c.loop-first.words w).postings ∙ inv.postings w;
-      last = λ w. omega (arith, c.drop_words.ensures.last w, inv.last w);
+      noted = note_rest c.loop-first.words c.drop_left.new.words c.args.doc first c.pop_until.new.documents.items h.1 (subst (NoteWords c.loop-first.words) h.0 inv.noted) c.drop_left.ensures.numbers
+          (λ w. c.drop_left.ensures.postings w ∙ ap (λ ns. left_of c.args.doc ns (number_in c.loop-first.words w) (queue_in c.loop-first.words w).postings) c.deref.ensures.value);
+      postings = λ w. ap (postings_behind c.args.doc) (c.drop_left.ensures.postings w) ∙ behind_left c.args.doc c.deref.result.now (number_in c.loop-first.words w) (queue_in c.loop-first.words w).postings ∙ inv.postings w;
+      done = c.drop_left.ensures.done;
+      last = λ w. omega (arith, c.drop_left.ensures.last w, inv.last w);
     }
 
 pub returns-clause-documents : goal.returns-clause-documents

@@ -1,7 +1,7 @@
-use Rattle.std.proofs.Common.{◌≡◌, ◌+◌, ◌≤◌, ℕ, List, sum_by, length}
+use Rattle.std.proofs.Common.{◌≡◌, ◌+◌, ◌≤◌, ℕ, List, sum_by, length, true}
 use Rattle.fts_ilist.specs.Queue.{postings_behind}
 use Rattle.fts_cache.specs.Cache.{cached_behind, IdsAscend}
-use Rattle.fts_cache.specs.Words.{queue_in}
+use Rattle.fts_cache.specs.Words.{queue_in, AreBehind}
 use Rattle.fts_cache.specs.Kept.{kept, NoteWords}
 use Rattle.fts_cache.proofs.cache.drop_documents.Given as goal
 
@@ -12,6 +12,7 @@ invariant-loop-first l = record {
   size : l.size + sum_by (λ d. d.size) (kept l.documents.items) ≡ sum_by (λ d. d.size) (kept l.fn.documents.items);
   noted : NoteWords l.words l.documents.items;
   postings : (w : List ℕ) → postings_behind l.doc (queue_in l.words w).postings ≡ postings_behind l.doc (queue_in l.fn.words w).postings;
+  done : l.done ≡ true → AreBehind l.doc l.words;
   last : (w : List ℕ) → (queue_in l.words w).last ≤ (queue_in l.fn.words w).last;
 }
 

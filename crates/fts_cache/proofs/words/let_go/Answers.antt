@@ -5,7 +5,7 @@ use Rattle.std.specs.Str.{bytes_eq}
 use Rattle.fts_cache.specs.declared.words.CachedWord.{CachedWord}
 use Rattle.fts_cache.specs.Words.{slot_in, is_spent}
 use Rattle.fts_cache.proofs.Table.{let_go, numbers_updated}
-use Rattle.fts_cache.proofs.Used.{listed_one}
+use Rattle.fts_cache.proofs.Used.{listed_less}
 use Rattle.fts_cache.proofs.words.let_go.Goals as goal
 
 pub returns-in-Some-clause-table : goal.returns-in-Some-clause-table
@@ -40,6 +40,6 @@ returns-in-Some-clause-listed c =
     let word = c.as_bytes.result.now in
     let same : word ≡ s.word = c.as_bytes.ensures in
     let numbers = numbers_updated c.args.numbers.now.entries c.swap_remove.new.self.entries word None c.swap_remove.ensures.updates.1 c.swap_remove.ensures.updates.3 in
-    listed_one c.args.numbers.now.entries c.swap_remove.new.self.entries c.args.order.now c.remove.new.self s.word None
+    listed_less c.args.numbers.now.entries c.swap_remove.new.self.entries c.args.order.now c.forget.new.order s.word
     (λ w. numbers w ∙ ap (λ (x : List ℕ). cond (bytes_eq w x) None (lookup (λ k. bytes_eq w k.items) c.args.numbers.now.entries)) same)
-    c.remove.ensures.updates.0 c.requires.listed
+    c.forget.ensures c.requires.listed

@@ -8,6 +8,7 @@ use Rattle.fts_log.proofs.Reading.{as_many}
 use Rattle.fts_steps.specs.State.{turns_of, index_state}
 use Rattle.fts_engine.specs.Restoring.{IsInstalled}
 use Rattle.fts_engine.specs.Loading.{NoneCanCome}
+use Rattle.fts_engine.specs.ReadEntry.{batch_read}
 use Rattle.fts_engine.proofs.Replaying.{none_noted}
 use Rattle.fts_engine.proofs.Covering.{installed_more, restored_still, none_later, none_made, none_here, words_read}
 use Rattle.fts_engine.proofs.load.restore_batch.Goals as goal
@@ -20,10 +21,10 @@ returns-in-Ok-restore-clause-restored g c e told all read j holds was taken =
     let batch = c.args.batch.now in
     let covered = (c.in-Ok.ensures.covered told all read j holds was).is in
     let ensured = c.in-Ok-restore.ensures in
-    installed_more all read j c.cover_commits.new.restoring c.restore.new.self covered batch.through batch.synced batch.nodes.items
-    ensured.rows ensured.settings ensured.commits c.requires.written taken
-    (subst (λ (nodes : Batch). IsInstalled covered.of_rows.state.commits (index_state covered.of_rows.state) batch.through batch.synced nodes c.restore.new.self) c.deref.ensures.value
-    (ensured.restored covered.of_rows.state.commits (index_state covered.of_rows.state) covered.covers))
+    let installed = subst (λ (nodes : Batch). IsInstalled covered.of_rows.state.commits (index_state covered.of_rows.state) batch.through batch.synced nodes c.restore.new.self) c.deref.ensures.value
+    (ensured.restored covered.of_rows.state.commits (index_state covered.of_rows.state) covered.covers) in
+    installed_more all read j c.cover_commits.new.restoring c.restore.new.self covered (batch_read batch)
+    ensured.rows ensured.settings ensured.commits c.requires.written taken installed.can installed.covers
 
 pub returns-then-batch-flushed-clause-refused : goal.returns-then-batch-flushed-clause-refused
 returns-then-batch-flushed-clause-refused g c e told all read j holds was = (

@@ -6,13 +6,13 @@ use Rattle.fts_ilist.proofs.packing.nodes_of.Goals as goal
 
 pub loop-list-preserved : goal.loop-list-preserved
 loop-list-preserved c =
-    let old = c.loop-list.nodes.items in
+    let old = c.loop-list.nodes in
     let rest = c.next.new.self.rest.items in
     let list = c.in-Some.list in
     record {
       can_next = tt;
       is_finite = tt;
-      same = ap (λ (docs : List Docs). docs ++ rest) (c.in_ok-push.ensures.items ∙ ap (λ (d : Docs). old ++ d ∷ []) c.new.ensures)
+      same = ap (λ (docs : List Docs). docs ++ rest) (c.in_ok-push.ensures ∙ ap (λ (d : Docs). old ++ d ∷ []) c.new.ensures)
           ∙ append_assoc old (list ∷ []) rest
           ∙ ap (λ (docs : List Docs). old ++ docs) (sym c.in-Some.ensures.steps.0)
           ∙ c.loop-list.invariant.same;

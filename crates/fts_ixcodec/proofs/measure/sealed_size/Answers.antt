@@ -9,6 +9,6 @@ returns-in-None-clause-none c through synced fits =
 
 pub loop-group-preserved : goal.loop-group-preserved
 loop-group-preserved c =
-    let same = ap length (c.as_bytes.ensures ∙ c.word.ensures) in
+    let same = ap length c.word.ensures in
     sized_on c.args.nodes.now c.loop-group.group-index c.loop-group.size _ c.group-item.result c.loop-group-test.true c.group-item.is c.in-Some.sum c.loop-group.invariant
-    (omega (arith, same, c.if-as_bytes-gt-LONGEST.false)) c.in-Some.ensures.some
+    (omega (arith, same, c.if-word-gt-LONGEST.false)) c.in-Some.ensures.some

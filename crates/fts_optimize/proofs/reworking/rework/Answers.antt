@@ -4,6 +4,9 @@ use Rattle.fts_ilist.specs.Changes.{postings_without}
 use Rattle.fts_ilist.specs.Spelling.{Posting, ArePostings}
 use Rattle.fts_ilist.specs.Node.{Docs, NodesAfter}
 use Rattle.fts_optimize.proofs.Nodes.{goes_on, packed_after, after_filled, ok_leads}
+use Rattle.std.specs.List.{AllByRecursion}
+use Rattle.fts_entries.specs.Pass.{IsPackedNode}
+use Rattle.fts_entries.proofs.Spelled.{packed_each}
 use Rattle.fts_optimize.proofs.reworking.rework.Goals as goal
 
 pub loop-node-preserved : goal.loop-node-preserved
@@ -26,3 +29,8 @@ pub returns-clause-ascending : goal.returns-clause-ascending
 returns-clause-ascending c =
     ok_leads c.list_of.result (λ list. list.nodes ≡ c.in_ok-finish.field-0.items) (λ list. NodesAfter 0 list.nodes)
     (λ list same. subst (NodesAfter 0) (sym (same ∙ c.in_ok-finish.ensures)) (packed_after c.loop-node.packing c.loop-node.invariant.reworking.are)) c.list_of.ensures
+
+pub returns-clause-nodes : goal.returns-clause-nodes
+returns-clause-nodes c =
+    ok_leads c.list_of.result (λ list. list.nodes ≡ c.in_ok-finish.field-0.items) (λ list. AllByRecursion IsPackedNode list.nodes)
+    (λ list same. subst (AllByRecursion IsPackedNode) (sym (same ∙ c.in_ok-finish.ensures)) (packed_each c.loop-node.packing c.loop-node.invariant.reworking.are)) c.list_of.ensures

@@ -9,7 +9,7 @@ use Rattle.fts_sync.proofs.sealing.packed_until.Goals as goal
 pub returns-then-id-doc : goal.returns-then-id-doc
 returns-then-id-doc c =
     let dead = ids_of DeletedCache c.args.lists.now in
-    subst (λ (ps : List Posting). IfOk c.nodes.result (λ nodes. nodes.items ≡ packed ps))
+    subst (λ (ps : List Posting). IfOk c.nodes.result (λ nodes. nodes ≡ packed ps))
     (ends_behind c.args.doc dead c.args.documents c.loop-document.packing c.loop-document.document-iterator c.in-Some.document c.next.new.self
     c.loop-document.invariant.until c.in-Some.ensures.steps (let e = c.id.ensures.value in omega (arith, e, c.if-id-doc.true)))
     c.nodes.ensures

@@ -1,32 +1,17 @@
-use Rattle.std.proofs.Common.{◌≡◌, ◌+◌, List, ℕ, refl, ap, subst, sym, ◌∙◌}
+use Rattle.std.proofs.Common.{◌≡◌, ◌+◌, ℕ, refl, ap, subst, sym, ◌∙◌}
 use Rattle.fts_faults.specs.Count.{CountsFault}
 use Rattle.fts_io.specs.Text.{lines_of}
-use Rattle.fts_steps.specs.State.{State, IsRows, IsIndex, IsDatabase, IsRight}
+use Rattle.fts_steps.specs.State.{State, IsRight}
 use Rattle.fts_steps.specs.Running.{opened}
-use Rattle.fts_disk.specs.declared.disk.Disk.{Ghosts}
-use Rattle.fts_engine.specs.declared.engine.Engine.{Engine}
-use Rattle.fts_engine.specs.Stands.{Holds, Stands, engine_faults, rows_device, index_device}
+use Rattle.fts_engine.specs.Stands.{engine_faults, rows_device, index_device}
 use Rattle.fts_engine.proofs.Single.{one_database}
 use Rattle.fts_sessions.specs.Direct.{direct_sight}
 use Rattle.fts_top.specs.declared.ends.RunEnd.TheVariants.{DiskFault}
 use Rattle.fts_top.specs.Run.{Outcome, sides}
 use Rattle.fts_top.specs.Once.{devices_of, disks_of, disk_faults, device_sight}
 use Rattle.fts_top.proofs.Filing.{outcome_on}
-use Rattle.fts_top.proofs.Opening.{is_why}
+use Rattle.fts_top.proofs.Opening.{is_why, database_read, stands_right}
 use Rattle.fts_top.proofs.once.run_script.Goals as goal
-
--- the files are the logs of the database, as they are read again
-database_read : (state : State) {rows rows' index index' : ℕ → List ℕ} → rows' ≡ rows → index' ≡ index → IsRows state (rows' 0) → IsIndex state (index' 0)
-    → IsDatabase state (rows 0) (index 0)
-database_read state seen seen' of_rows of_index = record {
-  of_rows = subst (λ (f : ℕ → List ℕ). IsRows state (f 0)) seen of_rows;
-  of_index = subst (λ (f : ℕ → List ℕ). IsIndex state (f 0)) seen' of_index;
-}
-
--- an engine that was opened on a database whose index is right
-stands_right : {D E : Type 0} {rows : Ghosts D} {index : Ghosts E} (state : State) (engine : Engine D E rows index) → Holds (opened state) engine → IsRight state
-    → Stands (opened state) engine
-stands_right state engine holds right = record { holds = holds; right = right }
 
 pub returns-in-Ok-clause-executed : goal.returns-in-Ok-clause-executed
 returns-in-Ok-clause-executed g c =
@@ -64,6 +49,7 @@ returns-in-Ok-clause-executed g c =
           subst (λ (s : State). Outcome (device_sight both s.settings c.args.limits) c.run-end.result (opened s) (lines_of left)
           (sides left held first) (sides left' held' last)) (sym same) closed';
       whole = λ read tells. c.run-end.ensures.whole tells read;
+      crowded = c.run-end.ensures.crowded;
       too_long = c.run-end.ensures.too_long;
       fault = λ read.
           let same : disk_faults both last ≡ engine_faults c.run-end.new.steps.engine =

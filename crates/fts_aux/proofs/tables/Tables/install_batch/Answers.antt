@@ -6,11 +6,11 @@ use Rattle.fts_aux.specs.Table.{needs, with_room, IsWithin}
 use Rattle.fts_aux.specs.Tables.{nodes, room, HasRoom}
 use Rattle.fts_aux.proofs.Ordered.{Ascends, ascends_from}
 use Rattle.fts_aux.proofs.Rooms.{needs_first, used, used_more, here_needs}
-use Rattle.fts_aux.proofs.Batches.{nodes_step, after_step}
+use Rattle.fts_aux.proofs.Batches.{nodes_step, after_step, behind_of, first_parts}
 use Rattle.fts_aux.proofs.tables.Tables.install_batch.Goals as goal
 
-pub loop-first-init : goal.loop-first-init
-loop-first-init c = (
+pub loop-rest-init : goal.loop-rest-init
+loop-rest-init c = (
   λ w. refl,
   ascends_from c.args.batch.now c.requires.words,
   c.requires.room,
@@ -20,24 +20,24 @@ loop-first-init c = (
 
 pub append_word-requires-clause-room : goal.append_word-requires-clause-room
 append_word-requires-clause-room c =
-    let word = c.as_bytes.result.now in
+    let word = c.word.result.now in
     let added = c.nodes.result.now in
-    let behind = c.in-Some.behind.now in
-    let whole : (word, added) ≡ c.in-Some.first.now = ap (λ w. (w, added)) (c.as_bytes.ensures ∙ c.word.ensures) ∙ ap (λ ns. (c.in-Some.first.now.0, ns)) c.nodes.ensures in
-    let parts : c.loop-first.rest.now ≡ (word, added) ∷ behind = c.in-Some.ensures.cases.0 ∙ ap (λ g. g ∷ behind) (sym whole) in
-    let has : HasRoom c.loop-first.self ((word, added) ∷ behind) = subst (HasRoom c.loop-first.self) parts c.loop-first.invariant.2 in
-    here_needs (room c.loop-first.self word) word added behind (has word)
+    let behind = behind_of c.loop-rest.rest.now in
+    let whole : (word, added) ≡ c.first-item.result = ap (λ w. (w, added)) c.word.ensures ∙ ap (λ ns. (c.first-item.result.0, ns)) c.nodes.ensures in
+    let parts : c.loop-rest.rest.now ≡ (word, added) ∷ behind = first_parts c.loop-rest.rest.now c.first-item.result c.in-len1-up.len_at_least c.first-item.is ∙ ap (λ g. g ∷ behind) (sym whole) in
+    let has : HasRoom c.loop-rest.self ((word, added) ∷ behind) = subst (HasRoom c.loop-rest.self) parts c.loop-rest.invariant.2 in
+    here_needs (room c.loop-rest.self word) word added behind (has word)
 
-pub loop-first-preserved : goal.loop-first-preserved
-loop-first-preserved c =
-    let word = c.as_bytes.result.now in
+pub loop-rest-preserved : goal.loop-rest-preserved
+loop-rest-preserved c =
+    let word = c.word.result.now in
     let added = c.nodes.result.now in
-    let behind = c.in-Some.behind.now in
-    let held = c.loop-first.self in
+    let behind = behind_of c.loop-rest.rest.now in
+    let held = c.loop-rest.self in
     let later = c.append_word.new.self in
-    let inv = c.loop-first.invariant in
-    let whole : (word, added) ≡ c.in-Some.first.now = ap (λ w. (w, added)) (c.as_bytes.ensures ∙ c.word.ensures) ∙ ap (λ ns. (c.in-Some.first.now.0, ns)) c.nodes.ensures in
-    let parts : c.loop-first.rest.now ≡ (word, added) ∷ behind = c.in-Some.ensures.cases.0 ∙ ap (λ g. g ∷ behind) (sym whole) in
+    let inv = c.loop-rest.invariant in
+    let whole : (word, added) ≡ c.first-item.result = ap (λ w. (w, added)) c.word.ensures ∙ ap (λ ns. (c.first-item.result.0, ns)) c.nodes.ensures in
+    let parts : c.loop-rest.rest.now ≡ (word, added) ∷ behind = first_parts c.loop-rest.rest.now c.first-item.result c.in-len1-up.len_at_least c.first-item.is ∙ ap (λ g. g ∷ behind) (sym whole) in
     let up : Ascends ((word, added) ∷ behind) = subst Ascends parts inv.1 in
     let has : HasRoom held ((word, added) ∷ behind) = subst (HasRoom held) parts inv.2 in
     let afters : AllByRecursion (λ g. NodesAfter (last_of 0 (nodes held g.0)) g.1) ((word, added) ∷ behind) = subst (AllByRecursion (λ g. NodesAfter (last_of 0 (nodes held g.0)) g.1)) parts inv.3 in (

@@ -9,6 +9,18 @@ use Rattle.fts_cache.specs.Sorted.{lent_words}
 use Rattle.fts_cache.proofs.Notes.{word_noted}
 use Rattle.fts_cache.proofs.cache.Cache.words_until.Goals as goal
 
+pub returns-then-listed_len-noted_len-clause-words : goal.returns-then-listed_len-noted_len-clause-words
+returns-then-listed_len-noted_len-clause-words c =
+    IfOk-weaker c.leaving_in_order.result _ _
+    (λ words h w. subst (λ s. (list_any (bytes_eq w) (lent_words words.items) ≡ true) ↔ (postings_until c.args.doc (postings_of s w) ≢ [])) c.self.view_is (h w))
+    c.leaving_in_order.ensures.words
+
+pub returns-then-listed_len-noted_len-clause-documents : goal.returns-then-listed_len-noted_len-clause-documents
+returns-then-listed_len-noted_len-clause-documents c =
+    IfOk-weaker c.leaving_in_order.result _ _
+    (λ words h. subst (λ s. All (λ e. (e.1 ≡ postings_of s e.0.now) × ArePostings e.1) words.items) c.self.view_is h)
+    c.leaving_in_order.ensures.documents
+
 pub returns-clause-words : goal.returns-clause-words
 returns-clause-words c =
     let i = c.self.inside in

@@ -1,6 +1,5 @@
 use Rattle.std.proofs.Common.{rules, ◌≡◌, ◌++◌, ◌∷◌, [], true, cond, ℕ, List, Some, None, arith, sym, ap, subst, ◌∙◌}
-use Rattle.std.specs.BTreeMap.{is_at}
-use Rattle.std.specs.BTreeSet.{contains}
+use Rattle.std.specs.BTreeMap.{get, is_at}
 use Rattle.std.specs.Global.{Vec}
 use Rattle.std.specs.Map.{lookup}
 use Rattle.std.specs.Str.{bytes_eq}
@@ -36,7 +35,7 @@ invariant_of-self-2 c =
     = entered_all old new i.order c.insert.new.self i.fresh.items c.push.new.self.items word n s c.self.invariant absent c.in_ok-word.ensures c.new-queue.ensures free there
     (λ m differs. u.others m (λ e. differs (e ∙ at)) ∙ ap (λ xs. slot_in xs m) slots)
     (λ w. numbers w ∙ ap (λ (x : List ℕ). cond (bytes_eq w x) (Some n) (lookup (λ k. bytes_eq w k.items) c.reserve-2.new.self.entries)) key ∙ ap (λ (es : List (Vec ℕ × ℕ)). cond (bytes_eq w word) (Some n) (lookup (λ k. bytes_eq w k.items) es)) same)
-    (subst (λ (x : List ℕ). (w : List ℕ) → contains byte_order c.insert.new.self w ≡ cond (is_at (byte_order x) w) true (contains byte_order i.order w)) c.in_ok-listed.ensures c.in_ok-insert.ensures.updates.0)
+    (subst (λ (x : List ℕ). (w : List ℕ) → get byte_order c.insert.new.self w ≡ cond (is_at (byte_order x) w) (Some n) (get byte_order i.order w)) c.in_ok-listed.ensures c.in_ok-insert.ensures.updates.0)
     more in
     all.kept
 
@@ -64,7 +63,7 @@ returns-clause-enters c =
     = entered_all old new i.order c.insert.new.self i.fresh.items c.push.new.self.items word n s c.self.invariant absent c.in_ok-word.ensures c.new-queue.ensures free there
     (λ m differs. u.others m (λ e. differs (e ∙ at)) ∙ ap (λ xs. slot_in xs m) slots)
     (λ w. numbers w ∙ ap (λ (x : List ℕ). cond (bytes_eq w x) (Some n) (lookup (λ k. bytes_eq w k.items) c.reserve-2.new.self.entries)) key ∙ ap (λ (es : List (Vec ℕ × ℕ)). cond (bytes_eq w word) (Some n) (lookup (λ k. bytes_eq w k.items) es)) same)
-    (subst (λ (x : List ℕ). (w : List ℕ) → contains byte_order c.insert.new.self w ≡ cond (is_at (byte_order x) w) true (contains byte_order i.order w)) c.in_ok-listed.ensures c.in_ok-insert.ensures.updates.0)
+    (subst (λ (x : List ℕ). (w : List ℕ) → get byte_order c.insert.new.self w ≡ cond (is_at (byte_order x) w) (Some n) (get byte_order i.order w)) c.in_ok-listed.ensures c.in_ok-insert.ensures.updates.0)
     more in
     subst (λ (o : Entries). Enters o new) c.self.view_is all.enters
 
@@ -92,6 +91,6 @@ returns-clause-used c =
     = entered_all old new i.order c.insert.new.self i.fresh.items c.push.new.self.items word n s c.self.invariant absent c.in_ok-word.ensures c.new-queue.ensures free there
     (λ m differs. u.others m (λ e. differs (e ∙ at)) ∙ ap (λ xs. slot_in xs m) slots)
     (λ w. numbers w ∙ ap (λ (x : List ℕ). cond (bytes_eq w x) (Some n) (lookup (λ k. bytes_eq w k.items) c.reserve-2.new.self.entries)) key ∙ ap (λ (es : List (Vec ℕ × ℕ)). cond (bytes_eq w word) (Some n) (lookup (λ k. bytes_eq w k.items) es)) same)
-    (subst (λ (x : List ℕ). (w : List ℕ) → contains byte_order c.insert.new.self w ≡ cond (is_at (byte_order x) w) true (contains byte_order i.order w)) c.in_ok-listed.ensures c.in_ok-insert.ensures.updates.0)
+    (subst (λ (x : List ℕ). (w : List ℕ) → get byte_order c.insert.new.self w ≡ cond (is_at (byte_order x) w) (Some n) (get byte_order i.order w)) c.in_ok-listed.ensures c.in_ok-insert.ensures.updates.0)
     more in
     subst (λ (o : Entries). IsUsedBut o [] → IsUsedBut new (n ∷ [])) c.self.view_is all.used

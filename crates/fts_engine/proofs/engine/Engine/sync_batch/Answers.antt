@@ -1,5 +1,5 @@
 use Rattle.std.proofs.Common.{◌≡◌, ℕ, ◌<◌, List, [], ◌∷◌, ◌++◌, length, refl, sym, ap, subst, ◌∙◌, arith}
-use Rattle.std.specs.Prelude.{Err, Option, Some}
+use Rattle.std.specs.Prelude.{Err, Option, Some, IsTrue}
 use Rattle.fts_disk.proofs.Runs.{leaves_weaker}
 use Rattle.fts_disk.specs.declared.disk.Disk.{Ghosts}
 use Rattle.fts_commits.specs.Commit.{Commit}
@@ -10,15 +10,15 @@ use Rattle.fts_log.specs.Frame.{payload_of}
 use Rattle.fts_entries.specs.Entry.{IndexState}
 use Rattle.fts_index.specs.declared.sync.SyncPlan.{SyncPlan}
 use Rattle.fts_steps.specs.State.{index_magic, index_payloads}
-use Rattle.fts_steps.specs.Running.{Running, next_batch}
+use Rattle.fts_steps.specs.Running.{Running, batched, batch_failed, next_batch, next_index}
 use Rattle.fts_steps.specs.Crash.{MayHoldIndex}
-use Rattle.fts_steps.specs.Step.{to_sync, full, flushed, all_flushed, stopped, no_memory}
+use Rattle.fts_steps.specs.Step.{Answer, to_sync, full, flushed, all_flushed, stopped, no_memory, writes}
 use Rattle.fts_engine.specs.declared.engine.Engine.{Engine}
 use Rattle.fts_engine.specs.declared.kept.Kept.{Kept}
 use Rattle.fts_engine.specs.Kept.{kept_settings, IsIndexed, IsPlanned, IsPlannedOf, IsNextBatch}
 use Rattle.fts_engine.specs.Stands.{Stands, engine_limits}
 use Rattle.fts_engine.proofs.Committing.{keeps_with, as_before, one_more, same_end, not_past}
-use Rattle.fts_engine.proofs.Steps.{refuses, seals, loosens, is_stopped}
+use Rattle.fts_engine.proofs.Steps.{refuses, syncs, writes_entry, loosens, is_stopped}
 use Rattle.fts_engine.proofs.Syncing.{is_nothing, is_too_long, is_flushed, some_left, through_is, payloads_after, end_is, leaves_after, right_after, indexed_after, entries_after, leaves_either}
 use Rattle.fts_engine.proofs.engine.Engine.sync_batch.Goals as goal
 
@@ -71,7 +71,8 @@ returns-in-Ok-append-clause-steps g c =
     ∙ ap (λ (p : List ℕ). index_payloads running.state ++ p ∷ []) (sym c.in-Ok.ensures.same) in
     let entries = λ (running : Running) (stands : Stands running old).
     entries_after running old stands.holds.has kept settings rows plan (next running stands) (payload_of framed) c.in-Ok.ensures kept.right kept.fit in
-    seals old _ (c.install_sync.ensures.settings ∙ settings) (c.install_sync.ensures.limits ∙ c.in-Ok-Some.ensures.limits) refl c.in-None.is c.through-through.result count refl
+    writes_entry old _ (c.install_sync.ensures.settings ∙ settings) (c.install_sync.ensures.limits ∙ c.in-Ok-Some.ensures.limits) refl c.in-None.is
+    to_sync batched batch_failed (λ running. next_batch running ∷ []) (λ running. next_index running.state running.index) syncs (flushed c.through-through.result count) refl refl refl
     (ensured.faults.calm (λ is. cc))
     (λ running stands going.
     let has = stands.holds.has in
@@ -96,11 +97,11 @@ returns-in-Ok-append-clause-steps g c =
     (ensured.any_moment told (index_payloads running.state) (stands.holds.index_logs told going).entries))
     (λ running stands. indexed_after running old stands.holds.has kept settings rows plan (next running stands) c.install_sync.new.self
     (c.install_sync.ensures.index running.state.commits running.index (c.in-Ok-Some.ensures.index running.state.commits running.index stands.holds.has.indexed) (next running stands)))
-    (λ running stands has'. right_after running old stands.holds.has kept settings rows plan (next running stands) stands.right)
+    (λ running stands. right_after running old stands.holds.has kept settings rows plan (next running stands) stands.right)
     (λ running stands. leaves_after running old stands.holds.has kept settings rows plan (next running stands))
 
 pub returns-in-Ok-append-clause-untouched : goal.returns-in-Ok-append-clause-untouched
-returns-in-Ok-append-clause-untouched g c calm none = absurd (none c.through-through.result c.commits-commits.result refl)
+returns-in-Ok-append-clause-untouched g c none calm = absurd cc
 
 pub returns-in-Err-LogFull-clause-steps : goal.returns-in-Err-LogFull-clause-steps
 returns-in-Err-LogFull-clause-steps g c =
@@ -125,7 +126,7 @@ returns-in-Err-LogFull-clause-steps g c =
     ∙ ap full (ends ∙ sym same ∙ sym past.1 ∙ sym c.in-Err-LogFull.end-is))
 
 pub returns-in-Err-LogFull-clause-untouched : goal.returns-in-Err-LogFull-clause-untouched
-returns-in-Err-LogFull-clause-untouched g c calm none =
+returns-in-Err-LogFull-clause-untouched g c none calm =
     c.in-Err-LogFull.ensures.unchanged ((c.in-Err-LogFull.ensures.full c.in-Err-LogFull.end).0 (ap Err c.in-Err-LogFull.field-0-is)).0
 
 pub returns-clause-steps : goal.returns-clause-steps
@@ -142,15 +143,17 @@ returns-clause-steps g c =
     let rows = c.in-Ok-Some.ensures.rows in
     let limit = (engine_limits old).log_bytes in
     let next = next_of old kept plan c.in-Ok-Some.field-0 c.in-Ok-Some.field-0-is c.in-Ok-Some.ensures.planned in
-    loosens old _ settings c.in-Ok-Some.ensures.limits refl c.in-None.is _ refl
+    loosens old _ settings c.in-Ok-Some.ensures.limits refl c.in-None.is
+    to_sync batched batch_failed (λ running. next_batch running ∷ []) (λ running. next_index running.state running.index) syncs _ refl
     (counted.rose (ap Err c.in-Err-DiskFault.field-0-is)) counted.never_falls (omega (arith, c.faults.ensures, c.faults-in-Err-DiskFault.ensures))
     (λ running stands going.
     let has = stands.holds.has in
-    is_flushed (engine_limits old) running going (some_left running old has kept settings rows plan (next running stands))
+    subst (λ (a : Answer). IsTrue (writes a)) (sym
+    (is_flushed (engine_limits old) running going (some_left running old has kept settings rows plan (next running stands))
     (λ past. not_past index_magic (index_payloads running.state) limit old.index has.keeps.index framed (payload_of framed) refl
     (λ over. let no = (ensured.full (log.end_after old.index framed)).1 (over, refl) in cc)
     (subst (λ (n : ℕ). limit < n) (end_is running old has kept settings rows plan (next running stands)
-    ∙ ap (λ (p : List ℕ). log_end index_magic (index_payloads running.state ++ p ∷ [])) (sym c.in-Ok.ensures.same)) past)))
+    ∙ ap (λ (p : List ℕ). log_end index_magic (index_payloads running.state ++ p ∷ [])) (sym c.in-Ok.ensures.same)) past)))) refl)
     (λ running stands.
     let keeps = stands.holds.has.keeps in
     keeps_with running.state old keeps _ settings rows c.in-Ok-Some.ensures.limits running.state.entries keeps.entries keeps.log

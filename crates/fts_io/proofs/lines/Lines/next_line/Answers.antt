@@ -1,6 +1,7 @@
-use Rattle.std.proofs.Common.{◌∷◌, ◌++◌, ap, sym, ◌∙◌, rules}
+use Rattle.std.proofs.Common.{◌≡◌, ◌∷◌, ◌++◌, ap, sym, ◌∙◌, rules}
 use Rattle.fts_io.specs.Text.{lines_of, sorted}
 use Rattle.fts_io.specs.Reading.{ahead, lines_from}
+use Rattle.fts_io.proofs.Cutting.{lines_from-some}
 use Rattle.fts_io.proofs.Giving.{Gives-along, lines_from-filled, single}
 use Rattle.fts_io.proofs.lines.Lines.next_line.Goals as goal
 
@@ -26,6 +27,20 @@ returns-in-Ok-true-clause-lines g c tells =
     ∙ (rw c.in-Ok-true.field-0-test at (c.in-Ok-true.ensures.lines left)))
     (ap (λ l. lines_from l (c.whole_line.new.self.buffer ++ left)) c.whole_line.ensures.empty ∙ ap (λ l. lines_of (l ++ left)) c.whole_line.ensures.buffer)
     (c.whole_line.ensures.gives (lines_of (piece.buffer ++ left)))
+
+pub returns-in-Err-clause-lines : goal.returns-in-Err-clause-lines
+returns-in-Err-clause-lines g c tells =
+    let old = c.loop-self.self in
+    let filled = c.fill.new.self in
+    let piece = c.take_piece.new.self in
+    let left = g.S.Source.left c.fill.new.source in
+    let same : ahead piece left ≡ ahead filled left =
+    ap (λ l. lines_from l (piece.buffer ++ left)) c.in-Err.ensures.kept_line ∙ ap (λ b. lines_from filled.line.items (b ++ left)) c.in-Err.ensures.kept_buffer in (
+      same
+          ∙ sym (c.loop-self.invariant.lines tells
+          ∙ lines_from-filled old.line.items filled.line.items old.buffer filled.buffer _ left (ap (λ v. v.items) c.in-Bytes.ensures.line) (c.in-Bytes.ensures.moved tells)),
+      λ is. lines_from-some filled.line.items filled.buffer left c.in-Bytes.ensures.filled.0 (sym same ∙ is),
+    )
 
 pub loop-self-preserved : goal.loop-self-preserved
 loop-self-preserved g c =

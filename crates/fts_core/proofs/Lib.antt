@@ -1,0 +1,11 @@
+pub mod Between
+pub mod Right
+pub mod Fitting
+pub mod Found
+pub mod Running
+pub mod Laws
+pub mod Created
+pub mod Turned
+pub mod Stepping
+pub mod Opens
+pub mod Called

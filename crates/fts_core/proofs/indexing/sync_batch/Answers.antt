@@ -1,0 +1,20 @@
+use Rattle.std.proofs.Common.{sym, subst}
+use Rattle.fts_core.specs.declared.event.Event.TheVariants as event
+use Rattle.fts_core.specs.declared.event.Outcome.TheVariants as outcome
+use Rattle.fts_core.specs.declared.world.World.{World}
+use Rattle.fts_core.specs.Lists.{Allows}
+use Rattle.fts_core.proofs.Stepping.{turned_no_engine, turned_sync}
+use Rattle.fts_core.proofs.indexing.sync_batch.Goals as goal
+
+pub returns-in-Err : goal.returns-in-Err
+returns-in-Err g c told told' core fits can = turned_no_engine event.SyncBatch tt c.args.world c.in-Err.world c.in-Err.ensures.closed core fits
+
+pub returns : goal.returns
+returns g c told told' =
+    let parts = c.in-Ok.parts in
+    subst (λ (w : World _ _ g.D.Disk g.E.Disk). Allows w event.SyncBatch (outcome.Synced c.sync_batch-result.result) c.behind.result) (sym c.in-Ok.ensures.open)
+    (λ core fits can. turned_sync
+    (record { told = told; stay = λ d. g.met.D.Disk.seen_may_stay d told; only = λ d files. g.met.D.Disk.only_now d files told })
+    (record { told = told'; stay = λ d. g.met.E.Disk.seen_may_stay d told'; only = λ d files. g.met.E.Disk.only_now d files told' })
+    core parts.0 c.sync_batch-result.new.self parts.1 parts.2 parts.3 fits c.behind.result c.behind.ensures
+    (λ commits. record { ascend = c.are_turns.ensures.ascend commits; lead = c.are_turns.ensures.rows commits }) c.sync_batch-result.result c.sync_batch-result.ensures.steps c.sync_batch-result.ensures.rows c.sync_batch-result.ensures.untouched)

@@ -1,0 +1,7 @@
+pub mod World
+pub mod Parts
+pub mod Core
+pub mod Turns
+pub mod Lists
+pub mod Headline
+pub mod Calls
