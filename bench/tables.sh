@@ -20,7 +20,7 @@ mod checks;
 
 use super::*;
 use checks::{ascend, come_after};
-use fts_ilist::{Ilist, Node, Nodes, WordNodes};
+use fts_ilist::{Ilist, Node, NodeGroup, Nodes, WordNodes};
 use fts_types::Word;
 use std::alloc::Global;
 use std::process::Abort;
@@ -50,7 +50,7 @@ fn word(alloc: Global, place: u32) -> Result<Word, Fail>
     Ok(Word::from_vec(bytes))
 }
 
-fn five(alloc: Global, turn: u32) -> Result<Node, Fail>
+fn five(alloc: Global, turn: u32) -> Result<Node<'static>, Fail>
     requires { turn < 1001 }
 {
     let mut list = Ilist::new(alloc);
@@ -62,15 +62,16 @@ fn five(alloc: Global, turn: u32) -> Result<Node, Fail>
     Ok(Node::new(list))
 }
 
-fn group(alloc: Global, turn: u32, place: u32) -> Result<WordNodes, Fail>
+fn group(alloc: Global, turn: u32, place: u32) -> Result<WordNodes<'static>, Fail>
     requires turn { turn < 1001 }
     requires place { place < 50000 }
 {
-    let nodes = vec![in alloc; five(alloc, turn)?]?;
+    let mut nodes = NodeGroup::new(alloc);
+    nodes.push(alloc, five(alloc, turn)?)?;
     Ok(WordNodes::new(word(alloc, place)?, nodes))
 }
 
-fn part(alloc: Global, turn: u32, part: u32) -> Result<Nodes, Fail>
+fn part(alloc: Global, turn: u32, part: u32) -> Result<Nodes<'static>, Fail>
     requires turn { turn < 1001 }
     requires part { part < 7 }
 {

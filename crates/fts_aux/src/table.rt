@@ -20,8 +20,8 @@ use fts_ilist::{Node, NodeList, NodeSlice};
 use fts_types::{DocId, Word};
 use indexmap::IndexMap;
 use std::alloc::{AllocError, Global};
-use std::collections::BTreeSet;
 use std::collections::btree_set::Range;
+use std::collections::{BTreeSet, VecDeque};
 use std::marker::Model;
 use std::ops::Bound;
 
@@ -37,10 +37,9 @@ pub struct Table {
     order: BTreeSet<Word>,
     // The words that were entered for their room since room was last given up.
     fresh: Vec<Word>,
-    // The numbers of the words that room was made for since then, and how many of these an install
-    // has come to. They save look-ups, and are tried before use.
-    notes: Vec<usize>,
-    used: usize,
+    // The numbers of the words that room was made for since then, but those that an install has
+    // filled. They save look-ups, and are tried before use.
+    notes: VecDeque<usize>,
     // Of how many words packing would change the nodes.
     loose: usize,
 }
@@ -283,17 +282,38 @@ fn enter(
 }
 
 /// Gives up the room of the words with these numbers, which are all that have room.
-fn give_up(words: &mut Words, notes: &[usize])
-    requires { IsNotedBut words.old.entries notes.now }
+fn give_up(words: &mut Words, notes: &mut VecDeque<usize>)
+    requires { IsNotedBut words.old.entries notes.old.items }
     ensures nodes { (w : List ℕ) → nodes_in words.new.entries w ≡ nodes_in words.old.entries w }
     ensures room { (w : List ℕ) → room_of (list_in words.new.entries w) ≡ no_room }
     ensures are { (w : List ℕ) → is_key words.new.entries w ≡ is_key words.old.entries w }
     ensures loose { loose_count words.new.entries ≡ loose_count words.old.entries }
 {
-    let mut rest = notes;
-    while let [first, behind @ ..] = rest {
-        give_up_at(words, *first);
-        rest = behind;
+    while let Some(number) = notes.pop_front() {
+        give_up_at(words, number);
+    }
+}
+
+/// Whether no room is left of the word with this number.
+fn is_filled_at(words: &Words, number: usize) -> bool
+    ensures { (w : List ℕ) → result ≡ true → is_key_at (keys_of words.now.entries) number w ≡ true
+        → room_of (list_in words.now.entries w) ≡ no_room }
+{
+    match words.get_index(number) {
+        Some((_, list)) => !list.has_room(),
+        None => false,
+    }
+}
+
+/// Takes the first note out, where no room is left of its word.
+fn drop_filled(words: &Words, notes: &mut VecDeque<usize>)
+    requires { IsNotedBut words.now.entries notes.old.items }
+    ensures { IsNotedBut words.now.entries notes.new.items }
+{
+    if let Some(number) = notes.front() {
+        if is_filled_at(words, *number) {
+            notes.pop_front();
+        }
     }
 }
 
@@ -402,11 +422,6 @@ fn filled_with_prefix<'a>(
     Ok(found)
 }
 
-/// The place of the next note.
-fn next_note(used: usize, notes: &[usize]) -> usize {
-    if used < notes.len() { used + 1 } else { used }
-}
-
 impl Table {
     /// A table without words.
     pub fn new(alloc: Global) -> Self
@@ -417,8 +432,7 @@ impl Table {
             words: IndexMap::new(alloc),
             order: BTreeSet::new(alloc),
             fresh: Vec::new(alloc),
-            notes: Vec::new(alloc),
-            used: 0,
+            notes: VecDeque::new(alloc),
             loose: 0,
         }
     }
@@ -471,10 +485,8 @@ impl Table {
         ensures room { (w : List ℕ) → room_of (list_in self.new w) ≡ no_room }
         ensures filled { (w : List ℕ) → is_key self.new w ≡ true → nodes_in self.new w ≢ [] }
     {
-        give_up(&mut self.words, &self.notes);
+        give_up(&mut self.words, &mut self.notes);
         drop_empty(&mut self.words, &mut self.order, &self.fresh);
-        self.notes.clear();
-        self.used = 0;
         self.fresh.clear();
     }
 
@@ -491,7 +503,7 @@ impl Table {
         match number_and_last(&self.words, word) {
             Some((number, last)) => {
                 reserve_at(&mut self.words, number, word, nodes, bytes)?;
-                self.notes.push(number).unwrap();
+                self.notes.push_back(number).unwrap();
                 Ok(last)
             }
             None => {
@@ -513,7 +525,7 @@ impl Table {
         let fresh = Word::copied(self.alloc, word)?;
         let number = self.words.len();
         enter(&mut self.words, &mut self.order, word, nodes, bytes)?;
-        self.notes.push(number).unwrap();
+        self.notes.push_back(number).unwrap();
         self.fresh.push(fresh).unwrap();
         Ok(())
     }
@@ -525,9 +537,14 @@ impl Table {
         ensures takes { Takes (list_in self.old word.now) (list_in self.new word.now) nodes.now }
         ensures others { (w : List ℕ) → w ≢ word.now → list_in self.new w ≡ list_in self.old w }
     {
-        let noted = self.notes.get(self.used);
-        append_to(&mut self.words, &mut self.loose, noted, word, nodes);
-        self.used = next_note(self.used, &self.notes);
+        append_to(
+            &mut self.words,
+            &mut self.loose,
+            self.notes.front(),
+            word,
+            nodes,
+        );
+        drop_filled(&self.words, &mut self.notes);
     }
 
     /// Replaces the nodes of a word that has some. Without nodes, the word is taken out. It takes

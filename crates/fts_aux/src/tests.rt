@@ -71,7 +71,7 @@ fn a_word_with_room_alone_does_not_show(rt: HostRuntime) -> Result<(), Fail> {
 fn begin_with(rt: &impl Abort, nodes: NodeSlice<'_>, ids: &[u64]) {
     assert_eq!(rt; nodes.len(), ids.len());
     for (node, id) in nodes.zip(ids) {
-        assert_eq!(rt; (node.first(), node.count()), (*id, 1));
+        assert_eq!(rt; (node.cursor().doc(), node.count()), (Some(*id), 1));
     }
 }
 

@@ -3,7 +3,7 @@ use Rattle.std.proofs.Common.{◌≡◌, ◌≢◌, ℕ, ◌+◌, ◌≤◌, ◌
 use Rattle.std.proofs.lemmas.Bool.{cases_Bool, le-leb, lt-leb, leb-true}
 use Rattle.std.proofs.lemmas.List.{append-nil, length-append}
 use Rattle.fts_ilist.specs.Number.{number_bytes}
-use Rattle.fts_ilist.specs.Spelling.{Posting, items_bytes, position_items, posting_items, postings_items, list_bytes, id_at_end, first_id, last_id}
+use Rattle.fts_ilist.specs.Spelling.{Posting, items_bytes, position_items, posting_items, postings_items, list_bytes, id_at_end, HasFirstId, last_id}
 use Rattle.fts_ilist.specs.Spelling.Item.{increase, document_end}
 use Rattle.fts_ilist.specs.Node.{body_size, head_size}
 use Rattle.fts_ilist.specs.Packing.{node_size, has_place, packed_from, packed, joined, AreLoose, is_sound, takes_first, loose_behind, are_loose}
@@ -85,22 +85,18 @@ postings_within last (p ∷ ps) =
 pub count_within : (docs : Docs) → length docs ≤ node_size docs
 count_within docs = postings_within 0 docs
 
-pub head_within : (docs : Docs) → head_size docs ≤ node_size docs
-head_within [] = omega arith
-head_within (p ∷ ps) = omega (arith, one_more [] p, size_front (p ∷ []) ps)
-
 -- ---- what is kept of two nodes tells whether one takes the other's first document
 
-pub size_kept : (node : Docs) (next : Docs) (first last head : ℕ) → next ≢ [] → first ≡ first_id next → last ≡ last_id node → head ≡ head_size next
+pub size_kept : (node : Docs) (next : Docs) (first last head : ℕ) → HasFirstId next first → last ≡ last_id node → head ≡ head_size next
     → takes_first node next ≡ nat_le (node_size node + (length (number_bytes (first - last)) + head)) 8192
-size_kept node [] first last head some f l h = absurd (some refl)
-size_kept node (p ∷ ps) first last head some f l h =
-    let number : number_bytes (p.id - last_id node) ≡ number_bytes (first - last) = ap (λ n. number_bytes (n - last_id node)) (sym f) ∙ ap (λ n. number_bytes (first - n)) (sym l) in
+size_kept node [] first last head f l h = absurd f
+size_kept node (p ∷ ps) first last head f l h =
+    let number : number_bytes (p.id - last_id node) ≡ number_bytes (first - last) = ap (λ n. number_bytes (n - last_id node)) f ∙ ap (λ n. number_bytes (first - n)) (sym l) in
     ap (λ n. nat_le n 8192) (omega (arith, one_more node p, ap length number, h))
 
-pub takes_none : (node : Docs) (next : Docs) (head : ℕ) → next ≢ [] → head ≡ head_size next → 8192 < head → takes_first node next ≡ false
-takes_none node [] head some h large = absurd (some refl)
-takes_none node (p ∷ ps) head some h large = lt-leb (node_size (node ++ p ∷ [])) 8192 (omega (arith, one_more node p, h, large))
+pub takes_none : (node : Docs) (next : Docs) (head : ℕ) → head ≡ head_size next → 8192 < head → takes_first node next ≡ false
+takes_none node [] head h large = refl
+takes_none node (p ∷ ps) head h large = lt-leb (node_size (node ++ p ∷ [])) 8192 (omega (arith, one_more node p, h, large))
 
 pub sound_one : (docs : Docs) → length docs ≡ 1 → is_sound docs ≡ true
 sound_one [] e = absurd (omega (arith, e))

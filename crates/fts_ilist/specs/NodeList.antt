@@ -1,7 +1,6 @@
 -- Nodes that lie one behind the other in one run of bytes, and a table with a row for each.
-use Rattle.std.specs.Prelude.{◌≡◌, ◌≢◌, ℕ, ◌≤◌, ◌<◌, ◌^◌, Bool, List, [], ◌++◌, ◌+◌, length, map, sum_by}
-use Rattle.std.specs.List.{slice_range, AllByRecursion}
-use Rattle.fts_ilist.specs.Reading.{postings_in, IsKept}
+use Rattle.std.specs.Prelude.{◌≡◌, ◌≢◌, ℕ, ◌≤◌, ◌<◌, ◌^◌, Bool, List, [], ◌∷◌, ◌++◌, ◌+◌, length, sum_by, take, drop}
+use Rattle.fts_ilist.specs.Reading.{postings_in, IsKept, IsList}
 use Rattle.fts_ilist.specs.Node.{Docs, head_size}
 use Rattle.fts_ilist.specs.Packing.{node_size, are_loose}
 use Rattle.fts_ilist.specs.declared.node_list.NodeRow.{NodeRow}
@@ -12,22 +11,26 @@ pub record IsNode (first last count head : ℕ) (bytes : List ℕ) : Type 0 wher
   pub some : postings_in 0 bytes ≢ []
   pub head_is : head ≡ head_size (postings_in 0 bytes)
 
--- the documents of a row's node
-abbrev pub row_docs : List ℕ → NodeRow → Docs
-row_docs bytes row = postings_in 0 (slice_range bytes row.start row.end)
+-- what is kept of a node that is lent, and its bytes
+pub record IsLent (last count : ℕ) (bytes : List ℕ) : Type 0 where
+  pub list : IsList last bytes
+  pub some : postings_in 0 bytes ≢ []
+  pub count_is : count ≡ length (postings_in 0 bytes)
 
--- a row says where its node's bytes begin and end, and what is kept of it
+-- a row says how many of the bytes are its node's, and what is kept of it
 pub record IsRow (bytes : List ℕ) (row : NodeRow) : Type 0 where
-  pub order : row.start ≤ row.end
-  pub within : row.end ≤ length bytes
-  pub node : IsNode row.first row.last row.count row.head (slice_range bytes row.start row.end)
+  pub within : row.len ≤ length bytes
+  pub node : IsLent row.last row.count (take row.len bytes)
 
+-- the bytes are those of the rows' nodes, one behind the other
 abbrev pub AreRows : List ℕ → List NodeRow → Type 0
-AreRows bytes rows = AllByRecursion (IsRow bytes) rows
+AreRows bytes [] = bytes ≡ []
+AreRows bytes (row ∷ rows) = IsRow bytes row × AreRows (drop row.len bytes) rows
 
 -- the nodes of rows
 abbrev pub nodes_at : List ℕ → List NodeRow → List Docs
-nodes_at bytes rows = map (row_docs bytes) rows
+nodes_at bytes [] = []
+nodes_at bytes (row ∷ rows) = postings_in 0 (take row.len bytes) ∷ nodes_at (drop row.len bytes) rows
 
 -- how many bytes nodes take
 abbrev pub nodes_size : List Docs → ℕ

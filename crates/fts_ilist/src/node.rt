@@ -132,10 +132,8 @@ impl<'a> Node<'a> {
     {
         NodeRef {
             bytes: self.bytes.as_slice(),
-            first: self.first,
             last: self.last,
             count: self.count,
-            head: self.head,
         }
     }
 

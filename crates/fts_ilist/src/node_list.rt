@@ -1,14 +1,15 @@
 //! The nodes of a word, in one run of bytes.
-ghost use Rattle.std.specs.Prelude.{◌≡◌, ◌+◌, ◌≤◌, ◌↔◌, [], ◌∷◌, ◌++◌, length, IsTrue, IfOk, OnOk};
-ghost use Rattle.std.specs.Prelude.{OnErr};
+ghost use Rattle.std.specs.Prelude.{◌≡◌, ◌≢◌, ◌+◌, ◌≤◌, ◌↔◌, [], ◌∷◌, ◌++◌, length, IsTrue};
+ghost use Rattle.std.specs.Prelude.{IfOk, OnOk, OnErr, true, false};
 ghost use Rattle.std.specs.Prelude.{◌^◌, ◌-◌, IfSome, IfNone, vec_len, vec_capacity};
 ghost use Rattle.std.specs.Iterator.{YieldsFirst, item_count};
-ghost use Rattle.fts_ilist.specs.Spelling.{ArePostings, HasFirstId, last_id, list_bytes};
-ghost use Rattle.fts_ilist.specs.Node.{head_size, last_of};
+ghost use Rattle.fts_ilist.specs.Spelling.{ArePostings, last_id, list_bytes};
+ghost use Rattle.fts_ilist.specs.Reading.{postings_in};
+ghost use Rattle.fts_ilist.specs.Node.{last_of};
 ghost use Rattle.fts_ilist.specs.Packing.{node_size, is_sound, takes_first, are_loose, AreLoose};
 ghost use Rattle.fts_ilist.specs.Packing.{loose_behind};
 ghost use Rattle.std.specs.Prelude.{◌||◌, not};
-ghost use Rattle.fts_ilist.specs.NodeList.{nodes_size, Takes, IsRow, row_docs, with_nodes};
+ghost use Rattle.fts_ilist.specs.NodeList.{nodes_size, Takes, IsLent, with_nodes};
 
 use crate::cursor::Cursor;
 use crate::node::Node;
@@ -19,39 +20,40 @@ use std::alloc::{AllocError, Global};
 use std::iter::FusedIterator;
 use std::marker::Model;
 
-/// Where a node's bytes begin and end, and what is kept of it. With these numbers it fits 32 bytes.
+/// How many more nodes, and how many more bytes of nodes, a list that has some gets at least.
+const LEAST_NODES: usize = 4;
+
+const LEAST_BYTES: usize = 96;
+
+/// How many bytes a node has, which begin where those of the row before end, and what is kept of
+/// it. Nodes of a batch are small, and so is a row: 16 bytes.
 #[derive(Clone, Copy)]
 pub struct NodeRow {
-    start: u32,
-    end: u32,
-    first: u64,
-    last: u64,
+    len: u32,
+    // The number of documents.
     count: u32,
-    head: u32,
+    last: u64,
 }
 
-/// A node that is lent: its bytes, the first and the last of its ids, and the number of its
-/// documents.
+/// A node that is lent: its bytes, the last of its ids, and the number of its documents.
 #[derive(Drop)]
 pub struct NodeRef<'a> {
     pub(crate) bytes: &'a [u8],
-    pub(crate) first: u64,
     pub(crate) last: u64,
     pub(crate) count: usize,
-    pub(crate) head: usize,
 }
 
 impl<'a> Model for NodeRef<'a> {
     ghost use Rattle.std.specs.Prelude.{List};
     ghost use Rattle.fts_ilist.specs.Spelling.{Posting};
     ghost use Rattle.fts_ilist.specs.Reading.{postings_in};
-    ghost use Rattle.fts_ilist.specs.NodeList.{IsNode};
+    ghost use Rattle.fts_ilist.specs.NodeList.{IsLent};
 
     ghost Value = { List Posting };
 
     ghost view = { λ n. postings_in 0 n.bytes.now };
 
-    ghost invariant = { λ n. IsNode n.first n.last n.count n.head n.bytes.now };
+    ghost invariant = { λ n. IsLent n.last n.count n.bytes.now };
 }
 
 impl<'a> NodeRef<'a> {
@@ -71,13 +73,6 @@ impl<'a> NodeRef<'a> {
         Cursor::new(0, self.bytes)
     }
 
-    /// The id of the first document.
-    pub fn first(&self) -> DocId
-        ensures { HasFirstId self.now result }
-    {
-        self.first
-    }
-
     /// The id of the last document.
     pub fn last(&self) -> DocId
         ensures { result ≡ last_id self.now }
@@ -92,13 +87,6 @@ impl<'a> NodeRef<'a> {
         self.count
     }
 
-    /// The number of bytes of the first document behind its id, as of a `Node`.
-    pub fn head(&self) -> usize
-        ensures { result ≡ head_size self.now }
-    {
-        self.head
-    }
-
     /// Whether this is a node as packing makes it: of one document, or within the limit.
     pub fn is_sound(&self) -> bool
         ensures { result ≡ is_sound self.now }
@@ -110,13 +98,14 @@ impl<'a> NodeRef<'a> {
     }
 
     /// Whether the first document of the next node has a place in this one.
-    fn takes_first(&self, next: &NodeRef<'_>) -> bool
+    fn takes_first(&self, next: &Node<'_>) -> bool
         ensures { result ≡ takes_first self.now next.now }
     {
-        if next.head > NODE_LIMIT {
+        let head = next.head();
+        if head > NODE_LIMIT {
             return false;
         }
-        let size = number_len(next.first.saturating_sub(self.last)) + next.head;
+        let size = number_len(next.first().saturating_sub(self.last)) + head;
         self.bytes.len() + size <= NODE_LIMIT
     }
 }
@@ -162,7 +151,7 @@ impl<'a> NodeSlice<'a> {
     pub fn is_empty(&self) -> bool
         ensures { IsTrue result ↔ (self.now ≡ []) }
     {
-        self.rows.is_empty()
+        self.len() == 0
     }
 
     /// The last id of the nodes, and 0 where there are none. It takes constant time.
@@ -176,17 +165,15 @@ impl<'a> NodeSlice<'a> {
     }
 }
 
-/// The node of a row.
+/// The node of a row, and its bytes.
 fn node_of<'a>(row: &NodeRow, bytes: &'a [u8]) -> NodeRef<'a>
-    requires { IsRow bytes.now row.now }
-    ensures { result ≡ row_docs bytes.now row.now }
+    requires { IsLent row.now.last row.now.count bytes.now }
+    ensures { result ≡ postings_in 0 bytes.now }
 {
     NodeRef {
-        bytes: &bytes[row.start as usize..row.end as usize],
-        first: row.first,
+        bytes,
         last: row.last,
         count: row.count as usize,
-        head: row.head as usize,
     }
 }
 
@@ -202,8 +189,10 @@ impl<'a> Iterator for NodeSlice<'a> {
         match self.rows {
             [] => None,
             [first, rest @ ..] => {
+                let (bytes, behind) = self.bytes.split_at(first.len as usize);
                 self.rows = rest;
-                Some(node_of(first, self.bytes))
+                self.bytes = behind;
+                Some(node_of(first, bytes))
             }
         }
     }
@@ -253,15 +242,25 @@ fn more_room(room: u32, more: usize) -> Option<u32>
     }
 }
 
-/// Makes room for so many more items. Where there is too little, the list gets half as much again,
-/// so that little is held beside the items.
-fn grow<T>(items: &mut Vec<T>, room: usize) -> Result<(), AllocError>
+/// How much more a list of so many items gets at least, where it has too little room.
+fn more_for(len: usize, least: usize) -> usize {
+    if len == 0 {
+        0
+    } else {
+        (len / 2 + 1).max(least)
+    }
+}
+
+/// Makes room for so many more items. Where there is too little, a list that has items gets half as
+/// much again and at least so many, so that little is held beside the items and a short list is not
+/// moved for each.
+fn grow<T>(items: &mut Vec<T>, room: usize, least: usize) -> Result<(), AllocError>
     ensures items { items.new.items ≡ items.old.items }
     ensures room { OnOk result (room ≤ vec_capacity items.new - vec_len items.new) }
     ensures kept { vec_capacity items.old ≤ vec_capacity items.new }
 {
     if items.capacity() - items.len() < room {
-        items.reserve_exact(room.max(items.len() / 2 + 1))?;
+        items.reserve_exact(room.max(more_for(items.len(), least)))?;
     }
     Ok(())
 }
@@ -304,7 +303,7 @@ impl NodeList {
     pub fn is_empty(&self) -> bool
         ensures { IsTrue result ↔ (self.now.nodes ≡ []) }
     {
-        self.rows.is_empty()
+        self.as_slice().is_empty()
     }
 
     /// Whether packing their documents would give other nodes than these. It takes constant time.
@@ -317,7 +316,7 @@ impl NodeList {
 
     /// Whether packing would give other nodes than these and one more behind them. It takes
     /// constant time.
-    fn is_loose_with(&self, node: &NodeRef<'_>) -> bool
+    fn is_loose_with(&self, node: &Node<'_>) -> bool
         ensures { result ≡ are_loose (self.now.nodes ++ node.now ∷ []) }
     {
         if self.loose {
@@ -327,7 +326,10 @@ impl NodeList {
             return true;
         }
         match self.rows.last() {
-            Some(last) => node_of(last, &self.bytes).takes_first(node),
+            Some(last) => {
+                let start = self.bytes.len() - last.len as usize;
+                node_of(last, &self.bytes[start..]).takes_first(node)
+            }
             None => false,
         }
     }
@@ -345,11 +347,22 @@ impl NodeList {
         let byte_room = more_room(self.byte_room, bytes).ok_or(AllocError)?;
         // A row says by 32 bits where its node's bytes end.
         let _ = more_room(byte_room, self.bytes.len()).ok_or(AllocError)?;
-        grow(&mut self.rows, node_room as usize)?;
-        grow(&mut self.bytes, byte_room as usize)?;
+        grow(&mut self.rows, node_room as usize, LEAST_NODES)?;
+        grow(&mut self.bytes, byte_room as usize, LEAST_BYTES)?;
         self.node_room = node_room;
         self.byte_room = byte_room;
         Ok(())
+    }
+
+    /// Whether room is promised.
+    pub fn has_room(&self) -> bool
+        ensures none { result ≡ false → self.now ≡ with_nodes self.now.nodes }
+        ensures some { result ≡ true → self.now ≢ with_nodes self.now.nodes }
+    {
+        if self.node_room > 0 {
+            return true;
+        }
+        self.byte_room > 0
     }
 
     /// Gives up the room.
@@ -361,25 +374,33 @@ impl NodeList {
     }
 
     /// Puts a node behind the last, within the room. It takes no memory.
-    pub fn push(&mut self, node: &NodeRef<'_>)
+    fn push(&mut self, node: &Node<'_>)
         requires nodes { 1 ≤ self.old.node_room }
         requires bytes { node_size node.now ≤ self.old.byte_room }
         ensures { Takes self.old self.new (node.now ∷ []) }
     {
-        self.loose = self.is_loose_with(node);
-        let start = self.bytes.len();
+        let loose = self.is_loose_with(node);
+        self.put(&node.as_ref(), loose);
+    }
+
+    /// Puts a node behind the last, within the room. Behind it, packing would change the nodes or
+    /// not, as is said.
+    fn put(&mut self, node: &NodeRef<'_>, loose: bool)
+        requires nodes { 1 ≤ self.old.node_room }
+        requires bytes { node_size node.now ≤ self.old.byte_room }
+        requires loose { loose ≡ are_loose (self.old.nodes ++ node.now ∷ []) }
+        ensures { Takes self.old self.new (node.now ∷ []) }
+    {
+        self.loose = loose;
         self.bytes.extend_from_slice(node.bytes).unwrap();
         let row = NodeRow {
-            start: start as u32,
-            end: self.bytes.len() as u32,
-            first: node.first,
-            last: node.last,
+            len: node.bytes.len() as u32,
             count: node.count as u32,
-            head: node.head as u32,
+            last: node.last,
         };
         self.rows.push(row).unwrap();
         self.node_room -= 1;
-        self.byte_room -= node.bytes.len() as u32;
+        self.byte_room -= row.len;
     }
 
     /// Puts nodes behind the last, within the room. It takes no memory.
@@ -390,7 +411,7 @@ impl NodeList {
     {
         let mut rest = nodes;
         while let [first, behind @ ..] = rest {
-            self.push(&first.as_ref());
+            self.push(first);
             rest = behind;
         }
     }
@@ -415,8 +436,7 @@ pub fn bytes_of(nodes: &[Node]) -> Option<usize>
 fn is_loose_next(last: &Node, next: &Node) -> bool
     ensures { result ≡ (takes_first last.now next.now || not (is_sound next.now)) }
 {
-    let next = next.as_ref();
-    if last.as_ref().takes_first(&next) {
+    if last.as_ref().takes_first(next) {
         return true;
     }
     !next.is_sound()
@@ -446,7 +466,7 @@ pub fn are_loose<'a>(nodes: &'a [Node<'a>]) -> bool
     match nodes {
         [] => false,
         [first, behind @ ..] => {
-            if !first.as_ref().is_sound() {
+            if !first.is_sound() {
                 return true;
             }
             loose_behind(first, behind)
@@ -485,11 +505,8 @@ mod tests {
         assert!(rt; are_loose(&nodes));
         assert_eq!(rt; list.as_slice().last_id(), 70_000);
         for (found, node) in list.as_slice().zip(nodes.iter()) {
-            assert_eq!(rt;
-                (found.first(), found.last(), found.count()),
-                (node.first(), node.last(), 1)
-            );
-            assert_eq!(rt; (found.head(), found.bytes()), (node.head(), node.bytes()));
+            assert_eq!(rt; (found.last(), found.count()), (node.last(), 1));
+            assert_eq!(rt; found.bytes(), node.bytes());
         }
         Ok(())
     }
