@@ -205,7 +205,11 @@ fn outcomes_of(
                 drop(world);
                 Some(outcomes)
             }
-            Err(_) => None,
+            Err((world, events)) => {
+                drop(world);
+                drop(events);
+                None
+            }
         },
     }
 }
@@ -223,7 +227,11 @@ fn devices_behind(
                 let World { place, .. } = world;
                 Some(place.close())
             }
-            Err(_) => None,
+            Err((world, events)) => {
+                drop(world);
+                drop(events);
+                None
+            }
         },
     }
 }
