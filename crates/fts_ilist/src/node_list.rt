@@ -374,7 +374,7 @@ impl NodeList {
     }
 
     /// Puts a node behind the last, within the room. It takes no memory.
-    fn push(&mut self, node: &Node<'_>)
+    pub fn push(&mut self, node: &Node<'_>)
         requires nodes { 1 ≤ self.old.node_room }
         requires bytes { node_size node.now ≤ self.old.byte_room }
         ensures { Takes self.old self.new (node.now ∷ []) }

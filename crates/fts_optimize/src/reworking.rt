@@ -49,7 +49,6 @@ fn put_node(packing: &mut Packing, documents: Cursor<'_>, being: &[DocId]) -> Re
 fn put_last(nodes: &mut NodeList, node: Node<'_>) -> Result<(), AllocError>
     ensures { OnOk result (nodes.new.nodes ≡ nodes.old.nodes ++ node.entry ∷ []) }
 {
-    let node = node.as_ref();
     nodes.reserve(1, node.bytes().len())?;
     nodes.push(&node);
     Ok(())
