@@ -1,8 +1,9 @@
 -- Rows are written one list behind another.
 use Rattle.std.proofs.Common.{◌≡◌, ℕ, ◌+◌, List, [], ◌∷◌, ◌++◌, length, refl, sym, ap, ◌∙◌, arith}
-use Rattle.std.specs.Prelude.{Result, Ok, Err, OnOk}
+use Rattle.std.specs.Prelude.{Result, Ok, Err, OnOk, decimal}
 use Rattle.std.proofs.lemmas.List.{append_assoc, append-nil, length-append}
 use Rattle.fts_schema.specs.Listing.{lines}
+use Rattle.fts_schema.specs.Reply.{ids_text}
 use Rattle.fts_schema.specs.Rows.{Puts}
 use Rattle.fts_schema.specs.declared.rows.Rows.{Rows}
 
@@ -55,3 +56,17 @@ puts_both old mid new rows more first later = record {
 pub ok_so : {T E : Type 0} → (result : Result T E) (P Q : Type 0) → (P → Q) → OnOk result P → OnOk result Q
 ok_so (Ok value) P Q so is = so is
 ok_so (Err error) P Q so is = tt
+
+ids_text-append : (ids more : List ℕ) → ids_text (ids ++ more) ≡ ids_text ids ++ ids_text more
+ids_text-append [] more = refl
+ids_text-append (id ∷ ids) more =
+    ap (λ (text : List ℕ). 32 ∷ (decimal id ++ text)) (ids_text-append ids more) ∙ ap (λ (text : List ℕ). 32 ∷ text) (sym (append_assoc (decimal id) (ids_text ids) (ids_text more)))
+
+-- some of the ids that are left are written behind the text
+pub some_written : (old text new : List ℕ) (all rest some others : List ℕ) → text ++ ids_text rest ≡ old ++ ids_text all → new ≡ text ++ ids_text some → rest ≡ some ++ others
+    → new ++ ids_text others ≡ old ++ ids_text all
+some_written old text new all rest some others so put parts =
+    ap (λ (t : List ℕ). t ++ ids_text others) put
+    ∙ append_assoc text (ids_text some) (ids_text others)
+    ∙ ap (λ (t : List ℕ). text ++ t) (sym (ids_text-append some others) ∙ ap ids_text (sym parts))
+    ∙ so

@@ -10,6 +10,7 @@
 //! A text costs its bytes.
 #![tactic(auto)]
 
+mod ids;
 mod listing;
 mod reply;
 mod rows;

@@ -2,6 +2,7 @@ ghost use Rattle.std.specs.Prelude.{◌≡◌, ◌∷◌, ◌++◌, [], ℕ, Lis
 ghost use Rattle.std.specs.Prelude.{OnOk, IfOk, IfSome, IfNone};
 ghost use Rattle.fts_schema.specs.Reply.{text_of, is_fixed, ids_text, pass_text as the_pass_text};
 
+use crate::ids::push_ids;
 use crate::listing::listing_text;
 use fts_commits::Refusal;
 use fts_listing::Listing;
@@ -138,7 +139,7 @@ fn written_text(alloc: Global, reply: &Reply) -> Result<Vec<u8>, AllocError>
         )),
         Reply::Buffered { changes } => bytes_of(format!(in alloc; "OK buffered {changes}\n")),
         Reply::RolledBack { changes } => bytes_of(format!(in alloc; "OK rollback {changes}\n")),
-        Reply::Found { number, docs } => bytes_of(found_text(alloc, *number, docs.as_slice())),
+        Reply::Found { number, docs } => found_text(alloc, *number, docs.as_slice()),
         Reply::Synced { through } => bytes_of(format!(in alloc; "OK sync as of {through}\n")),
         Reply::Optimized { words, finished } => bytes_of(optimized_text(alloc, *words, *finished)),
         Reply::Listed { number, listing } => listing_text(alloc, *number, listing),
@@ -210,26 +211,17 @@ pub fn created_text() -> &'static str
     "OK created\n"
 }
 
-fn found_text(alloc: Global, number: u64, docs: &[u64]) -> Result<String, AllocError>
-    ensures { IfOk result (λ text. string_bytes text ≡ text_of (Reply.Found number docs.now)) }
+fn found_text(alloc: Global, number: u64, docs: &[u64]) -> Result<Vec<u8>, AllocError>
+    ensures { IfOk result (λ text. text.items ≡ text_of (Reply.Found number docs.now)) }
 {
-    let mut text = format!(in alloc; "OK as of {number}:")?;
+    let mut text = format!(in alloc; "OK as of {number}:")?.into_bytes();
     if docs.is_empty() {
-        text.push_str(" none")?;
+        text.extend_from_slice(b" none")?;
     } else {
         push_ids(&mut text, docs)?;
     }
-    text.push('\n')?;
+    text.push(b'\n')?;
     Ok(text)
-}
-
-fn push_ids(text: &mut String, docs: &[u64]) -> Result<(), AllocError>
-    ensures { OnOk result (string_bytes text.new ≡ string_bytes text.old ++ ids_text docs.now) }
-{
-    for id in docs {
-        write!(text, " {id}")?;
-    }
-    Ok(())
 }
 
 #[cfg(test)]
