@@ -1,5 +1,5 @@
 -- Where a document ends, found by its bytes alone.
-use Rattle.std.proofs.Common.{◌≡◌, drop, get_or, ℕ, zero, suc, ◌+◌, ◌-◌, ◌/◌, ◌%◌, ◌<◌, ◌≤◌, List, [], ◌∷◌, ◌++◌, length, true, false, if◌then◌else◌, refl, ap, ◌∙◌, append_assoc, arith, inl, inr, Bool, nat_lt, ap₂, sym}
+use Rattle.std.proofs.Common.{◌≡◌, drop, get_or, ℕ, zero, suc, ◌+◌, ◌-◌, ◌/◌, ◌%◌, ◌<◌, ◌≤◌, List, [], ◌∷◌, ◌++◌, length, true, false, if◌then◌else◌, refl, ap, ◌∙◌, append_assoc, arith, inl, inr, Bool, nat_lt, ap₂, sym, subst}
 use Rattle.std.proofs.lemmas.Bool.{cases_lt, lt-ltb, le-ltb, ne_eqb}
 use Rattle.std.proofs.lemmas.List.{length-append, length-drop, drop_more, drop_all, drop-drop, get_or-drop}
 use Rattle.fts_ilist.specs.Number.{groups, number_bytes}
@@ -157,3 +157,38 @@ no_zero bytes hay at before same within no_end_yet none body =
     let nothing : to_end (last_before before hay (length hay)) (drop (length hay) hay) ≡ 0 = ap (to_end (last_before before hay (length hay))) (drop_all (length hay) hay (omega arith)) ∙ no_end _ in
     let all : to_end 0 bytes ≡ at + to_end before hay = no_end_yet ∙ ap (λ (bs : List ℕ). at + to_end before bs) (sym same) in
     omega (arith, long, passed, nothing, all, within, end_within bytes body)
+
+-- ---- bytes that are passed since no document ends with them
+
+none_to : (before : ℕ) (bs : List ℕ) (k : ℕ) → k ≤ length bs → ((j : ℕ) → j < k → is_end (last_before before bs j) (get_or bs j 0) ≡ false)
+    → to_end before bs ≡ k + to_end (last_before before bs k) (drop k bs)
+none_to before bs zero within none = omega arith
+none_to before [] (suc k) within none = absurd (omega (arith, within))
+none_to before (b ∷ bs) (suc k) within none =
+    let rest = none_to b bs k (omega (arith, within)) (λ j less. none (suc j) (omega (arith, less))) in
+    end_later before b bs (none 0 (omega arith)) ∙ omega (arith, rest)
+
+-- where none of the bytes behind the first k ends a document
+pub none_behind : (bs : List ℕ) (k : ℕ) → k < length bs → ((j : ℕ) → j < k → is_end (get_or bs j 0) (get_or bs (j + 1) 0) ≡ false)
+    → to_end 0 bs ≡ (k + 1) + to_end (get_or bs k 0) (drop (k + 1) bs)
+none_behind bs k within none =
+    let place : suc k ≡ k + 1 = omega arith in
+    none_to 0 bs (suc k) (omega (arith, within)) each
+    ∙ ap₂ (λ (n b : ℕ). n + to_end b (drop n bs)) place (last_is 0 bs k within)
+  where
+    each : (j : ℕ) → j < suc k → is_end (last_before 0 bs j) (get_or bs j 0) ≡ false
+    each zero less = behind_small 0 (get_or bs 0 0) (omega arith)
+    each (suc j) less =
+        let place : suc j ≡ j + 1 = omega arith in
+        ap (λ (b : ℕ). is_end b (get_or bs (suc j) 0)) (last_is 0 bs j (omega (arith, within, less)))
+        ∙ ap (λ (n : ℕ). is_end (get_or bs j 0) (get_or bs n 0)) place
+        ∙ none j (omega (arith, less))
+
+-- and the next one does
+pub ends_next : (bs : List ℕ) (k : ℕ) → k + 1 < length bs → ((j : ℕ) → j < k → is_end (get_or bs j 0) (get_or bs (j + 1) 0) ≡ false)
+    → is_end (get_or bs k 0) (get_or bs (k + 1) 0) ≡ true → EndsBody bs (k + 2)
+ends_next bs k within none found =
+    let here = ap (to_end (get_or bs k 0)) (drop_more bs (k + 1) 0 within) ∙ end_here (get_or bs k 0) (get_or bs (k + 1) 0) (drop (k + 1 + 1) bs) found in
+    let passed = none_behind bs k (omega (arith, within)) none in
+    let place : k + 1 + 1 ≡ k + 2 = omega arith in
+    subst (λ (n : ℕ). EndsBody bs n) place (body_ends bs (k + 1) (omega (arith, here, passed)))

@@ -14,6 +14,7 @@ pub mod Queues
 pub mod Ends
 pub mod Cursors
 pub mod Kept
+pub mod Lanes
 pub mod Packs
 pub mod Loose
 pub mod Nodes

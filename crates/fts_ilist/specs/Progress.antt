@@ -1,6 +1,7 @@
 -- How far a reader has come, and why it goes no further.
 use Rattle.std.specs.Prelude.{◌≡◌, ℕ, ◌+◌, ◌-◌, ◌^◌, ◌<◌, ◌≤◌, List, [], ◌∷◌, ◌++◌, length, drop, Bool, false, ◌==◌}
 use Rattle.std.specs.Prelude.{nat_lt, if◌then◌else◌}
+use Rattle.std.specs.Int.{w64, trailing_zeros}
 use Rattle.fts_ilist.specs.Number.{number_bytes}
 use Rattle.fts_ilist.specs.Spelling.{Item, item_bytes, items_bytes, position_items, PositionsFrom, ArePositions}
 use Rattle.fts_ilist.specs.Spelling.{next_at_end}
@@ -107,3 +108,7 @@ EndsBody bytes end = (positions : List ℕ) (rest : List ℕ) → ArePositions p
 -- the first of two ids, where 0 is none
 abbrev pub first_or : ℕ → ℕ → ℕ
 first_or first id = if first == 0 then id else first
+
+-- the place of the lowest bit that is set, and 16 where none is
+abbrev pub first_set : ℕ → ℕ
+first_set mask = if mask == 0 then 16 else trailing_zeros w64 mask

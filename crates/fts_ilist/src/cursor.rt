@@ -1,6 +1,8 @@
 //! The one reader of lists that are known to be right: it stands at a document, and goes on from
 //! there.
-ghost use Rattle.std.specs.Prelude.{◌≡◌, List, [], drop, IfNone, IfSome};
+ghost use Rattle.std.specs.Prelude.{◌≡◌, ◌+◌, ◌≤◌, ◌++◌, List, [], drop, length, map, IfNone};
+ghost use Rattle.std.specs.Prelude.{IfSome};
+ghost use Rattle.std.specs.Vec.{vec_len, vec_capacity};
 ghost use Rattle.std.specs.Iterator.{YieldsFirst, item_count};
 ghost use Rattle.fts_ilist.specs.Spelling.{HasFirstId};
 ghost use Rattle.fts_ilist.specs.Reading.{postings_in, IsTail};
@@ -95,6 +97,19 @@ impl<'a> Cursor<'a> {
         if self.id > 0 {
             let len = body_len(self.rest);
             *self = Cursor::new(self.id, &self.rest[len..]);
+        }
+    }
+
+    /// Puts the ids of the documents from the one at which it stands on behind others, within the
+    /// room. No position is decoded, and no memory is taken.
+    pub fn put_ids(self, ids: &mut Vec<u64>)
+        requires { vec_len ids.old + length self ≤ vec_capacity ids.old }
+        ensures { ids.new.items ≡ ids.old.items ++ map (λ p. p.id) self.entry }
+    {
+        let mut rest = self;
+        while let Some(id) = rest.doc() {
+            ids.push_reserved(id);
+            rest.advance();
         }
     }
 

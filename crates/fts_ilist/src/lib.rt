@@ -9,6 +9,7 @@
 //! A byte is written once and read once.
 #![tactic(auto)]
 
+mod block;
 mod cursor;
 mod documents;
 mod list;

@@ -10,6 +10,7 @@ ghost use Rattle.fts_ilist.specs.Progress.{ReadsBody, ReadsDocument, is_end, Beg
 ghost use Rattle.fts_ilist.specs.Progress.{HasNoEndBefore};
 ghost use Rattle.std.specs.Prelude.{if◌then◌else◌, nat_lt, ◌-◌};
 
+use crate::block::{LANES, bytes_before_end};
 use crate::number::{Bad, take_number};
 use memchr::memchr;
 
@@ -132,10 +133,6 @@ fn is_document_end(before: u8, byte: u8) -> bool
     byte == 0 && before >= 128
 }
 
-/// So many bytes are looked at one by one for a document's end. Most documents have a word only a
-/// few times, and end before.
-const NEAR: usize = 4;
-
 /// The byte before a place, where from an earlier place on none is 00 and this one stands before
 /// that.
 #[inline]
@@ -168,22 +165,35 @@ fn far_body_len(bytes: &[u8], from: usize, last: u8) -> usize
     unreachable!()
 }
 
-/// How many bytes a document's positions and its end take, at the front of bytes that are known to
-/// be right: up to the first 00 behind a byte of 128 or more. No position is decoded.
-#[inline]
-pub(crate) fn body_len(bytes: &[u8]) -> usize
+/// What `body_len` tells, of few bytes: they are looked at one by one.
+fn short_body_len(bytes: &[u8]) -> usize
     requires { BeginsBody bytes.now }
     ensures { EndsBody bytes.now result }
 {
     let mut before = 0;
     for (at, byte) in bytes.iter().enumerate() {
-        if at == NEAR {
-            return far_body_len(bytes, at, before);
-        }
         if is_document_end(before, *byte) {
             return at + 1;
         }
         before = *byte;
     }
     unreachable!()
+}
+
+/// How many bytes a document's positions and its end take, at the front of bytes that are known to
+/// be right: up to the first 00 behind a byte of 128 or more. No position is decoded, and mostly no
+/// branch hangs on how many bytes there are.
+#[inline]
+pub(crate) fn body_len(bytes: &[u8]) -> usize
+    requires { BeginsBody bytes.now }
+    ensures { EndsBody bytes.now result }
+{
+    if bytes.len() <= LANES {
+        return short_body_len(bytes);
+    }
+    let passed = bytes_before_end(bytes);
+    if passed < LANES {
+        return passed + 2;
+    }
+    far_body_len(bytes, LANES + 1, bytes[LANES])
 }
