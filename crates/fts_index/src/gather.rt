@@ -41,68 +41,66 @@ fn push_ids(ids: &mut Vec<DocId>, mut documents: Cursor<'_>) -> Result<(), Alloc
     Ok(())
 }
 
-/// The ids of the documents of nodes.
-fn node_ids(alloc: Global, nodes: NodeSlice<'_>) -> Result<Vec<DocId>, AllocError>
+/// How many documents nodes have.
+fn count_of(nodes: NodeSlice<'_>) -> usize {
+    let mut count: usize = 0;
+    for node in nodes {
+        count = count.saturating_add(node.count());
+    }
+    count
+}
+
+/// The ids of the documents of nodes, in a vector that was made for so many.
+fn node_ids(alloc: Global, nodes: NodeSlice<'_>, room: usize) -> Result<Vec<DocId>, AllocError>
     requires { NodesAfter 0 nodes }
     ensures ascend { IfOk result (λ ids. Ascend ids.items) }
     ensures ids { IfOk result (λ ids. ids.items ≡ doc_ids (joined nodes.entry)) }
 {
-    let mut ids = Vec::new(alloc);
+    let mut ids = Vec::with_capacity(alloc, room)?;
     for node in nodes {
-        push_ids(&mut ids, node.cursor())?;
+        ids.reserve(node.count())?;
+        node.cursor().put_ids(&mut ids);
     }
     Ok(ids)
 }
 
 /// The ids that are not in DELETED. It costs nothing where that is empty.
-fn without_deleted(lists: &Lists, ids: Vec<DocId>) -> Result<Vec<DocId>, AllocError>
+fn without_deleted(lists: &Lists, mut ids: Vec<DocId>) -> Vec<DocId>
     requires { Ascend ids.items }
-    ensures ascend { IfOk result (λ left. Ascend left.items) }
-    ensures each { IfOk result (λ left. (id : ℕ) → has left.items id
-        ≡ (has ids.items id && not (has (ids_of Deleted lists.now) id))) }
+    ensures ascend { Ascend result.items }
+    ensures each { (id : ℕ) → has result.items id
+        ≡ (has ids.items id && not (has (ids_of Deleted lists.now) id)) }
 {
     if lists.is_empty(DeleteList::Deleted) {
-        return Ok(ids);
+        return ids;
     }
-    lists.without_deleted(*ids.allocator(), &ids)
-}
-
-/// The ids that are not in DELETED_CACHE, each tested by itself.
-fn left_alive(alloc: Global, lists: &Lists, ids: &[DocId]) -> Result<Vec<DocId>, AllocError>
-    requires { Ascend ids.now }
-    ensures ascend { IfOk result (λ left. Ascend left.items) }
-    ensures each { IfOk result (λ left. (id : ℕ) → has left.items id
-        ≡ (has ids.now id && not (has (ids_of DeletedCache lists.now) id))) }
-{
-    let mut left = Vec::new(alloc);
-    for id in ids {
-        if !lists.contains(DeleteList::DeletedCache, *id) {
-            left.push(*id)?;
-        }
-    }
-    Ok(left)
+    lists.without_deleted(&mut ids);
+    ids
 }
 
 /// The ids that are not in DELETED_CACHE. It costs nothing where that is empty.
-fn without_dead(lists: &Lists, ids: Vec<DocId>) -> Result<IdList, AllocError>
+fn without_dead(lists: &Lists, mut ids: Vec<DocId>) -> IdList
     requires { Ascend ids.items }
-    ensures ascend { IfOk result Ascend }
-    ensures each { IfOk result (λ left. (id : ℕ) → has left id
-        ≡ (has ids.items id && not (has (ids_of DeletedCache lists.now) id))) }
+    ensures ascend { Ascend result }
+    ensures each { (id : ℕ) → has result id
+        ≡ (has ids.items id && not (has (ids_of DeletedCache lists.now) id)) }
 {
     if lists.is_empty(DeleteList::DeletedCache) {
-        return Ok(IdList::new(ids));
+        return IdList::new(ids);
     }
-    Ok(IdList::new(left_alive(*ids.allocator(), lists, &ids)?))
+    lists.without_dead(&mut ids);
+    IdList::new(ids)
 }
 
-/// The ids of the documents that have the word in the tables and are not deleted.
-fn table_ids(index: &Index, word: &[u8]) -> Result<IdList, AllocError>
+/// The ids of the documents that have the word in the tables and are not deleted, with room for so
+/// many more.
+fn table_ids(index: &Index, word: &[u8], more: usize) -> Result<IdList, AllocError>
     ensures ascend { IfOk result Ascend }
     ensures each { IfOk result (λ ids. (id : ℕ) → has ids id ≡ table_has index.now id word.now) }
 {
-    let ids = node_ids(index.alloc, index.tables.nodes_of(word))?;
-    without_dead(&index.lists, without_deleted(&index.lists, ids)?)
+    let room = count_of(index.tables.nodes_of(word)).saturating_add(more);
+    let ids = node_ids(index.alloc, index.tables.nodes_of(word), room)?;
+    Ok(without_dead(&index.lists, without_deleted(&index.lists, ids)))
 }
 
 /// The ids of the documents that have the word in the cache and did not die.
@@ -112,7 +110,7 @@ fn cache_ids(index: &Index, word: &[u8]) -> Result<IdList, AllocError>
 {
     let mut ids = Vec::new(index.alloc);
     push_ids(&mut ids, index.cache.postings(word))?;
-    without_dead(&index.lists, ids)
+    Ok(without_dead(&index.lists, ids))
 }
 
 /// Whether all ids stand before others.
@@ -160,8 +158,8 @@ fn word_ids(index: &Index, word: &[u8]) -> Result<IdList, AllocError>
     ensures ascend { IfOk result Ascend }
     ensures each { IfOk result (λ ids. (id : ℕ) → has ids id ≡ doc_has index.now id word.now) }
 {
-    let flushed = table_ids(index, word)?;
     let cached = cache_ids(index, word)?;
+    let flushed = table_ids(index, word, cached.as_slice().len())?;
     joined_ids(index.alloc, flushed, cached)
 }
 
@@ -174,7 +172,7 @@ fn table_lists(index: &Index, prefix: &[u8]) -> Result<Vec<IdList>, AllocError>
     let empty = Word::copied(index.alloc, b"")?;
     let mut lists = Vec::new(index.alloc);
     for entry in &words_with(index.alloc, &index.tables, prefix, &empty)? {
-        lists.push(table_ids(index, entry.0.as_bytes())?)?;
+        lists.push(table_ids(index, entry.0.as_bytes(), 0)?)?;
     }
     Ok(lists)
 }

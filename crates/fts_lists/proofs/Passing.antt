@@ -1,16 +1,14 @@
 -- Ascending ids, searched and filtered in place.
-use Rattle.std.proofs.Common.{◌≡◌, suc, zero, length, take, drop, get_or, ℕ, ◌+◌, ◌<◌, ◌≤◌, Bool, true, false, ◌||◌, List, [], ◌∷◌, nat_eq, refl, sym, ap, subst, ◌∙◌, add-one, arith, inl, inr, is_ok, Result, Ok, Err}
+use mir.Val.{bool_byte}
+use Rattle.std.proofs.Common.{◌≡◌, ◌∙◌, set, cond, suc, length, drop, get_or, ℕ, ◌+◌, ◌<◌, ◌≤◌, Bool, true, false, List, [], ◌∷◌, nat_eq, sym, ap, subst, ◌∙◌, arith, inl, inr, is_ok, Result, Ok, Err}
 use Rattle.std.specs.List.Sorted.{IsStrictlyIncreasing}
-use Rattle.std.proofs.lemmas.Bool.{cases_lt, false≢true, ne_eqb, eq-eqb}
+use Rattle.std.proofs.lemmas.Bool.{cases_lt, ne_eqb, eq-eqb}
 use Rattle.std.specs.List.Sorted.{IsBinarySearchResult}
 use Rattle.std.specs.Ordering.{nat_cmp}
-use Rattle.std.specs.Result.{MatchResult}
-use Rattle.std.specs.Cmp.{nat_eq_equiv}
-use Rattle.std.proofs.lemmas.List.Sorted.{searched}
-use Rattle.std.proofs.lemmas.List.{take-append-drop, get_or-take, get_or-drop, get_or_default, length-take-le}
-use Rattle.std.proofs.lemmas.List.Folds.{list_any-append, list_any_at, list_any_none}
-use Rattle.std.proofs.lemmas.List.Filters.{FiltersInPlace}
-use Rattle.fts_ids.specs.Ids.{has, AscendFrom, PassesBelow}
+use Rattle.std.proofs.lemmas.List.{take-set, drop-set-lt, length-set, get_or-drop, get_or_default}
+use Rattle.std.proofs.lemmas.List.Folds.{list_any_at, list_any_none}
+use Rattle.std.proofs.lemmas.List.Filters.{FiltersInPlace, FiltersInPlace-more_no, FiltersInPlace-more_set}
+use Rattle.fts_ids.specs.Ids.{has, AscendFrom}
 use Rattle.fts_ids.proofs.Passing.{found_at}
 
 pub found_is_has : (xs : List ℕ) (id : ℕ) (r : Result ℕ ℕ) → AscendFrom 0 xs → IsBinarySearchResult (λ y. nat_cmp y id) xs r → is_ok r ≡ has xs id
@@ -45,3 +43,19 @@ same_at p xs ys k at x f lt e =
     let none : at + 0 ≡ at = omega arith in
     let first : (zs : List ℕ) → get_or (drop at zs) 0 x ≡ get_or zs at x = λ zs. get_or-drop at zs 0 x ∙ ap (λ n. get_or zs n x) none in
     e ∙ sym (first ys) ∙ ap (λ zs. get_or zs 0 x) f.rest ∙ first xs ∙ get_or_default xs at x 0 lt
+
+-- an element is written to the next place, which stays the next one where it does not pass
+pub written : (p : ℕ → Bool) (xs ys : List ℕ) (k at x : ℕ) (b : Bool) → FiltersInPlace p xs ys k at → at < length ys → p x ≡ b → x ≡ get_or ys at x
+    → FiltersInPlace p xs (set ys k x) (k + bool_byte b) (at + 1)
+written p xs ys k at x true f lt passes e = FiltersInPlace-more_set f lt passes e
+written p xs ys k at x false f lt fails e =
+    let stays : FiltersInPlace p xs ys k (at + 1) = FiltersInPlace-more_no f lt fails e in
+    let less = f.behind in
+    let same : k + 0 ≡ k = omega arith in
+    subst (λ n. FiltersInPlace p xs (set ys k x) n (at + 1)) (sym same) (record {
+      front = take-set ys k x ∙ stays.front;
+      rest = drop-set-lt (at + 1) ys k x (omega (arith, less)) ∙ stays.rest;
+      behind = stays.behind;
+      within = stays.within;
+      long = length-set ys k x ∙ stays.long;
+    })

@@ -1,5 +1,5 @@
 -- Sets of ids, as ascending lists.
-use Rattle.std.specs.Prelude.{◌≡◌, ℕ, ◌<◌, Bool, not, List, [], ◌∷◌, fold, length}
+use Rattle.std.specs.Prelude.{◌≡◌, ℕ, ◌<◌, ◌%◌, Bool, true, not, List, [], ◌∷◌, fold, length}
 use Rattle.std.specs.Ordering.{nat_cmp}
 use Rattle.std.specs.BTreeSet.{insert_key}
 use Rattle.std.specs.List.{filter}
@@ -31,3 +31,7 @@ ascending (x ∷ xs) = with_id (ascending xs) x
 -- each number that has a mark is marked exactly where it is among the ids
 abbrev pub AreMarked : List Bool → List ℕ → Type 0
 AreMarked marks ids = (id : ℕ) → id < length marks → is_marked marks id ≡ has ids id
+
+-- the ids that may be among some: those whose remainder has a mark that is set, or has none
+abbrev pub MayBeAmong : List Bool → List ℕ → Type 0
+MayBeAmong marks ids = (id : ℕ) → has ids id ≡ true → id % 65536 < length marks → is_marked marks (id % 65536) ≡ true

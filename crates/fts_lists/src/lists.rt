@@ -115,14 +115,21 @@ impl Lists {
         self.deleted.ids().as_slice()
     }
 
-    /// These ids without those of DELETED. An id below the bound of the marks takes one look, the
-    /// others a walk. The only refusal is for want of memory.
-    pub fn without_deleted(&self, alloc: Global, ids: &[DocId]) -> Result<Vec<DocId>, AllocError>
-        requires { Ascend ids.now }
-        ensures { IfOk result (λ left. left.items
-            ≡ without (ids_of DeleteList.Deleted self.now) ids.now) }
+    /// Takes the ids of DELETED out of others that ascend. An id below the bound of the marks takes
+    /// one look, the others a walk. It takes no memory.
+    pub fn without_deleted(&self, ids: &mut Vec<DocId>)
+        requires { Ascend ids.old.items }
+        ensures { ids.new.items ≡ without (ids_of DeleteList.Deleted self.now) ids.old.items }
     {
-        self.deleted.without(alloc, ids)
+        self.deleted.take_from(ids);
+    }
+
+    /// Takes the ids of DELETED_CACHE out of others. It takes no memory, and constant time for each
+    /// of these.
+    pub fn without_dead(&self, ids: &mut Vec<DocId>)
+        ensures { ids.new.items ≡ without (ids_of DeleteList.DeletedCache self.now) ids.old.items }
+    {
+        self.deleted_cache.take_from(ids);
     }
 
     /// Marks the ids of DELETED, where they are dense enough with so many more that will come, so

@@ -102,21 +102,21 @@ impl MarkedIds {
         self.ids.contains(id)
     }
 
-    /// These ids without those of the set: one look for each that has a mark, and a walk for the
-    /// others.
-    pub fn without(&self, alloc: Global, ids: &[DocId]) -> Result<Vec<DocId>, AllocError>
-        requires { Ascend ids.now }
-        ensures { IfOk result (λ left. left.items ≡ without self.now.ids ids.now) }
+    /// Takes the ids of the set out of others that ascend: one look for each that has a mark, and a
+    /// walk for the others. Each is written, and the next takes its place where it is of the set: so
+    /// no branch hangs on which these are. It takes no memory.
+    pub fn take_from(&self, ids: &mut Vec<DocId>)
+        requires { Ascend ids.old.items }
+        ensures { ids.new.items ≡ without self.now.ids ids.old.items }
     {
         let mut walk = IdWalk::new(self.ids.as_slice());
-        // Mostly few are taken.
-        let mut left = Vec::with_capacity(alloc, ids.len())?;
-        for id in ids {
-            if !is_among(&self.marks, &mut walk, *id) {
-                left.push(*id)?;
-            }
+        let mut kept = 0;
+        for at in 0..ids.len() {
+            let id = ids[at];
+            ids[kept] = id;
+            kept += !is_among(&self.marks, &mut walk, id) as usize;
         }
-        Ok(left)
+        ids.truncate(kept);
     }
 
     /// Marks the numbers up to the last id, where ids are dense enough with so many more that will

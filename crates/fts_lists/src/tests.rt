@@ -182,10 +182,12 @@ fn what_is_not_deleted_is_left(rt: HostRuntime) -> Result<(), Fail> {
     put(&rt, &mut lists, DeleteList::Deleted, &mut plain, &[2, 4, 9])?;
     lists.mark_deleted(1)?;
     put(&rt, &mut lists, DeleteList::Deleted, &mut plain, &[3, 20])?;
-    let left = lists.without_deleted(alloc, &ids)?;
+    let mut left = Vec::from_slice(alloc, &ids)?;
+    lists.without_deleted(&mut left);
     assert_eq!(rt; left.as_slice(), [1, 10, 21].as_slice());
     lists.purge(DeleteList::Deleted, &[4, 20]);
-    let left = lists.without_deleted(alloc, &ids)?;
+    let mut left = Vec::from_slice(alloc, &ids)?;
+    lists.without_deleted(&mut left);
     assert_eq!(rt; left.as_slice(), [1, 4, 10, 20, 21].as_slice());
     Ok(())
 }

@@ -1,7 +1,7 @@
 use Rattle.std.proofs.Common.{ap, ◌∙◌}
 use Rattle.fts_lists.specs.Ids.{without}
 use Rattle.fts_lists.proofs.Ascending.{purge_step, purge_end, held_is}
-use Rattle.fts_lists.proofs.ids.IdSet.purge.Goals as goal
+use Rattle.fts_lists.proofs.ids.IdSet.remove_all.Goals as goal
 
 pub loop-id-preserved : goal.loop-id-preserved
 loop-id-preserved c =

@@ -1,6 +1,6 @@
 use Rattle.std.proofs.Common.{refl, ap, ◌∙◌}
 use Rattle.fts_lists.proofs.Ascending.{kept, held_is}
-use Rattle.fts_lists.proofs.ids.IdSet.reserve.Goals as goal
+use Rattle.fts_lists.proofs.ids.IdSet.reserve_ids.Goals as goal
 
 pub returns-clause-ok : goal.returns-clause-ok
 returns-clause-ok c =
