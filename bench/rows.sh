@@ -5,6 +5,8 @@
 # It does so for the last commit of the tree, and for each commit that is named: it builds all first, and then times them in three
 # turns, one after another in each. It tells next to nothing for a removal where there is none; it needs `rt` and `python3`, and proves
 # fts_rows with the test that takes the times.
+# With valgrind it counts the instructions of a look-up by key, one by id and a removal too, at 10,000 and at 1,000,000 rows, each from
+# the difference of two runs of 1,000 steps more; with COUNT=only it takes no times.
 top=$(CDPATH='' cd -- "$(dirname -- "$0")/.." && pwd) || exit 1
 folder=$(mktemp -d) || exit 1
 trap 'rm -rf "$folder"' EXIT
@@ -144,6 +146,81 @@ fn removed(rt: &(impl Abort + Clock), rows: &mut Rows, count: u64) -> Result<u12
     Ok(nanos / 1000)
 }
 
+// A thousand removals, without the clock.
+fn taken_out(rows: &mut Rows, count: u64)
+    requires { 0 < count }
+{
+    for step in 0..1000u64 {
+        let key = key(spread(step.wrapping_add(5000), count));
+        $1
+    }
+}
+
+// A table of so many thousand rows.
+fn table(rt: &(impl Abort + Clock), alloc: Global, thousands: u64) -> Result<Rows, Fail> {
+    let mut rows = Rows::new(alloc, Limits::standard());
+    for thousand in 0..thousands {
+        grown(rt, alloc, &mut rows, thousand)?;
+    }
+    Ok(rows)
+}
+
+#[test]
+fn small_grown(rt: HostRuntime) -> Result<(), Fail> {
+    let rows = table(&rt, rt.alloc(), 10)?;
+    assert!(rt; rows.len() == 10_000);
+    Ok(())
+}
+
+#[test]
+fn small_keys(rt: HostRuntime) -> Result<(), Fail> {
+    let rows = table(&rt, rt.alloc(), 10)?;
+    by_key(&rt, &rows, 10_000)?;
+    Ok(())
+}
+
+#[test]
+fn small_ids(rt: HostRuntime) -> Result<(), Fail> {
+    let rows = table(&rt, rt.alloc(), 10)?;
+    by_id(&rt, &rows, 10_000)?;
+    Ok(())
+}
+
+#[test]
+fn small_removals(rt: HostRuntime) -> Result<(), Fail> {
+    let mut rows = table(&rt, rt.alloc(), 10)?;
+    taken_out(&mut rows, 10_000);
+    Ok(())
+}
+
+#[test]
+fn large_grown(rt: HostRuntime) -> Result<(), Fail> {
+    let rows = table(&rt, rt.alloc(), 1000)?;
+    assert!(rt; rows.len() == 1_000_000);
+    Ok(())
+}
+
+#[test]
+fn large_keys(rt: HostRuntime) -> Result<(), Fail> {
+    let rows = table(&rt, rt.alloc(), 1000)?;
+    by_key(&rt, &rows, 1_000_000)?;
+    Ok(())
+}
+
+#[test]
+fn large_ids(rt: HostRuntime) -> Result<(), Fail> {
+    let rows = table(&rt, rt.alloc(), 1000)?;
+    by_id(&rt, &rows, 1_000_000)?;
+    Ok(())
+}
+
+#[test]
+fn large_removals(rt: HostRuntime) -> Result<(), Fail> {
+    let mut rows = table(&rt, rt.alloc(), 1000)?;
+    taken_out(&mut rows, 1_000_000);
+    Ok(())
+}
+
 fn times_at(
     rt: &(impl Abort + Clock),
     rows: &mut Rows,
@@ -200,10 +277,35 @@ build() {
     rt test 2>&1 | grep -E 'error|no proof|not proved' | head -20
 }
 
+# The instructions of one test.
+counted() {
+    valgrind --tool=callgrind --callgrind-out-file=/dev/null ./out/fts_rows_tests "tests::$1" 2>&1 |
+        sed -n 's/.*Collected : \([0-9]*\).*/\1/p'
+}
+
+# The instructions of a look-up by key, of one by id, and of a removal.
+count_all() {
+    for size in small large; do
+        grown=$(counted "${size}_grown")
+        line=$size
+        for kind in keys ids removals; do
+            line="$line $kind $((($(counted "${size}_$kind") - grown) / 1000))"
+        done
+        echo "$line"
+    done
+}
+
 for commit in HEAD "$@"; do
     git -C "$top" archive "$commit" | (mkdir "$folder/$commit" && tar -x -C "$folder/$commit") || exit 1
     (build "$folder/$commit")
 done
+if command -v valgrind >/dev/null; then
+    for commit in HEAD "$@"; do
+        echo "$commit, instructions at 10,000 rows (small) and at 1,000,000 (large):"
+        (cd "$folder/$commit/crates/fts_rows" && count_all)
+    done
+fi
+[ "${COUNT-}" = only ] && exit
 echo "nanoseconds a commit, by key, by id and a removal, at each number of rows:"
 for turn in 1 2 3; do
     for commit in HEAD "$@"; do

@@ -1,5 +1,5 @@
 -- The steps of OPTIMIZE in an index.
-use Rattle.std.specs.Prelude.{◌≡◌, ◌≢◌, ◌≤◌, ℕ, true, List, [], length, Option, Some, None}
+use Rattle.std.specs.Prelude.{◌≡◌, ◌≢◌, ◌≤◌, true, [], length, Option, Some, None}
 use Rattle.fts_aux.specs.Tables as tables
 use Rattle.fts_ilist.specs.Node.{NodesAfter}
 use Rattle.fts_lists.specs.State.{ids_of, room_of}

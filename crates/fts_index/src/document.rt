@@ -1,4 +1,4 @@
-ghost use Rattle.std.specs.Prelude.{◌≡◌, ◌<◌, ◌^◌, length, map, IfOk};
+ghost use Rattle.std.specs.Prelude.{◌≡◌, ◌<◌, ◌^◌, length, map, IfOk, OnOk};
 ghost use Rattle.std.specs.List.{take_while};
 ghost use Rattle.fts_types.specs.Row.{IsRow, row_of};
 ghost use Rattle.fts_types.specs.Rules.{rules_of};
@@ -21,14 +21,15 @@ fn run_len(word: &[u8], occurrences: &[Occurrence<'_>]) -> usize
         .count()
 }
 
-/// The positions of occurrences.
-fn positions(alloc: Global, occurrences: &[Occurrence<'_>]) -> Result<Vec<u32>, AllocError>
-    ensures { IfOk result (λ positions. positions.items ≡ map (λ o. o.position) occurrences.now) }
+/// Puts the positions of occurrences in place of those before.
+fn put_positions(places: &mut Vec<u32>, occurrences: &[Occurrence<'_>]) -> Result<(), AllocError>
+    ensures { OnOk result (places.new.items ≡ map (λ o. o.position) occurrences.now) }
 {
-    occurrences
-        .iter()
-        .map(|occurrence| occurrence.position)
-        .collect(alloc)
+    places.clear();
+    for occurrence in occurrences {
+        places.push(occurrence.position)?;
+    }
+    Ok(())
 }
 
 /// The indexed words of a row, each with its positions.
@@ -48,10 +49,11 @@ pub(crate) fn document_words(
     let lower = lowered_texts(alloc, &row.texts)?;
     let all = occurrences(alloc, settings, &row.texts, &lower)?;
     let mut document = DocWords::new(alloc, row.doc);
+    let mut places = Vec::new(alloc);
     let mut rest = all.as_slice();
     while let Some(first) = rest.first() {
         let (run, behind) = rest.split_at(run_len(first.word, rest));
-        let places = positions(alloc, run)?;
+        put_positions(&mut places, run)?;
         document.push(first.word, &places)?;
         rest = behind;
     }

@@ -7,8 +7,8 @@
 //! it durable: so a crash at any moment leaves the old entries, or these and the new one.
 //!
 //! `log.append(&framed)?` gives the entry's number once it is durable, and `log.entry_at(0)?` its
-//! payload. An append costs the record's bytes, two writes and two syncs; an opening reads the file
-//! once.
+//! payload. An append costs the record's bytes, two writes and two syncs; an opening goes over the
+//! file once, and reads payloads a stretch at a time.
 #![tactic(auto)]
 
 mod begun;

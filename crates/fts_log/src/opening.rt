@@ -93,6 +93,7 @@ pub fn read_records<D: Disk>(
             device,
             magic,
             found,
+            window: Window::empty(alloc),
         }),
         Err(error) => Err((error, device)),
     }

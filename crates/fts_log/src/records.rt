@@ -2,9 +2,10 @@
 ghost use Rattle.std.specs.Prelude.{◌≡◌, ℕ, List, [], ◌^◌, ◌<◌, ◌≤◌, length, IsTrue, IfOk, IfErr};
 ghost use Rattle.std.specs.Prelude.{IsErrOf, slice_index_or};
 ghost use Rattle.fts_faults.specs.Count.{CountsFault};
+ghost use Rattle.fts_log.specs.Scan.{Shows};
 
 use crate::found::Found;
-use crate::window::read_bytes;
+use crate::window::Window;
 use crate::{EntryError, Log};
 use fts_disk::Disk;
 
@@ -17,10 +18,13 @@ pub struct Records<D: Disk> {
     pub(crate) device: D,
     pub(crate) magic: [u8; 8],
     pub(crate) found: Found,
+    // What was read of the file last.
+    pub(crate) window: Window,
     ghost whole_magic: { length magic ≡ 8 },
     ghost reaches: { IsTrue D.tells → found.gate ≤ length (D.seen device 0) },
     ghost closed: { IsTrue D.tells → IsTrue found.is_whole
         → found.gate < length (D.seen device 0) },
+    ghost shown: { IsTrue D.tells → Shows window (D.seen device 0) },
 }
 
 impl<D: Disk> Records<D> {
@@ -37,7 +41,8 @@ impl<D: Disk> Records<D> {
         self.found.ends.len() as u64
     }
 
-    /// The payload of record `k`, from 0.
+    /// The payload of record `k`, from 0. Of those that come one behind another, one read of the
+    /// device brings as many as lie in a stretch of 64 KiB.
     ///
     /// # Errors
     ///
@@ -53,7 +58,9 @@ impl<D: Disk> Records<D> {
             (D.faults (records_device self.old)) (D.faults (records_device self.new)) }
     {
         let (start, size) = self.found.payload_at(k as usize);
-        read_bytes(self.found.alloc, &mut self.device, start, size)
+        let (alloc, end) = (self.found.alloc, self.found.gate);
+        self.window
+            .bytes_at(alloc, &mut self.device, start, size, end)
     }
 
     /// How many bytes the payload of record `k` has, from 0. No memory is taken for it.
@@ -94,6 +101,7 @@ impl<D: Disk> Records<D> {
             device,
             magic,
             found,
+            window: _,
         } = self;
         if !found.is_whole {
             return Err((found.gate, device));

@@ -301,6 +301,26 @@ fn an_append_makes_four_calls_and_an_opening_writes_nothing(rt: HostRuntime) -> 
     Ok(())
 }
 
+#[test]
+fn payloads_of_one_stretch_are_read_at_once(rt: HostRuntime) -> Result<(), Fail> {
+    let alloc = rt.alloc();
+    let files = vec![in alloc; BYTES.to_vec(alloc)?]?;
+    let disk = MemDisk::from_files(alloc, files, Vec::new(alloc))?;
+    let mut records = match read_records(alloc, disk, MAGIC) {
+        Ok(records) => records,
+        Err((error, _)) => return Err(error.into()),
+    };
+    assert!(rt; records.count() == 2);
+    assert!(rt; records.entry_at(0)? == SETTINGS.to_vec(alloc)?);
+    assert!(rt; records.entry_at(1)? == INSERTION.to_vec(alloc)?);
+    let disk = records.close();
+    let calls = disk.calls();
+    assert_eq!(rt; calls.len(), 4);
+    assert!(rt; matches!(calls[2], Call::Read { .. }));
+    assert!(rt; matches!(calls[3], Call::Read { .. }));
+    Ok(())
+}
+
 // The error prints this.
 fn tells<E: Display>(rt: &impl Abort, alloc: Global, error: &E, text: &str) -> Result<(), Fail> {
     let printed = format!(in alloc; "{error}")?;

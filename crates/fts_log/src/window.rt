@@ -44,14 +44,24 @@ pub(crate) fn read_bytes<D: Disk>(
 impl Window {
     ghost use Rattle.fts_log.specs.Scan.{Shows};
 
-    /// Reads a stretch from `at` on. The file has `file_length` bytes.
+    /// No bytes.
+    pub(crate) fn empty(alloc: Global) -> Self
+        ensures { (file : List ℕ) → Shows result file }
+    {
+        Window {
+            start: 0,
+            bytes: Vec::new(alloc),
+        }
+    }
+
+    /// Reads a stretch from `at` on. The file has `file_length` bytes at least.
     pub(crate) fn read<D: Disk>(
         alloc: Global,
         device: &mut D,
         at: u64,
         file_length: u64,
     ) -> Result<Self, EntryError>
-        requires told { IsTrue D.tells → length (D.seen device.old 0) ≡ file_length }
+        requires told { IsTrue D.tells → file_length ≤ length (D.seen device.old 0) }
         requires within { at ≤ file_length }
         ensures shows { IfOk result
             (λ window. IsTrue D.tells → Shows window (D.seen device.old 0)) }
@@ -108,5 +118,60 @@ impl Window {
         let from = (at - self.start) as usize;
         let wanted = (file_length - at).min(HEAD) as usize;
         &self.bytes[from..from + wanted]
+    }
+
+    /// These many bytes of file 0 from `at` on. Where the window hasn't got them it goes on to
+    /// them, so that one read serves all that follows within a stretch; what is longer is read
+    /// alone. The file has `file_length` bytes at least.
+    pub(crate) fn bytes_at<D: Disk>(
+        &mut self,
+        alloc: Global,
+        device: &mut D,
+        at: u64,
+        size: usize,
+        file_length: u64,
+    ) -> Result<Vec<u8>, EntryError>
+        requires told { IsTrue D.tells → file_length ≤ length (D.seen device.old 0) }
+        requires shown { IsTrue D.tells → Shows self.old (D.seen device.old 0) }
+        requires within { at + size ≤ file_length }
+        requires small { file_length < 2 ^ 63 }
+        ensures bytes { IfOk result (λ bytes. IsTrue D.tells
+            → bytes.items ≡ take size (drop at (D.seen device.old 0))) }
+        ensures shows { IsTrue D.tells → Shows self.new (D.seen device.old 0) }
+        ensures looks { IsTrue D.tells → Looks D.Disk device.old device.new }
+        ensures faults { CountsFault (IsErrOf result EntryError.DiskFault) (D.faults device.old)
+            (D.faults device.new) }
+    {
+        if size as u64 > STRETCH {
+            return read_bytes(alloc, device, at, size);
+        }
+        if !self.has(at, size) {
+            *self = Window::read(alloc, device, at, file_length)?;
+        }
+        Ok(Vec::from_slice(alloc, self.part(at, size))?)
+    }
+
+    /// Whether it has these many bytes from `at` on.
+    fn has(&self, at: u64, size: usize) -> bool
+        requires { at + size < 2 ^ 63 }
+        ensures start { IsTrue result → self.now.start ≤ at }
+        ensures size { IsTrue result
+            → at - self.now.start + size ≤ length self.now.bytes.items }
+    {
+        if at < self.start {
+            return false;
+        }
+        at - self.start + size as u64 <= self.bytes.len() as u64
+    }
+
+    /// These many bytes from `at` on, which it has.
+    fn part(&self, at: u64, size: usize) -> &[u8]
+        requires start { self.now.start ≤ at }
+        requires size { at - self.now.start + size ≤ length self.now.bytes.items }
+        ensures bytes { (file : List ℕ) → Shows self.now file
+            → result.now ≡ take size (drop at file) }
+    {
+        let from = (at - self.start) as usize;
+        &self.bytes[from..from + size]
     }
 }

@@ -1,4 +1,5 @@
 pub mod Ids
+pub mod Born
 pub mod Slotted
 pub mod Keys
 pub mod Deaths

@@ -1,5 +1,5 @@
 -- Rows of which no two have one key.
-use Rattle.std.proofs.Common.{◌≡◌, ℕ, ◌<◌, ◌≤◌, Bool, true, false, cond, not, ◌||◌, filter, List, [], ◌∷◌, ◌++◌, Option, Some, None, nat_eq, length, refl, sym, ap, subst, ◌∙◌, arith, inl, inr, append-nil, length-append, true≢false}
+use Rattle.std.proofs.Common.{◌≡◌, ℕ, ◌<◌, ◌≤◌, Bool, true, false, cond, not, ◌||◌, filter, List, [], ◌∷◌, ◌++◌, Option, Some, None, nat_eq, length, map, refl, sym, ap, subst, ◌∙◌, arith, inl, inr, append-nil, length-append, true≢false}
 use Rattle.std.proofs.lemmas.Bool.{cases_Bool, eqb-true, eq-eqb}
 use Rattle.std.proofs.lemmas.List.{length-map}
 use Rattle.std.proofs.lemmas.List.Elements.{filter-append}
@@ -48,6 +48,16 @@ pub found_has : (key : ℕ) (rows : List Row) (found : Option (Bor Kept)) → Ma
     → is_some found ≡ has_key key rows
 found_has key rows None none = sym (none_has key rows none)
 found_has key rows (Some row) some = sym (some_has key rows (row_of row.now) some.0 some.1)
+
+-- a key has a row where it leads to one
+pub led_has : (key : ℕ) (rows : List Row) (doc : Option ℕ) → map (λ (row : Row). row.doc) (with_key key rows) ≡ id_list doc → is_some doc ≡ has_key key rows
+led_has key rows doc lead = by (with_key key rows) doc refl lead
+  where
+    by : (found : List Row) (doc : Option ℕ) → with_key key rows ≡ found → map (λ (row : Row). row.doc) found ≡ id_list doc → is_some doc ≡ has_key key rows
+    by [] None is e = sym (none_has key rows is)
+    by [] (Some doc) is e = absurd (omega (arith, ap length e))
+    by (row ∷ others) None is e = absurd (omega (arith, ap length e))
+    by (row ∷ others) (Some doc) is e = sym (some_has key rows row others is)
 
 pub filter_fewer : (p : Row → Bool) (rows : List Row) → length (filter p rows) ≤ length rows
 filter_fewer p [] = omega arith

@@ -3,7 +3,7 @@ use Rattle.std.proofs.Common.{◌≡◌, ℕ, ◌+◌, ◌<◌, ◌≤◌, List,
 use Rattle.std.proofs.lemmas.List.{drop_more, drop_all, take_more, take_all}
 use Rattle.std.specs.Prelude.{MatchOption}
 use Rattle.std.specs.Borrow.{Bor}
-use Rattle.fts_commits.specs.Commit.{set_bytes, updated}
+use Rattle.fts_commits.specs.Commit.{updated}
 
 abbrev News : Type 0
 News = List (Option (List ℕ))

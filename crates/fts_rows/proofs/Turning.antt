@@ -15,7 +15,6 @@ use Rattle.fts_commits.specs.Turn.{Turn, RowsAscend, has_doc, rows_not_in, rows_
 use Rattle.fts_rows.specs.Plan.{Fits, IsTurnOf, is_among}
 use Rattle.fts_rows.proofs.Ids.{ids-bounds, ids-filter}
 use Rattle.fts_rows.proofs.Keys.{docs}
-use Rattle.fts_rows.proofs.Deaths.{but_none}
 
 -- no row has an id above all of theirs
 none_above : (doc low high : ℕ) (rows : List Row) → RowsAscend low high rows → high < doc → has_doc doc rows ≡ false

@@ -5,7 +5,7 @@ use Rattle.std.specs.Ordering.{nat_cmp}
 use Rattle.std.specs.BTreeSet.{insert_key}
 use Rattle.fts_ids.specs.Ids.{Ascend}
 use Rattle.fts_types.specs.Row.{Row}
-use Rattle.fts_commits.specs.Commit.{Rows, with_key}
+use Rattle.fts_commits.specs.Commit.{Rows, with_key, with_row}
 use Rattle.fts_commits.specs.Turn.{Turn, RowsAscend, has_doc, rows_but, rows_by, turn_between}
 use Rattle.fts_rows.specs.Rows.{Held}
 
@@ -16,6 +16,10 @@ is_among doc ids = list_any (λ id. id == doc) ids
 -- ascending ids of the dead with one more, in its place
 abbrev pub with_death : ℕ → List ℕ → List ℕ
 with_death doc deaths = insert_key nat_cmp deaths doc
+
+-- the rows with this one behind all others
+abbrev pub after_row : Rows → Row → Rows
+after_row rows row = with_row row.key row.doc row.texts rows
 
 -- no two of the rows have one key
 abbrev pub HaveKeysOnce : List Row → Type 0

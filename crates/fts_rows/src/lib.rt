@@ -5,7 +5,8 @@
 //! `rows.install(plan)` takes no memory, so that nothing can fail once a commit is in the log.
 //! `rows.row(7)` is the row with the key 7, and `rows.text_of(1)` has the texts of document 1.
 //!
-//! A plan costs its changes; a look-up, and a row's removal, constant time.
+//! A plan costs its changes, and least where it is one INSERT; a look-up, and a row's removal,
+//! constant time.
 #![tactic(auto)]
 
 mod draft;
@@ -13,6 +14,7 @@ mod error;
 mod plan;
 mod planning;
 mod rows;
+mod single;
 mod slots;
 mod updating;
 

@@ -29,7 +29,7 @@ const LARGEST_STEP: DocId = 65_535;
 const LONGEST_TEXTS: usize = 65_535;
 
 /// The document id of a new row: the one that is given, or the next one.
-fn next_doc(limit: DocId, largest: DocId, given: Option<DocId>) -> Result<DocId, Refusal>
+pub(crate) fn next_doc(limit: DocId, largest: DocId, given: Option<DocId>) -> Result<DocId, Refusal>
     ensures id { result ≡ doc_for limit largest given }
     ensures above { IfOk result (λ doc. largest < doc) }
 {
@@ -52,7 +52,7 @@ fn next_doc(limit: DocId, largest: DocId, given: Option<DocId>) -> Result<DocId,
 }
 
 /// Fails where the texts of a row have too many bytes together.
-fn check_length(change: u64, texts: &RowTexts) -> Result<(), PlanError>
+pub(crate) fn check_length(change: u64, texts: &RowTexts) -> Result<(), PlanError>
     ensures ok { OnOk result (sum_by length texts.now ≤ 65535) }
     ensures refused { IfErr result (IsTooLong change (sum_by length texts.now)) }
 {
@@ -257,6 +257,39 @@ impl Rows {
         Ok(())
     }
 
+    /// What these changes make of the rows, by way of a draft.
+    fn drafted(&self, changes: &[Change]) -> Result<Plan, PlanError>
+        ensures ok { IfOk result (λ plan. after_changes self.now.limits.ids 1 changes.now
+            self.now.rows ≡ Ok (rows_by self.now.rows plan)) }
+        ensures fits { IfOk result (λ plan. Fits self.now.rows plan (length changes.now)) }
+        ensures turn { IfOk result (λ plan. IsTurnOf self.now.rows plan) }
+        ensures ascend { IfOk result (λ plan. Ascend plan.deaths) }
+        ensures refused { IfErr result
+            (IsNoPlan (after_changes self.now.limits.ids 1 changes.now self.now.rows)) }
+    {
+        let draft = match self.draft(changes) {
+            Ok(draft) => draft,
+            Err(error) => return Err(error),
+        };
+        Ok(draft.finish()?)
+    }
+
+    /// What these changes make of the rows: a draft is made of more than one INSERT alone.
+    fn turn_of(&self, changes: &[Change]) -> Result<Plan, PlanError>
+        ensures ok { IfOk result (λ plan. after_changes self.now.limits.ids 1 changes.now
+            self.now.rows ≡ Ok (rows_by self.now.rows plan)) }
+        ensures fits { IfOk result (λ plan. Fits self.now.rows plan (length changes.now)) }
+        ensures turn { IfOk result (λ plan. IsTurnOf self.now.rows plan) }
+        ensures ascend { IfOk result (λ plan. Ascend plan.deaths) }
+        ensures refused { IfErr result
+            (IsNoPlan (after_changes self.now.limits.ids 1 changes.now self.now.rows)) }
+    {
+        match changes {
+            [Change::Insert { key, doc, texts }] => self.only_insert(*key, *doc, texts),
+            _ => self.drafted(changes),
+        }
+    }
+
     /// Plans a commit: the rows that are born in it, with their document ids, and those that die,
     /// or why it is refused. Each change sees what those before it made of the rows. The rows stay
     /// as they are, and have room for what is planned.
@@ -275,11 +308,10 @@ impl Rows {
         ensures limits { limits_of self.new ≡ limits_of self.old }
     {
         self.reserve(changes.len())?;
-        let draft = match self.draft(changes) {
-            Ok(draft) => draft,
+        let plan = match self.turn_of(changes) {
+            Ok(plan) => plan,
             Err(error) => return Err(error),
         };
-        let plan = draft.finish()?;
         if let Err(error) = self.check_rows(&plan) {
             return Err(error);
         }

@@ -136,6 +136,15 @@ impl Rows {
         }
     }
 
+    /// Whether a row has the key, in constant time.
+    pub(crate) fn has(&self, key: Key) -> bool
+        ensures has { result ≡ has_key key (rows_of self.now).list }
+        ensures keys { HaveKeysOnce (rows_of self.now).list }
+        ensures ascend { RowsAscend 0 (rows_of self.now).largest (rows_of self.now).list }
+    {
+        self.docs.contains_key(&key)
+    }
+
     /// The row with this key, in constant time.
     pub fn row(&self, key: Key) -> Option<&Row>
         ensures { option_map row_of (option_copied result)

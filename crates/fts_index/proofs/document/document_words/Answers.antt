@@ -14,15 +14,15 @@ loop-first-init c =
 
 pub push-requires : goal.push-requires
 push-requires c =
-    let t = turn (rules_of c.args.settings.now) (row_of c.args.row.now) _ c.in-Some.first.now _ _ _ refl _ (sym c.in-Some.ensures.value) c.run_len.ensures (c.in_ok-places.ensures ∙ ap (map (λ (o : Occurrence). o.position)) c.split_at.ensures.front) c.loop-first.invariant in
+    let t = turn (rules_of c.args.settings.now) (row_of c.args.row.now) _ c.in-Some.first.now _ _ _ refl _ (sym c.in-Some.ensures.value) c.run_len.ensures (c.in_ok-put_positions.ensures ∙ ap (map (λ (o : Occurrence). o.position)) c.split_at.ensures.front) c.loop-first.invariant in
     rw c.deref-in-Some.ensures.value t.can_push
 
 pub loop-first-smaller : goal.loop-first-smaller
 loop-first-smaller c =
-    let t = turn (rules_of c.args.settings.now) (row_of c.args.row.now) _ c.in-Some.first.now _ _ _ refl _ (sym c.in-Some.ensures.value) c.run_len.ensures (c.in_ok-places.ensures ∙ ap (map (λ (o : Occurrence). o.position)) c.split_at.ensures.front) c.loop-first.invariant in
+    let t = turn (rules_of c.args.settings.now) (row_of c.args.row.now) _ c.in-Some.first.now _ _ _ refl _ (sym c.in-Some.ensures.value) c.run_len.ensures (c.in_ok-put_positions.ensures ∙ ap (map (λ (o : Occurrence). o.position)) c.split_at.ensures.front) c.loop-first.invariant in
     rw c.split_at.ensures.back t.shorter
 
 pub loop-first-preserved : goal.loop-first-preserved
 loop-first-preserved c =
-    let t = turn (rules_of c.args.settings.now) (row_of c.args.row.now) _ c.in-Some.first.now _ _ _ refl _ (sym c.in-Some.ensures.value) c.run_len.ensures (c.in_ok-places.ensures ∙ ap (map (λ (o : Occurrence). o.position)) c.split_at.ensures.front) c.loop-first.invariant in
+    let t = turn (rules_of c.args.settings.now) (row_of c.args.row.now) _ c.in-Some.first.now _ _ _ refl _ (sym c.in-Some.ensures.value) c.run_len.ensures (c.in_ok-put_positions.ensures ∙ ap (map (λ (o : Occurrence). o.position)) c.split_at.ensures.front) c.loop-first.invariant in
     rw (c.in_ok-push.ensures.ok, c.split_at.ensures.back, c.deref-in-Some.ensures.value) t.pushed

@@ -15,6 +15,7 @@ invariant_of-result g c =
       whole_magic = c.in-Ok.ensures.width;
       reaches = λ told. subst (λ (file : List ℕ). found.gate ≤ length file) (sym (same told))
           (let is = c.in-Ok.ensures.found told in found_reaches c.args.magic is.0 old found is.1);
+      shown = λ told. c.empty.ensures new;
       closed = λ told whole. subst (λ (file : List ℕ). found.gate < length file) (sym (same told))
           (let is = c.in-Ok.ensures.found told in found_closed c.args.magic is.0 old found is.1 whole);
     }
