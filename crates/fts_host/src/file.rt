@@ -5,7 +5,7 @@ use crate::lock::{make_new, open_existing};
 use crate::refusal::{Fault, Place, refused};
 use std::fs::File;
 use std::io;
-use std::io::ErrorKind;
+use std::io::{ErrorKind, Seek, SeekFrom};
 use std::os::unix::fs::FileExt;
 use std::path::PathBuf;
 use std::rt::Files;
@@ -199,13 +199,15 @@ impl HostFile {
     }
 }
 
-// The file's length, which is below 2^63 bytes.
+// The file's length, which is below 2^63 bytes. It is the place of the file's end, which costs less
+// than all that the system knows of the file; the cursor that moves there is nowhere used.
 fn length_of(file: &File, number: u32) -> Result<u64, Fault>
     ensures { IfOk result (λ n. n < 2 ^ 63) }
 {
     let place = Place::File(number);
-    let length = match file.metadata() {
-        Ok(metadata) => metadata.len(),
+    let mut cursor = file;
+    let length = match cursor.seek(SeekFrom::End(0)) {
+        Ok(length) => length,
         Err(error) => return Err(Fault { place, error }),
     };
     if length >= 1 << 63 {
