@@ -17,14 +17,14 @@ use Rattle.fts_ilist.proofs.Loose.{loose_told, told_loose}
 use Rattle.fts_aux.proofs.Finds.{Distinct, same_text, is_same, which_word, first_apart, rest_distinct, list_other}
 
 -- what is counted of a word of a table
-abbrev one_of : Entries → Vec ℕ → ℕ
+abbrev pub one_of : Entries → Vec ℕ → ℕ
 one_of es k = loose_one (nodes_in es k.items)
 
-sums_same : (f g : Vec ℕ → ℕ) → ((k : Vec ℕ) → f k ≡ g k) → (ks : List (Vec ℕ)) → sum_by f ks ≡ sum_by g ks
+pub sums_same : (f g : Vec ℕ → ℕ) → ((k : Vec ℕ) → f k ≡ g k) → (ks : List (Vec ℕ)) → sum_by f ks ≡ sum_by g ks
 sums_same f g same [] = refl
 sums_same f g same (k ∷ ks) = omega (arith, same k, sums_same f g same ks, sum_by-cons f k ks, sum_by-cons g k ks)
 
-over_keys : (f : Vec ℕ → ℕ) (es : Entries) → sum_by (λ (e : Vec ℕ × NodeState). f e.0) es ≡ sum_by f (keys_of es)
+pub over_keys : (f : Vec ℕ → ℕ) (es : Entries) → sum_by (λ (e : Vec ℕ × NodeState). f e.0) es ≡ sum_by f (keys_of es)
 over_keys f [] = refl
 over_keys f (e ∷ es) = omega (arith, over_keys f es, sum_by-cons (λ (e : Vec ℕ × NodeState). f e.0) e es, sum_by-cons f e.0 (keys_of es))
 

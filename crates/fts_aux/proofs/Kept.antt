@@ -1,5 +1,5 @@
 -- What is kept beside the words of a table, as calls change them.
-use Rattle.std.proofs.Common.{◌≡◌, ◌≢◌, ⊎_elim, ℕ, zero, suc, Bool, true, false, cond, ◌||◌, List, [], ◌∷◌, ◌++◌, length, Option, Some, None, is_some, refl, sym, ap, ◌∙◌, true≢false, arith}
+use Rattle.std.proofs.Common.{◌≡◌, ◌≢◌, ◌⊎◌, inl, inr, ⊎_elim, ◌<◌, ◌≤◌, ℕ, zero, suc, Bool, true, false, cond, ◌||◌, List, [], ◌∷◌, ◌++◌, length, Option, Some, None, is_some, refl, sym, ap, ◌∙◌, true≢false, arith}
 use Rattle.std.specs.Global.{Vec}
 use Rattle.std.specs.List.{list_any}
 use Rattle.std.specs.Map.{keys_of}
@@ -8,11 +8,13 @@ use Rattle.std.specs.BTreeSet.{BTreeSet, contains}
 use Rattle.fts_words.specs.Order.{byte_order}
 use Rattle.fts_ilist.specs.Node.{Docs}
 use Rattle.fts_ilist.specs.NodeList.{NodeState, Takes}
-use Rattle.fts_aux.specs.Table.{Entries, find, list_in, nodes_in, is_key, is_key_at, Room, room_of, no_room, IsListed, IsFilledBut, IsTable, Becomes, Enters, Lists, Drops, loose_count}
+use Rattle.fts_aux.specs.Table.{Entries, find, no_list, list_in, nodes_in, is_key, is_key_at, Room, room_of, no_room, IsListed, IsFilledBut, AreFilledBut, AreFilled, IsTable, Becomes, Enters, Lists, loose_count}
 use Rattle.std.specs.BTreeMap.{is_at}
+use Rattle.std.specs.Option.{unwrap_or}
 use Rattle.fts_aux.proofs.Finds.{which_word, list_other}
 use Rattle.fts_aux.proofs.Ordered.{equal_itself, apart_in_order}
-use Rattle.fts_aux.proofs.Counts.{count_kept, count_more}
+use Rattle.fts_aux.proofs.Counts.{count_kept, count_more, count_entered}
+use Rattle.std.proofs.lemmas.List.{length-append, length-map}
 
 any_left : {X : Type 0} (p : X → Bool) (xs : List X) (x : X) → list_any p xs ≡ true → list_any p (xs ++ x ∷ []) ≡ true
 any_left p [] x e = absurd (true≢false (sym e))
@@ -60,28 +62,32 @@ key_there (e ∷ es) (suc n) w at = or_there (bytes_eq w e.0.items) (key_there e
     or_there true h = refl
     or_there false h = h
 
-module _ (es new : Entries) (order : BTreeSet (List ℕ)) (fresh : List (List ℕ)) (notes : List ℕ) (word : List ℕ) (loose : ℕ) (is : IsTable es order fresh notes loose)
+module _ (es new : Entries) (order : BTreeSet (List ℕ)) (kept : ℕ) (notes : List ℕ) (word : List ℕ) (loose : ℕ) (is : IsTable es order kept notes loose)
     (keys : keys_of new ≡ keys_of es) (are : (w : List ℕ) → is_key new w ≡ is_key es w) (others : (w : List ℕ) → w ≢ word → list_in new w ≡ list_in es w)
     (nodes : nodes_in new word ≡ [] → nodes_in es word ≡ []) where
   listed_still : IsListed new order
   listed_still w = is.listed w ∙ sym (are w)
 
-  filled_still : IsFilledBut new fresh
-  filled_still w k none =
-      ⊎_elim
-      (λ (h : (bytes_eq w word ≡ true) × (w ≡ word)). is.filled w (sym (are w) ∙ k) (ap (nodes_in es) h.1 ∙ nodes (sym (ap (nodes_in new) h.1) ∙ none)))
-      (λ (h : (bytes_eq w word ≡ false) × (w ≢ word)). is.filled w (sym (are w) ∙ k) (ap (λ (l : NodeState). l.nodes) (sym (others w h.1)) ∙ none))
-      (which_word w word)
+  filled_still : IsFilledBut new kept
+  filled_still n w at none =
+      is.filled n w (ap (λ (ks : List (Vec ℕ)). is_key_at ks n w) (sym keys) ∙ at) (⊎_elim
+      (λ (h : (bytes_eq w word ≡ true) × (w ≡ word)). ap (nodes_in es) h.1 ∙ nodes (sym (ap (nodes_in new) h.1) ∙ none))
+      (λ (h : (bytes_eq w word ≡ false) × (w ≢ word)). ap (λ (l : NodeState). l.nodes) (sym (others w h.1)) ∙ none)
+      (which_word w word))
+
+  within_still : kept ≤ length (keys_of new)
+  within_still = omega (arith, is.within, ap (λ (ks : List (Vec ℕ)). length ks) keys)
 
   noted_old : (w : List ℕ) → room_of (list_in es w) ≢ no_room → list_any (λ number. is_key_at (keys_of new) number w) notes ≡ true
   noted_old w some = ap (λ (ks : List (Vec ℕ)). list_any (λ number. is_key_at ks number w) notes) keys ∙ is.noted w some
 
   -- the word has no more room than before
-  pub table_appended : (count : ℕ) → count ≡ loose_count new → (room_of (list_in es word) ≡ no_room → room_of (list_in new word) ≡ no_room) → IsTable new order fresh notes count
+  pub table_appended : (count : ℕ) → count ≡ loose_count new → (room_of (list_in es word) ≡ no_room → room_of (list_in new word) ≡ no_room) → IsTable new order kept notes count
   table_appended count counted less = record {
     counted = counted;
     listed = listed_still;
     filled = filled_still;
+    within = within_still;
     noted = λ w some. noted_old w (λ none. some (⊎_elim
         (λ (h : (bytes_eq w word ≡ true) × (w ≡ word)). ap (λ (x : List ℕ). room_of (list_in new x)) h.1 ∙ less (ap (λ (x : List ℕ). room_of (list_in es x)) (sym h.1) ∙ none))
         (λ (h : (bytes_eq w word ≡ false) × (w ≢ word)). ap room_of (others w h.1) ∙ none)
@@ -89,11 +95,12 @@ module _ (es new : Entries) (order : BTreeSet (List ℕ)) (fresh : List (List �
   }
 
   -- the word has more room, and its number is noted
-  pub table_reserved : nodes_in new word ≡ nodes_in es word → (n : ℕ) → is_key_at (keys_of es) n word ≡ true → IsTable new order fresh (notes ++ n ∷ []) loose
+  pub table_reserved : nodes_in new word ≡ nodes_in es word → (n : ℕ) → is_key_at (keys_of es) n word ≡ true → IsTable new order kept (notes ++ n ∷ []) loose
   table_reserved same n at = record {
     counted = is.counted ∙ sym (count_kept es new word keys others same);
     listed = listed_still;
     filled = filled_still;
+    within = within_still;
     noted = λ w some. ⊎_elim
         (λ (h : (bytes_eq w word ≡ true) × (w ≡ word)). any_last (λ number. is_key_at (keys_of new) number w) notes n (ap (λ (ks : List (Vec ℕ)). is_key_at ks n w) keys ∙ ap (is_key_at (keys_of es) n) h.1 ∙ at))
         (λ (h : (bytes_eq w word ≡ false) × (w ≢ word)). any_left (λ number. is_key_at (keys_of new) number w) notes n (noted_old w (λ none. some (ap room_of (others w h.1) ∙ none))))
@@ -135,16 +142,24 @@ kept_one es new word l becomes there w =
 pub are_written : (es new : Entries) (word : List ℕ) (l : NodeState) (n : ℕ) → Becomes es word (Some l) new → is_key_at (keys_of es) n word ≡ true → (w : List ℕ) → is_key new w ≡ is_key es w
 are_written es new word l n becomes at = kept_one es new word l becomes (key_there es n word at)
 
+-- what stands at a number before the last key stood there, or it is the last
+before_last : (ks : List (Vec ℕ)) (k : Vec ℕ) (n : ℕ) (w : List ℕ) → is_key_at (ks ++ k ∷ []) n w ≡ true → (is_key_at ks n w ≡ true) ⊎ (n ≡ length ks)
+before_last [] k zero w at = inr refl
+before_last [] k (suc n) w at = absurd (true≢false (sym at))
+before_last (x ∷ ks) k zero w at = inl at
+before_last (x ∷ ks) k (suc n) w at = ⊎_elim (λ (h : is_key_at ks n w ≡ true). inl h) (λ (h : n ≡ length ks). inr (ap suc h)) (before_last ks k n w at)
+
 -- a word was entered
-pub table_entered : (es new : Entries) (order order' : BTreeSet (List ℕ)) (fresh : List (List ℕ)) (notes : List ℕ) (word : List ℕ) (l : NodeState)
-    → (loose : ℕ) → IsTable es order fresh notes loose → find word es ≡ None → l.nodes ≡ [] → Enters es new word l → Lists order word true order' → IsTable new order' (fresh ++ word ∷ []) (notes ++ length es ∷ []) loose
-table_entered es new order order' fresh notes word l loose is none empty en inc = record {
+pub table_entered : (es new : Entries) (order order' : BTreeSet (List ℕ)) (kept : ℕ) (notes : List ℕ) (word : List ℕ) (l : NodeState)
+    → (loose : ℕ) → IsTable es order kept notes loose → find word es ≡ None → l.nodes ≡ [] → Enters es new word l → Lists order word true order' → IsTable new order' kept (notes ++ length es ∷ []) loose
+table_entered es new order order' kept notes word l loose is none empty en inc = record {
   counted = is.counted ∙ sym (count_more es new word l none empty en);
   listed = listed_one es new order order' word (Some l) en.becomes inc is.listed;
-  filled = λ w k none. ⊎_elim
-      (λ (h : (bytes_eq w word ≡ true) × (w ≡ word)). any_last (bytes_eq w) fresh word h.0)
-      (λ (h : (bytes_eq w word ≡ false) × (w ≢ word)). any_left (bytes_eq w) fresh word (is.filled w (sym (key_after es new word (Some l) en.becomes w h.1) ∙ k) (ap (λ (x : NodeState). x.nodes) (sym (list_other es new word (Some l) en.becomes w h.1)) ∙ none)))
-      (which_word w word);
+  filled = λ n w at bare. ⊎_elim
+      (λ (h : is_key_at (keys_of es) n w ≡ true). is.filled n w h (sym (count_entered es new word l none empty en w) ∙ bare))
+      (λ (h : n ≡ length (keys_of es)). let w' = is.within in omega (arith, h, w'))
+      (before_last (keys_of es) en.keys.0 n w (ap (λ (ks : List (Vec ℕ)). is_key_at ks n w) (sym en.keys.2) ∙ at));
+  within = omega (arith, is.within, ap (λ (ks : List (Vec ℕ)). length ks) en.keys.2, length-append (keys_of es) (en.keys.0 ∷ []));
   noted = λ w some. ⊎_elim
       (λ (h : (bytes_eq w word ≡ true) × (w ≡ word)). any_last (λ number. is_key_at (keys_of new) number w) notes (length es) (ap (is_key_at (keys_of new) (length es)) h.1 ∙ en.last))
       (λ (h : (bytes_eq w word ≡ false) × (w ≢ word)). any_left (λ number. is_key_at (keys_of new) number w) notes (length es)
@@ -161,11 +176,51 @@ table_entered es new order order' fresh notes word l loose is none empty en inc 
         or_both false true c d f g h = refl
         or_both false false c d f g h = g h
 
--- a step of the walk over the fresh words
-pub drop_step : (es new : Entries) (first : List ℕ) (behind rest : List (List ℕ)) → Drops es new first → rest ≡ first ∷ behind → IsFilledBut es rest → IsFilledBut new behind
-drop_step es new first behind rest drops parts filled w k none =
-    let has : list_any (bytes_eq w) (first ∷ behind) ≡ true = ap (list_any (bytes_eq w)) (sym parts) ∙ filled w (drops.are w k) (ap (λ (l : NodeState). l.nodes) (sym (drops.lists w)) ∙ none) in
+-- a word that is there has a number
+number_there : (es : Entries) (w : List ℕ) → is_key es w ≡ true → (n : ℕ) × (is_key_at (keys_of es) n w ≡ true)
+number_there [] w k = absurd (true≢false (sym k))
+number_there (e ∷ es) w k =
     ⊎_elim
-    (λ (h : (bytes_eq w first ≡ true) × (w ≡ first)). absurd (drops.gone (ap (is_key new) (sym h.1) ∙ k) (ap (nodes_in new) (sym h.1) ∙ none)))
-    (λ (h : (bytes_eq w first ≡ false) × (w ≢ first)). ap (λ (b : Bool). b || list_any (bytes_eq w) behind) (sym h.0) ∙ has)
-    (which_word w first)
+    (λ (h : (bytes_eq w e.0.items ≡ true) × (w ≡ e.0.items)). (zero, h.0))
+    (λ (h : (bytes_eq w e.0.items ≡ false) × (w ≢ e.0.items)).
+    let r = number_there es w (sym (ap (λ (b : Bool). is_some (cond b (Some e.1) (find w es))) h.0) ∙ k) in (suc r.0, r.1))
+    (which_word w e.0.items)
+
+-- a number of a word is below that of the words
+number_within : (ks : List (Vec ℕ)) (n : ℕ) (w : List ℕ) → is_key_at ks n w ≡ true → n < length ks
+number_within [] n w at = absurd (true≢false (sym at))
+number_within (k ∷ ks) zero w at = omega arith
+number_within (k ∷ ks) (suc n) w at = omega (arith, number_within ks n w at)
+
+-- the walk over the words without nodes begins at the last one, and ends at the first
+pub all_before : (es : Entries) (kept : ℕ) → IsFilledBut es kept → AreFilledBut es kept (length es)
+all_before es kept filled n w at none = (filled n w at none, omega (arith, number_within (keys_of es) n w at, length-map es (λ (x : Vec ℕ × NodeState). x.0)))
+
+pub all_filled : (es : Entries) (kept number : ℕ) → number ≤ kept → AreFilledBut es kept number → AreFilled es
+all_filled es kept number end filled w k none =
+    let there = number_there es w k in
+    let f = filled there.0 w there.1 none in absurd (omega (arith, f.0, f.1, end))
+
+-- where each word has nodes
+pub filled_none : (es : Entries) (kept : ℕ) → AreFilled es → IsFilledBut es kept
+filled_none es kept filled n w at none = absurd (filled w (key_there es n w at) none)
+
+pub kept_all : (es : Entries) → length es ≤ length (keys_of es)
+kept_all es = omega (arith, length-map es (λ (x : Vec ℕ × NodeState). x.0))
+
+-- a word was taken out, or has other nodes
+pub filled_but : (es new : Entries) (word : List ℕ) → AreFilled es → ((w : List ℕ) → is_key new w ≡ true → is_key es w ≡ true)
+    → ((w : List ℕ) → w ≢ word → nodes_in new w ≡ nodes_in es w) → (is_key new word ≡ true → nodes_in new word ≢ []) → AreFilled new
+filled_but es new word filled are others here w k none =
+    ⊎_elim
+    (λ (h : (bytes_eq w word ≡ true) × (w ≡ word)). here (ap (is_key new) (sym h.1) ∙ k) (ap (nodes_in new) (sym h.1) ∙ none))
+    (λ (h : (bytes_eq w word ≡ false) × (w ≢ word)). filled w (are w k) (sym (others w h.1) ∙ none))
+    (which_word w word)
+
+-- a word with nodes is there
+pub key_of : (es : Entries) (w : List ℕ) → nodes_in es w ≢ [] → is_key es w ≡ true
+key_of es w some = by (find w es) refl
+  where
+    by : (o : Option NodeState) → find w es ≡ o → is_key es w ≡ true
+    by None e = absurd (some (ap (λ (o : Option NodeState). (unwrap_or o no_list).nodes) e))
+    by (Some l) e = ap is_some e

@@ -13,3 +13,4 @@ mod Ascending
 mod Walks
 mod Counts
 mod LooseIn
+mod Swapped

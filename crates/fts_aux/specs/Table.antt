@@ -1,5 +1,5 @@
 -- One table of words.
-use Rattle.std.specs.Prelude.{◌≡◌, ◌≢◌, ℕ, ◌+◌, ◌≤◌, Bool, true, false, cond, if◌then◌else◌, List, [], ◌∷◌}
+use Rattle.std.specs.Prelude.{◌≡◌, ◌≢◌, ℕ, ◌+◌, ◌≤◌, ◌<◌, Bool, true, false, cond, if◌then◌else◌, List, [], ◌∷◌}
 use Rattle.std.specs.Prelude.{length, ◌⊎◌, ◌++◌}
 use Rattle.std.specs.Prelude.{Option, Some, None, is_some}
 use Rattle.std.specs.Global.{Vec}
@@ -126,10 +126,19 @@ IsStep nodes done (Some e) = IsWalked nodes e.0 (done ++ e ∷ [])
 abbrev pub IsListed : Entries → BTreeSet (List ℕ) → Type 0
 IsListed table order = (word : List ℕ) → contains byte_order order word ≡ is_key table word
 
--- a word without nodes is one of the fresh ones, which were entered for their room
-abbrev pub IsFilledBut : Entries → List (List ℕ) → Type 0
-IsFilledBut table fresh = (word : List ℕ) → is_key table word ≡ true → nodes_in table word ≡ []
-    → list_any (bytes_eq word) fresh ≡ true
+-- each word has nodes
+abbrev pub AreFilled : Entries → Type 0
+AreFilled table = (word : List ℕ) → is_key table word ≡ true → nodes_in table word ≢ []
+
+-- a word without nodes stands behind the first so many words: it was entered for its room
+abbrev pub IsFilledBut : Entries → ℕ → Type 0
+IsFilledBut table kept = (number : ℕ) (word : List ℕ) → is_key_at (keys_of table) number word ≡ true
+    → nodes_in table word ≡ [] → kept ≤ number
+
+-- and before another number
+abbrev pub AreFilledBut : Entries → ℕ → ℕ → Type 0
+AreFilledBut table kept behind = (number : ℕ) (word : List ℕ) → is_key_at (keys_of table) number word ≡ true
+    → nodes_in table word ≡ [] → (kept ≤ number) × (number < behind)
 
 -- a word with room has a note of its number
 abbrev pub IsNotedBut : Entries → List ℕ → Type 0
@@ -144,10 +153,11 @@ loose_one ns = if are_loose ns then 1 else 0
 abbrev pub loose_count : Entries → ℕ
 loose_count table = sum_by (λ k. loose_one (nodes_in table k.items)) (keys_of table)
 
-pub record IsTable (table : Entries) (order : BTreeSet (List ℕ)) (fresh : List (List ℕ)) (notes : List ℕ) (loose : ℕ)
+pub record IsTable (table : Entries) (order : BTreeSet (List ℕ)) (kept : ℕ) (notes : List ℕ) (loose : ℕ)
     : Type 0 where
   pub listed : IsListed table order
-  pub filled : IsFilledBut table fresh
+  pub filled : IsFilledBut table kept
+  pub within : kept ≤ length (keys_of table)
   pub noted : IsNotedBut table notes
   pub counted : loose ≡ loose_count table
 

@@ -12,7 +12,7 @@ ghost use Rattle.fts_aux.specs.Table.{find, list_in, nodes_in, is_key, is_key_at
 ghost use Rattle.fts_ilist.specs.Front.{front};
 ghost use Rattle.fts_aux.specs.Table.{with_room, filled, filled_as, seen, IsListing, IsNext};
 ghost use Rattle.fts_aux.specs.Table.{IsLast, IsListed, Becomes, Enters, Writes, no_list, Lists};
-ghost use Rattle.fts_aux.specs.Table.{IsNotedBut, IsFilledBut, Drops, AddsRoom, IsWithin, needs};
+ghost use Rattle.fts_aux.specs.Table.{IsNotedBut, IsFilledBut, AreFilledBut, AreFilled, Drops, AddsRoom, IsWithin, needs};
 ghost use Rattle.fts_aux.specs.Table.{KeepsNodes, HasLoose, Recounts, loose_count};
 ghost use Rattle.fts_ilist.specs.Packing.{are_loose};
 
@@ -31,12 +31,12 @@ type Words = IndexMap<Vec<u8>, NodeList>;
 /// Words with their nodes. A word without nodes is there for its room alone, and counts as absent.
 #[derive(Drop)]
 pub struct Table {
-    alloc: Global,
     words: Words,
     // The words in byte order.
     order: BTreeSet<Word>,
-    // The words that were entered for their room since room was last given up.
-    fresh: Vec<Word>,
+    // How many words stood here when room was last given up. Those behind them were entered for
+    // their room since.
+    kept: usize,
     // The numbers of the words that room was made for since then, but those that an install has
     // filled. They save look-ups, and are tried before use.
     notes: VecDeque<usize>,
@@ -51,7 +51,7 @@ impl Model for Table {
 
     ghost view = { λ t. t.words.entries };
 
-    ghost invariant = { λ t. IsTable t.words.entries t.order t.fresh.items t.notes.items t.loose };
+    ghost invariant = { λ t. IsTable t.words.entries t.order t.kept t.notes.items t.loose };
 }
 
 /// Whether the word with this number is this one.
@@ -287,6 +287,7 @@ fn give_up(words: &mut Words, notes: &mut VecDeque<usize>)
     ensures nodes { (w : List ℕ) → nodes_in words.new.entries w ≡ nodes_in words.old.entries w }
     ensures room { (w : List ℕ) → room_of (list_in words.new.entries w) ≡ no_room }
     ensures are { (w : List ℕ) → is_key words.new.entries w ≡ is_key words.old.entries w }
+    ensures keys { keys_of words.new.entries ≡ keys_of words.old.entries }
     ensures loose { loose_count words.new.entries ≡ loose_count words.old.entries }
 {
     while let Some(number) = notes.pop_front() {
@@ -344,20 +345,68 @@ fn is_empty(words: &Words, word: &[u8]) -> bool
     }
 }
 
-/// Takes the words out that have no nodes. They are among the fresh ones, and no word has room.
-fn drop_empty(words: &mut Words, order: &mut BTreeSet<Word>, fresh: &[Word])
-    requires filled { IsFilledBut words.old.entries fresh.now }
+/// Whether the word with this number has no nodes.
+fn is_empty_at(words: &Words, number: usize) -> bool
+    ensures yes { (w : List ℕ) → result ≡ true
+        → is_key_at (keys_of words.now.entries) number w ≡ true → nodes_in words.now.entries w ≡ [] }
+    ensures no { (w : List ℕ) → result ≡ false
+        → is_key_at (keys_of words.now.entries) number w ≡ true → nodes_in words.now.entries w ≢ [] }
+{
+    match words.get_index(number) {
+        Some((_, list)) => list.is_empty(),
+        None => false,
+    }
+}
+
+/// Takes the word with this number out, which has neither nodes nor room. The last word gets its
+/// number.
+fn take_out_at(words: &mut Words, order: &mut BTreeSet<Word>, number: usize)
+    requires room { (w : List ℕ) → room_of (list_in words.old.entries w) ≡ no_room }
+    requires empty { (w : List ℕ) → is_key_at (keys_of words.old.entries) number w ≡ true
+        → nodes_in words.old.entries w ≡ [] }
+    ensures lists { (w : List ℕ) → list_in words.new.entries w ≡ list_in words.old.entries w }
+    ensures filled { (kept : ℕ) → AreFilledBut words.old.entries kept (number + 1)
+        → AreFilledBut words.new.entries kept number }
+    ensures listed { IsListed words.old.entries order.old
+        → IsListed words.new.entries order.new }
+    ensures loose { loose_count words.new.entries ≡ loose_count words.old.entries }
+{
+    if let Some((key, _)) = words.swap_remove_index(number) {
+        take_out_of(order, &Word::from_vec(key));
+    }
+}
+
+/// Takes the word with this number out, if it has no nodes. No word has room.
+fn drop_empty_at(words: &mut Words, order: &mut BTreeSet<Word>, number: usize)
+    requires room { (w : List ℕ) → room_of (list_in words.old.entries w) ≡ no_room }
+    ensures lists { (w : List ℕ) → list_in words.new.entries w ≡ list_in words.old.entries w }
+    ensures filled { (kept : ℕ) → AreFilledBut words.old.entries kept (number + 1)
+        → AreFilledBut words.new.entries kept number }
+    ensures listed { IsListed words.old.entries order.old
+        → IsListed words.new.entries order.new }
+    ensures loose { loose_count words.new.entries ≡ loose_count words.old.entries }
+{
+    if !is_empty_at(words, number) {
+        return;
+    }
+    take_out_at(words, order, number);
+}
+
+/// Takes the words out that have no nodes. They stand behind the first so many, and no word has
+/// room. It goes over those from the last on, so that what gets another number was looked at.
+fn drop_empty(words: &mut Words, order: &mut BTreeSet<Word>, kept: usize)
+    requires filled { IsFilledBut words.old.entries kept }
     requires room { (w : List ℕ) → room_of (list_in words.old.entries w) ≡ no_room }
     requires listed { IsListed words.old.entries order.old }
     ensures lists { (w : List ℕ) → list_in words.new.entries w ≡ list_in words.old.entries w }
-    ensures filled { IsFilledBut words.new.entries [] }
+    ensures filled { AreFilled words.new.entries }
     ensures listed { IsListed words.new.entries order.new }
     ensures loose { loose_count words.new.entries ≡ loose_count words.old.entries }
 {
-    let mut rest = fresh;
-    while let Some((first, behind)) = rest.split_first() {
-        drop_if_empty(words, order, first);
-        rest = behind;
+    let mut number = words.len();
+    while number > kept {
+        number -= 1;
+        drop_empty_at(words, order, number);
     }
 }
 
@@ -428,10 +477,9 @@ impl Table {
         ensures { result ≡ [] }
     {
         Table {
-            alloc,
             words: IndexMap::new(alloc),
             order: BTreeSet::new(alloc),
-            fresh: Vec::new(alloc),
+            kept: 0,
             notes: VecDeque::new(alloc),
             loose: 0,
         }
@@ -483,11 +531,11 @@ impl Table {
     pub fn give_up_room(&mut self)
         ensures nodes { (w : List ℕ) → nodes_in self.new w ≡ nodes_in self.old w }
         ensures room { (w : List ℕ) → room_of (list_in self.new w) ≡ no_room }
-        ensures filled { (w : List ℕ) → is_key self.new w ≡ true → nodes_in self.new w ≢ [] }
+        ensures filled { AreFilled self.new }
     {
         give_up(&mut self.words, &mut self.notes);
-        drop_empty(&mut self.words, &mut self.order, &self.fresh);
-        self.fresh.clear();
+        drop_empty(&mut self.words, &mut self.order, self.kept);
+        self.kept = self.words.len();
     }
 
     /// Makes room for so many more nodes and bytes of a word, beside the room that there is. It
@@ -521,12 +569,9 @@ impl Table {
             (record { nodes = nodes; bytes = bytes })) }
     {
         self.notes.reserve(1)?;
-        self.fresh.reserve(1)?;
-        let fresh = Word::copied(self.alloc, word)?;
         let number = self.words.len();
         enter(&mut self.words, &mut self.order, word, nodes, bytes)?;
         self.notes.push_back(number).unwrap();
-        self.fresh.push(fresh).unwrap();
         Ok(())
     }
 
@@ -559,10 +604,12 @@ impl Table {
         self.replace_list(word, reworked);
     }
 
-    /// Replaces the nodes of a word that has some, where no room is promised.
+    /// Replaces the nodes of a word that has some, where no room is promised and each word has
+    /// nodes.
     fn replace_list(&mut self, word: &Word, reworked: NodeList)
         requires inside { nodes_in self.old word.now ≢ [] }
         requires room { (w : List ℕ) → room_of (list_in self.old w) ≡ no_room }
+        requires filled { AreFilled self.old }
         ensures list { list_in self.new word.now ≡ with_nodes reworked.nodes }
         ensures others { (w : List ℕ) → w ≢ word.now → list_in self.new w ≡ list_in self.old w }
     {
@@ -570,5 +617,6 @@ impl Table {
         reworked.give_up_room();
         replace_in(&mut self.words, &mut self.loose, word.as_bytes(), reworked);
         drop_if_empty(&mut self.words, &mut self.order, word);
+        self.kept = self.words.len();
     }
 }

@@ -8,9 +8,7 @@ invariant_of-self-2 c =
     let es = c.self.inside.words.entries in
     let number : c.len-number.result ≡ length es = c.len-number.ensures.len in
     let notes : c.push_back.new.self.items ≡ c.self.inside.notes.items ++ c.len-number.result ∷ [] = search rules in
-    let fresh : c.push.new.self.items ≡ c.self.inside.fresh.items ++ c.in_ok-fresh.fresh ∷ [] = search rules in
     let new = c.enter.new.words.entries in
     let none : find c.args.word.now es ≡ None = ap (find c.args.word.now) c.self.view_is ∙ c.requires.absent in
-    subst (λ (x : List (List ℕ)). IsTable new c.enter.new.order x c.push_back.new.self.items c.self.inside.loose) (sym (fresh ∙ ap (λ (x : List ℕ). c.self.inside.fresh.items ++ x ∷ []) c.in_ok-fresh.ensures))
-    (subst (λ (x : List ℕ). IsTable new c.enter.new.order (c.self.inside.fresh.items ++ c.args.word.now ∷ []) x c.self.inside.loose) (sym (notes ∙ ap (λ n. c.self.inside.notes.items ++ n ∷ []) number))
-    (table_entered es new c.self.inside.order c.enter.new.order c.self.inside.fresh.items c.self.inside.notes.items c.args.word.now _ c.self.inside.loose c.self.invariant none refl c.in_ok-enter.ensures.ok c.in_ok-enter.ensures.order))
+    subst (λ (x : List ℕ). IsTable new c.enter.new.order c.self.inside.kept x c.self.inside.loose) (sym (notes ∙ ap (λ n. c.self.inside.notes.items ++ n ∷ []) number))
+    (table_entered es new c.self.inside.order c.enter.new.order c.self.inside.kept c.self.inside.notes.items c.args.word.now _ c.self.inside.loose c.self.invariant none refl c.in_ok-enter.ensures.ok c.in_ok-enter.ensures.order)

@@ -16,8 +16,8 @@ invariant_of-self-in_err-reserve_at-in-Some c =
     let wr = c.in_err-reserve_at-in-Some.ensures.err in
     let at = c.in-Some.ensures.some in
     let now : list_in new word ≡ l = list_written es new word l wr.becomes in
-    subst (λ (x : List ℕ). IsTable new c.self.inside.order c.self.inside.fresh.items x c.self.inside.loose) (sym same)
-    (table_appended es new c.self.inside.order c.self.inside.fresh.items c.self.inside.notes.items word c.self.inside.loose c.self.invariant wr.keys
+    subst (λ (x : List ℕ). IsTable new c.self.inside.order c.self.inside.kept x c.self.inside.loose) (sym same)
+    (table_appended es new c.self.inside.order c.self.inside.kept c.self.inside.notes.items word c.self.inside.loose c.self.invariant wr.keys
     (are_written es new word l c.in-Some.number wr.becomes at) (list_other es new word (Some l) wr.becomes)
     (λ none. ap (λ (x : NodeState). x.nodes) (sym now) ∙ none) c.self.inside.loose
     (c.self.invariant.counted ∙ sym (count_kept es new word wr.keys (list_other es new word (Some l) wr.becomes) (ap (λ (x : NodeState). x.nodes) now)))
@@ -32,7 +32,7 @@ invariant_of-self-in-Some c =
     let wr = c.in_ok-reserve_at-in-Some.ensures.ok in
     let at = c.in-Some.ensures.some in
     let now = list_written es new word _ wr.becomes in
-    subst (λ (x : List ℕ). IsTable new c.self.inside.order c.self.inside.fresh.items x c.self.inside.loose) (sym notes)
-    (table_reserved es new c.self.inside.order c.self.inside.fresh.items c.self.inside.notes.items word c.self.inside.loose c.self.invariant wr.keys
+    subst (λ (x : List ℕ). IsTable new c.self.inside.order c.self.inside.kept x c.self.inside.loose) (sym notes)
+    (table_reserved es new c.self.inside.order c.self.inside.kept c.self.inside.notes.items word c.self.inside.loose c.self.invariant wr.keys
     (are_written es new word _ c.in-Some.number wr.becomes at) (list_other es new word (Some _) wr.becomes)
     (λ none. ap (λ (x : NodeState). x.nodes) (sym now) ∙ none) (ap (λ (x : NodeState). x.nodes) now) c.in-Some.number at)
