@@ -1,24 +1,13 @@
 -- Reading the records of both logs, one call after another.
-use Rattle.std.proofs.Common.{ℕ, ◌+◌, IsTrue, refl, ap, subst, inl, inr, ◌∙◌, arith}
+use Rattle.std.proofs.Common.{ℕ, ◌+◌, IsTrue, refl, ap, inl, inr, arith}
 use Rattle.fts_disk.specs.declared.disk.Disk.{Ghosts}
 use Rattle.fts_faults.specs.Count.{Rose, CountsFault}
-use Rattle.fts_log.specs.Records.{AreRead, AreAsMany, records_device}
+use Rattle.fts_log.specs.Records.{AreRead, records_device}
 use Rattle.fts_log.specs.declared.records.Records.{Records}
 use Rattle.fts_log.proofs.Reading.{read_more}
-use Rattle.fts_engine.specs.Reading.{ReadsBoth}
+use Rattle.fts_engine.specs.Reading.{ReadsOne, ReadsBoth}
 use Rattle.fts_engine.proofs.Causes.{counts_as}
-
--- a count that a fault raised, or that stands
-counts_more : (fault : Type 0) (old mid new : ℕ) → CountsFault ⊥ old mid → CountsFault fault mid new → CountsFault fault old new
-counts_more fault old mid new first then_ =
-    let calm = first.calm (λ none. none) in record {
-      rose = λ told. subst (λ (n : ℕ). Rose n new) calm (then_.rose told);
-      calm = λ none. then_.calm none ∙ calm;
-      never_falls = omega (arith, first.never_falls, then_.never_falls);
-    }
-
-many_more : {D : Type 0} {disk : Ghosts D} (old mid new : Records D disk) → AreAsMany old mid → AreAsMany mid new → AreAsMany old new
-many_more old mid new first then_ = record { count = then_.count ∙ first.count; magic = then_.magic ∙ first.magic }
+use Rattle.fts_engine.proofs.OneLog.{counts_more, many_more}
 
 module _ {D E : Type 0} {disk : Ghosts D} {disk' : Ghosts E} where
   -- nothing was read yet
@@ -54,14 +43,14 @@ module _ {D E : Type 0} {disk : Ghosts D} {disk' : Ghosts E} where
   }
 
   -- a reading of the rows log alone
-  pub rows_alone : (fault : Type 0) (rows rows_new : Records D disk) (index : Records E disk') → (IsTrue disk.tells → AreRead rows rows_new) → AreAsMany rows rows_new
-      → CountsFault fault (disk.faults (records_device rows)) (disk.faults (records_device rows_new)) → (IsTrue disk'.tells → AreRead index index) → ReadsBoth fault rows index rows_new index
-  rows_alone fault rows rows_new index of_rows many faults of_index = record {
-    of_rows = of_rows;
+  pub rows_alone : (fault : Type 0) (rows rows_new : Records D disk) (index : Records E disk') → ReadsOne fault rows rows_new → (IsTrue disk'.tells → AreRead index index)
+      → ReadsBoth fault rows index rows_new index
+  rows_alone fault rows rows_new index reads of_index = record {
+    of_rows = reads.read;
     of_index = of_index;
-    many_rows = many;
+    many_rows = reads.same;
     many_index = record { count = refl; magic = refl };
-    faults = counts_beside fault _ _ (disk'.faults (records_device index)) faults;
+    faults = counts_beside fault _ _ (disk'.faults (records_device index)) reads.faults;
   }
     where
       rose_beside : (a a' b : ℕ) → Rose a a' → Rose (a + b) (a' + b)

@@ -1,31 +1,39 @@
 -- Why a database was not opened, by its two logs.
 use Rattle.std.proofs.Common.{◌≡◌, ℕ, ◌+◌, refl, ap, subst, sym, ◌∙◌, inl, inr, arith}
 use Rattle.std.specs.Prelude.{Ok, Err, IsErrOf}
-use Rattle.fts_engine.specs.declared.error.OpenError.{OpenError}
 use Rattle.fts_faults.specs.Count.{Rose, CountsFault}
-use Rattle.fts_engine.specs.Opening.{open_error_of}
+use Rattle.fts_engine.specs.Opening.{load_error_of, open_error_of, open_error_of_rows}
 use Rattle.fts_engine.specs.declared.error.Device.{Device}
+use Rattle.fts_engine.specs.declared.error.Device.TheVariants.{Rows}
 use Rattle.fts_engine.specs.declared.error.OpenError.TheVariants as opening
-use Rattle.fts_engine.specs.declared.error.LogError.{LogError}
-use Rattle.fts_engine.specs.declared.error.LogError.TheVariants.{NoMemory, NotCreated, Damaged, DiskFault}
+use Rattle.fts_engine.specs.declared.error.RowsError.{RowsError}
+use Rattle.fts_engine.specs.declared.error.RowsError.TheVariants as rows
+use Rattle.fts_engine.specs.declared.error.LoadError.{LoadError}
+use Rattle.fts_engine.specs.declared.error.LoadError.TheVariants as load
+use Rattle.fts_engine.specs.declared.error.ReadError.{ReadError}
+use Rattle.fts_engine.specs.declared.error.ReadError.TheVariants.{NoMemory, Damaged, DiskFault}
 
 -- damage of a device is that of its log
-pub of_damage : (device told : Device) (error : LogError) (file at : ℕ) → open_error_of device error ≡ opening.Damaged told file at
-    → (device ≡ told) × (file ≡ 0) × (error ≡ Damaged at)
-of_damage device told NoMemory file at is = absurd cc
-of_damage device told NotCreated file at is = absurd cc
-of_damage device told (Damaged place) file at is = ((let same = is in cc), (let same = is in cc), (let same = is in cc))
-of_damage device told DiskFault file at is = absurd cc
+pub of_damage : (device told : Device) (error : ReadError) (at : ℕ) → load_error_of device error ≡ load.Damaged told at → (device ≡ told) × (error ≡ Damaged at)
+of_damage device told NoMemory at is = absurd cc
+of_damage device told (Damaged place) at is = ((let same = is in cc), (let same = is in cc))
+of_damage device told DiskFault at is = absurd cc
 
-pub of_not_created : (device : Device) (error : LogError) → open_error_of device error ≡ opening.NotCreated → error ≡ NotCreated
-of_not_created device NoMemory is = absurd cc
-of_not_created device NotCreated is = refl
-of_not_created device (Damaged place) is = absurd cc
-of_not_created device DiskFault is = absurd cc
+-- damage that an opening tells is what was read
+pub of_read_damage : (told : Device) (error : LoadError) (file at : ℕ) → open_error_of error ≡ opening.Damaged told file at → (file ≡ 0) × (error ≡ load.Damaged told at)
+of_read_damage told load.NoMemory file at is = absurd cc
+of_read_damage told (load.Damaged device place) file at is = ((let same = is in cc), (let same = is in cc))
+of_read_damage told load.DiskFault file at is = absurd cc
 
-of_fault : (device : Device) (error : LogError) → open_error_of device error ≡ opening.DiskFault → error ≡ DiskFault
+-- damage that an opening tells is that of the rows log
+pub of_rows_damage : (told : Device) (error : RowsError) (file at : ℕ) → open_error_of_rows error ≡ opening.Damaged told file at → (told ≡ Rows) × (file ≡ 0) × (error ≡ rows.Damaged at)
+of_rows_damage told rows.NoMemory file at is = absurd cc
+of_rows_damage told rows.NotCreated file at is = absurd cc
+of_rows_damage told (rows.Damaged place) file at is = ((let same = is in cc), (let same = is in cc), (let same = is in cc))
+of_rows_damage told rows.DiskFault file at is = absurd cc
+
+pub of_fault : (device : Device) (error : ReadError) → load_error_of device error ≡ load.DiskFault → error ≡ DiskFault
 of_fault device NoMemory is = absurd cc
-of_fault device NotCreated is = absurd cc
 of_fault device (Damaged place) is = absurd cc
 of_fault device DiskFault is = refl
 
@@ -34,24 +42,24 @@ rose_behind a b b' (inl rose) = inl (omega (arith, rose))
 rose_behind a b b' (inr last) = inr (omega (arith, last))
 
 -- a fault of the second device, behind calls without one of the first
-pub counts_behind : (device : Device) (error : LogError) (a a' b b' : ℕ) → a' ≡ a → CountsFault (error ≡ DiskFault) b b'
-    → CountsFault (open_error_of device error ≡ opening.DiskFault) (a + b) (a' + b')
-counts_behind device error a a' b b' same counts = subst (λ (n : ℕ). CountsFault (open_error_of device error ≡ opening.DiskFault) (a + b) (n + b')) (sym same) (record {
+pub counts_behind : (device : Device) (error : ReadError) (a a' b b' : ℕ) → a' ≡ a → CountsFault (error ≡ DiskFault) b b'
+    → CountsFault (load_error_of device error ≡ load.DiskFault) (a + b) (a' + b')
+counts_behind device error a a' b b' same counts = subst (λ (n : ℕ). CountsFault (load_error_of device error ≡ load.DiskFault) (a + b) (n + b')) (sym same) (record {
   rose = λ is. rose_behind a b b' (counts.rose (of_fault device error is));
-  calm = λ no. ap (λ (n : ℕ). a + n) (counts.calm (λ is. no (ap (open_error_of device) is)));
+  calm = λ no. ap (λ (n : ℕ). a + n) (counts.calm (λ is. no (ap (load_error_of device) is)));
   never_falls = omega (arith, counts.never_falls);
 })
 
 -- a fault that ended the reading of a log is one of the opening
-pub counts_of : {T : Type 0} (device : Device) (error : LogError) (a a' : ℕ) → CountsFault (IsErrOf {T = T} (Err error) DiskFault) a a'
-    → CountsFault (open_error_of device error ≡ opening.DiskFault) a a'
+pub counts_of : {T : Type 0} (device : Device) (error : ReadError) (a a' : ℕ) → CountsFault (IsErrOf {T = T} (Err error) DiskFault) a a'
+    → CountsFault (load_error_of device error ≡ load.DiskFault) a a'
 counts_of device error a a' counts = record {
   rose = λ is. counts.rose (ap Err (of_fault device error is));
-  calm = λ no. counts.calm (λ is. let same : error ≡ DiskFault = (let e = is in cc) in no (ap (open_error_of device) same));
+  calm = λ no. counts.calm (λ is. let same : error ≡ DiskFault = (let e = is in cc) in no (ap (load_error_of device) same));
   never_falls = counts.never_falls;
 }
 
-pub fault_of : {T : Type 0} (told error : OpenError) (a a' : ℕ) → told ≡ error → CountsFault (error ≡ opening.DiskFault) a a' → CountsFault (IsErrOf {T = T} (Err told) opening.DiskFault) a a'
+pub fault_of : {T : Type 0} (told error : LoadError) (a a' : ℕ) → told ≡ error → CountsFault (error ≡ load.DiskFault) a a' → CountsFault (IsErrOf {T = T} (Err told) load.DiskFault) a a'
 fault_of told error a a' same counts = record {
   rose = λ is. counts.rose (sym same ∙ (let e = is in cc));
   calm = λ no. counts.calm (λ is. no (ap Err (same ∙ is)));
@@ -59,10 +67,10 @@ fault_of told error a a' same counts = record {
 }
 
 -- the causes of a log's reading are those of the opening
-pub counts_on : (device : Device) (error : LogError) (a a' : ℕ) → CountsFault (error ≡ DiskFault) a a' → CountsFault (open_error_of device error ≡ opening.DiskFault) a a'
+pub counts_on : (device : Device) (error : ReadError) (a a' : ℕ) → CountsFault (error ≡ DiskFault) a a' → CountsFault (load_error_of device error ≡ load.DiskFault) a a'
 counts_on device error a a' counts = record {
   rose = λ is. counts.rose (of_fault device error is);
-  calm = λ no. counts.calm (λ is. no (ap (open_error_of device) is));
+  calm = λ no. counts.calm (λ is. no (ap (load_error_of device) is));
   never_falls = counts.never_falls;
 }
 
@@ -75,12 +83,12 @@ counts_as told told' a a' back forth counts = record {
 }
 
 -- two that are told alike are at the same place
-pub same_damage : (device told : Device) (file file' at at' : ℕ) → opening.Damaged device file at ≡ opening.Damaged told file' at' → (device ≡ told) × (file ≡ file') × (at ≡ at')
-same_damage device told file file' at at' is = ((let same = is in cc), (let same = is in cc), (let same = is in cc))
+pub same_damage : (device told : Device) (at at' : ℕ) → load.Damaged device at ≡ load.Damaged told at' → (device ≡ told) × (at ≡ at')
+same_damage device told at at' is = ((let same = is in cc), (let same = is in cc))
 
 -- damage is no fault of a device
-pub damage_no_fault : (device : Device) (file at : ℕ) → opening.Damaged device file at ≡ opening.DiskFault → ⊥
-damage_no_fault device file at is = absurd cc
+pub damage_no_fault : (device : Device) (at : ℕ) → load.Damaged device at ≡ load.DiskFault → ⊥
+damage_no_fault device at is = absurd cc
 
 pub ok_no_err : {T E : Type 0} (value : T) (error : E) → IsErrOf (Ok value) error → ⊥
 ok_no_err value error is = absurd (let no = is in cc)

@@ -7,6 +7,7 @@ pub mod Gates
 pub mod Single
 pub mod Steps
 pub mod Causes
+pub mod OneLog
 pub mod BothLogs
 pub mod Candidates
 pub mod Indexing

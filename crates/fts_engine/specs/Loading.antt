@@ -1,6 +1,9 @@
 -- What was read of the two logs of a database.
-use Rattle.std.specs.Prelude.{◌≡◌, ◌≢◌, ◌⊎◌, ℕ, ◌+◌, ◌<◌, List, [], ◌∷◌, length, take}
+use Rattle.std.specs.Prelude.{◌≡◌, ◌≢◌, ◌⊎◌, ℕ, ◌+◌, ◌<◌, List, [], ◌∷◌, ◌++◌, length, take, IsTrue}
+use Rattle.fts_disk.specs.declared.disk.Disk.{Ghosts}
 use Rattle.fts_log.specs.Record.{gate_at}
+use Rattle.fts_log.specs.Records.{Hold, records_magic}
+use Rattle.fts_log.specs.declared.records.Records.{Records}
 use Rattle.fts_types.specs.declared.settings.Settings.{Settings}
 use Rattle.fts_types.specs.Settings.{AreSettings}
 use Rattle.fts_types.specs.Limits.{standard_limits}
@@ -8,6 +11,7 @@ use Rattle.fts_commits.specs.Commit.{Commit, Rows, replay}
 use Rattle.fts_entries.specs.Entry.{IndexEntry, IndexState}
 use Rattle.fts_entries.specs.Coming.{CanCome}
 use Rattle.fts_rowcodec.specs.Payload.{settings_payload, commit_payload, IsWritten}
+use Rattle.fts_ixcodec.specs.Payload.{entry_payload}
 use Rattle.fts_steps.specs.State.{State, payloads, index_payloads, turns_of, index_state, IsSound, HasEntries}
 use Rattle.fts_steps.specs.Fault.{AreOfRows}
 use Rattle.fts_engine.specs.Reading.{IsWrongPayload}
@@ -57,6 +61,11 @@ pub record IsLoaded (all : List (List ℕ)) (k : ℕ) (read : List (List ℕ)) (
   pub taken : index_payloads of_rows.state ≡ read
   pub index : IsIndexed kept of_rows.state.commits (index_state of_rows.state)
 
+-- more commits were read of the rows log, of whose words none were made
+abbrev pub CoversMore : {D : Type 0} {disk : Ghosts D} → Records D disk → Restoring → Restoring → Type 0
+CoversMore {D} {disk} rows old new = IsTrue disk.tells → (all read : List (List ℕ)) (j : ℕ) → Hold all rows
+    → (was : IsRestored all read j old) → StillRestored all read j was new
+
 -- no sound database has these payloads in its rows log
 abbrev pub AreNoRows : List (List ℕ) → Type 0
 AreNoRows all = (state : State) → IsSound state → payloads state ≡ all → ⊥
@@ -71,6 +80,11 @@ pub record IsWrongEntry (magic : List ℕ) (all : List (List ℕ)) (at : ℕ) : 
   pub wrong : AreNoRows (take (k + 1) all)
   pub none : AreNoRows all
 
+-- of the rows log, of which some commits were read, this place is the first at fault
+abbrev pub IsWrongOver : {D : Type 0} {disk : Ghosts D} → Records D disk → Restoring → ℕ → Type 0
+IsWrongOver {D} {disk} rows restoring at = IsTrue disk.tells → (all read : List (List ℕ)) (j : ℕ) → Hold all rows
+    → IsRestored all read j restoring → IsWrongEntry (records_magic rows) all at
+
 -- the payloads are those of a sound database's rows log
 pub record AreSound (all : List (List ℕ)) : Type 0 where
   pub state : State
@@ -80,6 +94,18 @@ pub record AreSound (all : List (List ℕ)) : Type 0 where
 -- an entry can't come over the commits of a database with these payloads
 abbrev pub NoneCanCome : List (List ℕ) → IndexState → IndexEntry → Type 0
 NoneCanCome all s entry = (state : State) → IsSound state → payloads state ≡ all → CanCome (turns_of state) s entry → ⊥
+
+-- the next entry of the index log was installed
+abbrev pub InstallsEntry : {D : Type 0} {disk : Ghosts D} → Records D disk → IndexEntry → Restoring → Restoring → Type 0
+InstallsEntry {D} {disk} rows entry old new = IsTrue disk.tells → (all read : List (List ℕ)) (j : ℕ) → Hold all rows
+    → IsRestored all read j old → take (j + 1) read ≡ take j read ++ entry_payload entry ∷ []
+    → IsRestored all read (j + 1) new
+
+-- an entry can't come behind those that were read, and none was installed
+abbrev pub RefusesEntry : {D : Type 0} {disk : Ghosts D} → Records D disk → IndexEntry → Restoring → Restoring → Type 0
+RefusesEntry {D} {disk} rows entry old new = IsTrue disk.tells → (all read : List (List ℕ)) (j : ℕ) → Hold all rows
+    → (was : IsRestored all read j old)
+    → IsRestored all read j new × NoneCanCome all (index_state was.of_rows.state) entry
 
 -- payload j of the index log, whose gate stands at this place, is the first at fault
 pub record IsWrongAmong (magic : List ℕ) (all read : List (List ℕ)) (at : ℕ) : Type 0 where

@@ -10,23 +10,39 @@ use Rattle.fts_engine.specs.declared.error.Device.{Device}
 use Rattle.fts_engine.specs.declared.error.Device.TheVariants.{Rows, Index}
 use Rattle.fts_engine.specs.declared.error.OpenError.{OpenError}
 use Rattle.fts_engine.specs.declared.error.OpenError.TheVariants as opening
-use Rattle.fts_engine.specs.declared.error.LogError.{LogError}
-use Rattle.fts_engine.specs.declared.error.LogError.TheVariants.{NoMemory, NotCreated, Damaged, DiskFault}
+use Rattle.fts_engine.specs.declared.error.RowsError.{RowsError}
+use Rattle.fts_engine.specs.declared.error.RowsError.TheVariants as rows
+use Rattle.fts_engine.specs.declared.error.LoadError.{LoadError}
+use Rattle.fts_engine.specs.declared.error.LoadError.TheVariants as load
+use Rattle.fts_engine.specs.declared.error.ReadError.{ReadError}
+use Rattle.fts_engine.specs.declared.error.ReadError.TheVariants.{NoMemory, Damaged, DiskFault}
 
 -- the name of a device
 abbrev pub device_text : Device → List ℕ
 device_text Rows = codes "rows"
 device_text Index = codes "index"
 
--- why a database was not opened whose log on this device was not
-abbrev pub open_error_of : Device → LogError → OpenError
-open_error_of device NoMemory = opening.NoMemory
-open_error_of device NotCreated = opening.NotCreated
-open_error_of device (Damaged at) = opening.Damaged device 0 at
-open_error_of device DiskFault = opening.DiskFault
+-- why both logs were not taken of which this device has the one
+abbrev pub load_error_of : Device → ReadError → LoadError
+load_error_of device NoMemory = load.NoMemory
+load_error_of device (Damaged at) = load.Damaged device at
+load_error_of device DiskFault = load.DiskFault
 
--- the opening ends with the same cause as the reading of an entry
-abbrev pub IsSameEntryError : EntryError → LogError → Type 0
+-- why a database was not opened whose two logs were not taken
+abbrev pub open_error_of : LoadError → OpenError
+open_error_of load.NoMemory = opening.NoMemory
+open_error_of (load.Damaged device at) = opening.Damaged device 0 at
+open_error_of load.DiskFault = opening.DiskFault
+
+-- why a database was not opened whose rows log was not
+abbrev pub open_error_of_rows : RowsError → OpenError
+open_error_of_rows rows.NoMemory = opening.NoMemory
+open_error_of_rows rows.NotCreated = opening.NotCreated
+open_error_of_rows (rows.Damaged at) = opening.Damaged Rows 0 at
+open_error_of_rows rows.DiskFault = opening.DiskFault
+
+-- a log's reading ends with the same cause as that of an entry
+abbrev pub IsSameEntryError : EntryError → ReadError → Type 0
 IsSameEntryError entry.NoMemory error = error ≡ NoMemory
 IsSameEntryError entry.DiskFault error = error ≡ DiskFault
 

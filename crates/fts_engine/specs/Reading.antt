@@ -7,6 +7,12 @@ use Rattle.fts_log.specs.declared.records.Records.{Records}
 use Rattle.fts_steps.specs.State.{State, payloads, IsSound}
 use Rattle.fts_steps.specs.Fault.{AreOfIndex}
 
+-- records of a log were read: they are as many, of the same entries, and a count of faults rose where it is told
+pub record ReadsOne {D : Type 0} {disk : Ghosts D} (fault : Type 0) (before after : Records D disk) : Type 0 where
+  pub read : IsTrue disk.tells → AreRead before after
+  pub same : AreAsMany before after
+  pub faults : CountsFault fault (disk.faults (records_device before)) (disk.faults (records_device after))
+
 -- records of both logs were read: they are as many, of the same entries, and a count of faults rose where it is told
 pub record ReadsBoth {D E : Type 0} {disk : Ghosts D} {disk' : Ghosts E} (fault : Type 0) (rows : Records D disk)
     (index : Records E disk') (rows_new : Records D disk) (index_new : Records E disk') : Type 0 where

@@ -1,7 +1,8 @@
 ghost use Rattle.std.specs.Prelude.{◌≡◌};
 ghost use Rattle.std.specs.Prelude.{Some};
 ghost use Rattle.fts_engine.specs.Opening.{IsSameEntryError, device_text};
-ghost use Rattle.fts_engine.specs.declared.error.LogError.TheVariants.{NoMemory};
+ghost use Rattle.fts_engine.specs.Opening.{open_error_of, open_error_of_rows};
+ghost use Rattle.fts_engine.specs.declared.error.ReadError.TheVariants.{NoMemory};
 
 use fts_log::EntryError;
 use std::alloc::{AllocError, AllocFailed};
@@ -41,31 +42,42 @@ pub enum OpenError {
     DiskFault,
 }
 
-/// Why one of the two logs was not opened.
+/// Why the rows log was not opened.
 #[derive(Clone, Copy, Debug, PartialEq, Eq)]
-pub(crate) enum LogError {
+pub(crate) enum RowsError {
     NoMemory,
     NotCreated,
     Damaged { at: u64 },
     DiskFault,
 }
 
-impl LogError {
-    ghost use Rattle.fts_engine.specs.Opening.{open_error_of};
+/// Why what the records of a log have was not taken.
+#[derive(Clone, Copy, Debug, PartialEq, Eq)]
+pub(crate) enum ReadError {
+    NoMemory,
+    Damaged { at: u64 },
+    DiskFault,
+}
 
-    // Why the database was not opened whose log this is.
-    pub(crate) fn on(self, device: Device) -> OpenError
-        ensures { result ≡ open_error_of device self }
+/// Why what the records of both logs have was not taken.
+#[derive(Clone, Copy, Debug, PartialEq, Eq)]
+pub(crate) enum LoadError {
+    NoMemory,
+    Damaged { device: Device, at: u64 },
+    DiskFault,
+}
+
+impl ReadError {
+    ghost use Rattle.fts_engine.specs.Opening.{load_error_of};
+
+    // Why both logs were not taken of which this device has the one.
+    pub(crate) fn on(self, device: Device) -> LoadError
+        ensures { result ≡ load_error_of device self }
     {
         match self {
-            LogError::NoMemory => OpenError::NoMemory,
-            LogError::NotCreated => OpenError::NotCreated,
-            LogError::Damaged { at } => OpenError::Damaged {
-                device,
-                file: 0,
-                at,
-            },
-            LogError::DiskFault => OpenError::DiskFault,
+            ReadError::NoMemory => LoadError::NoMemory,
+            ReadError::Damaged { at } => LoadError::Damaged { device, at },
+            ReadError::DiskFault => LoadError::DiskFault,
         }
     }
 }
@@ -85,29 +97,62 @@ impl fmt::Display for OpenError {
 
 impl Error for OpenError {}
 
-impl From<EntryError> for LogError {
-    ghost from_gives = { IsSameEntryError };
+impl From<RowsError> for OpenError {
+    ghost from_gives = { λ error told. told ≡ open_error_of_rows error };
 
-    fn from(error: EntryError) -> Self {
+    fn from(error: RowsError) -> Self {
         match error {
-            EntryError::NoMemory => LogError::NoMemory,
-            EntryError::DiskFault => LogError::DiskFault,
+            RowsError::NoMemory => OpenError::NoMemory,
+            RowsError::NotCreated => OpenError::NotCreated,
+            RowsError::Damaged { at } => OpenError::Damaged {
+                device: Device::Rows,
+                file: 0,
+                at,
+            },
+            RowsError::DiskFault => OpenError::DiskFault,
         }
     }
 }
 
-impl From<AllocError> for LogError {
-    ghost from_gives = { λ _ e. e ≡ NoMemory };
+impl From<LoadError> for OpenError {
+    ghost from_gives = { λ error told. told ≡ open_error_of error };
 
-    fn from(_: AllocError) -> Self {
-        LogError::NoMemory
+    fn from(error: LoadError) -> Self {
+        match error {
+            LoadError::NoMemory => OpenError::NoMemory,
+            LoadError::Damaged { device, at } => OpenError::Damaged {
+                device,
+                file: 0,
+                at,
+            },
+            LoadError::DiskFault => OpenError::DiskFault,
+        }
     }
 }
 
-impl<T: Drop> From<AllocFailed<T>> for LogError {
+impl From<EntryError> for ReadError {
+    ghost from_gives = { IsSameEntryError };
+
+    fn from(error: EntryError) -> Self {
+        match error {
+            EntryError::NoMemory => ReadError::NoMemory,
+            EntryError::DiskFault => ReadError::DiskFault,
+        }
+    }
+}
+
+impl From<AllocError> for ReadError {
+    ghost from_gives = { λ _ e. e ≡ NoMemory };
+
+    fn from(_: AllocError) -> Self {
+        ReadError::NoMemory
+    }
+}
+
+impl<T: Drop> From<AllocFailed<T>> for ReadError {
     ghost from_gives = { λ _ e. e ≡ NoMemory };
 
     fn from(_: AllocFailed<T>) -> Self {
-        LogError::NoMemory
+        ReadError::NoMemory
     }
 }

@@ -1,8 +1,7 @@
 ghost use Rattle.std.specs.Prelude.{◌≡◌, ◌≢◌, ◌+◌, ◌<◌, ◌≤◌, ◌++◌, ℕ, List, [], ◌∷◌, length, take};
 ghost use Rattle.std.specs.Prelude.{IsTrue, IsErrOf, IfOk, OnOk, Ok, None, Some, true, false};
 ghost use Rattle.std.specs.Prelude.{slice_index_or};
-ghost use Rattle.fts_faults.specs.Count.{CountsFault};
-ghost use Rattle.fts_log.specs.Records.{Hold, AreRead, AreAsMany, records_device, records_magic};
+ghost use Rattle.fts_log.specs.Records.{Hold, records_magic};
 ghost use Rattle.fts_log.specs.Records.{record_count};
 ghost use Rattle.fts_log.specs.Record.{gate_at};
 ghost use Rattle.fts_rowcodec.specs.Payload.{IsWritten, commit_payload};
@@ -12,21 +11,21 @@ ghost use Rattle.fts_commits.specs.Turn.{Turn};
 ghost use Rattle.fts_entries.specs.Entry.{IndexEntry, IndexState};
 ghost use Rattle.fts_entries.specs.Coming.{CanCome};
 ghost use Rattle.fts_steps.specs.State.{index_state};
-ghost use Rattle.fts_engine.specs.Loading.{BeginsWith, IsRestored, StillRestored, IsLoaded};
-ghost use Rattle.fts_engine.specs.Loading.{IsWrongEntry, AreSound, IsNoCommit};
-ghost use Rattle.fts_engine.specs.Loading.{NoneCanCome, IsWrongAmong};
-ghost use Rattle.fts_engine.specs.declared.error.LogError.{LogError};
+ghost use Rattle.fts_engine.specs.Loading.{BeginsWith, IsRestored, CoversMore, IsLoaded};
+ghost use Rattle.fts_engine.specs.Loading.{IsWrongEntry, IsWrongOver, AreSound, IsNoCommit};
+ghost use Rattle.fts_engine.specs.Loading.{NoneCanCome, IsWrongAmong, InstallsEntry, RefusesEntry};
+ghost use Rattle.fts_engine.specs.declared.error.ReadError.{ReadError};
 ghost use Rattle.fts_ixcodec.specs.Seen.{seen};
 ghost use Rattle.fts_index.specs.Passing.{step_entry};
 ghost use Rattle.fts_engine.specs.ReadEntry.{batch_read, entry_read};
 ghost use Rattle.fts_engine.specs.declared.load.ReadEntry.{ReadEntry};
-ghost use Rattle.fts_engine.specs.Reading.{ReadsBoth, IsWrongPayload};
+ghost use Rattle.fts_engine.specs.Reading.{ReadsOne, ReadsBoth, IsWrongPayload};
 ghost use Rattle.fts_engine.specs.Restoring.{restoring_commits, IsFlushed};
 
-use crate::error::LogError;
+use crate::Device;
+use crate::error::{LoadError, ReadError};
 use crate::kept::Kept;
 use crate::restoring::Restoring;
-use crate::{Device, OpenError};
 use fts_commits::Changes;
 use fts_disk::Disk;
 use fts_ilist::Nodes;
@@ -52,21 +51,20 @@ pub fn load<D: Disk, E: Disk>(
     alloc: Global,
     rows: &mut Records<D>,
     entries: &mut Records<E>,
-) -> Result<Kept, OpenError>
+) -> Result<Kept, LoadError>
     requires { 0 < record_count rows.old }
     ensures loaded { IfOk result (λ kept. IsTrue D.tells → IsTrue E.tells
         → (all read : List (List ℕ)) → Hold all rows.old → Hold read entries.old
         → IsLoaded all (length all) read kept) }
-    ensures damaged_rows { (file at : ℕ) → IsErrOf result (OpenError.Damaged Device.Rows file at)
-        → (file ≡ 0) × (IsTrue D.tells → IsTrue E.tells → (all read : List (List ℕ))
+    ensures damaged_rows { (at : ℕ) → IsErrOf result (LoadError.Damaged Device.Rows at)
+        → IsTrue D.tells → IsTrue E.tells → (all read : List (List ℕ))
         → Hold all rows.old → Hold read entries.old
-        → IsWrongEntry (records_magic rows.old) all at) }
-    ensures damaged_index { (file at : ℕ) → IsErrOf result (OpenError.Damaged Device.Index file at)
-        → (file ≡ 0) × (IsTrue D.tells → IsTrue E.tells → (all read : List (List ℕ))
+        → IsWrongEntry (records_magic rows.old) all at }
+    ensures damaged_index { (at : ℕ) → IsErrOf result (LoadError.Damaged Device.Index at)
+        → IsTrue D.tells → IsTrue E.tells → (all read : List (List ℕ))
         → Hold all rows.old → Hold read entries.old
-        → AreSound all × IsWrongAmong (records_magic entries.old) all read at) }
-    ensures created { IsErrOf result OpenError.NotCreated → ⊥ }
-    ensures reads { ReadsBoth (IsErrOf result OpenError.DiskFault)
+        → AreSound all × IsWrongAmong (records_magic entries.old) all read at }
+    ensures reads { ReadsBoth (IsErrOf result LoadError.DiskFault)
         rows.old entries.old rows.new entries.new }
 {
     let settings = match load_settings(alloc, rows) {
@@ -75,9 +73,12 @@ pub fn load<D: Disk, E: Disk>(
     };
     let mut restoring = Restoring::new(alloc, settings);
     match restore_entries(alloc, rows, entries, &mut restoring) {
-        Ok(None) => load_rest(alloc, rows, restoring),
+        Ok(None) => match load_rest(alloc, rows, restoring) {
+            Ok(kept) => Ok(kept),
+            Err(error) => Err(error.on(Device::Rows)),
+        },
         Ok(Some(at)) => Err(held_back(alloc, rows, &mut restoring, at)),
-        Err(error) => Err(error),
+        Err(error) => Err(error.on(Device::Rows)),
     }
 }
 
@@ -86,30 +87,25 @@ fn load_rest<D: Disk>(
     alloc: Global,
     rows: &mut Records<D>,
     restoring: Restoring,
-) -> Result<Kept, OpenError>
+) -> Result<Kept, ReadError>
     requires { IsFlushed restoring }
     ensures loaded { IfOk result (λ kept. IsTrue D.tells → (all read : List (List ℕ))
         → Hold all rows.old → IsRestored all read (length read) restoring
         → IsLoaded all (length all) read kept) }
-    ensures damaged { (device : Device) (file at : ℕ)
-        → IsErrOf result (OpenError.Damaged device file at)
-        → (device ≡ Device.Rows) × (file ≡ 0) × (IsTrue D.tells → (all read : List (List ℕ))
-        → Hold all rows.old → IsRestored all read (length read) restoring
-        → IsWrongEntry (records_magic rows.old) all at) }
-    ensures created { IsErrOf result OpenError.NotCreated → ⊥ }
-    ensures read { IsTrue D.tells → AreRead rows.old rows.new }
-    ensures same { AreAsMany rows.old rows.new }
-    ensures faults { CountsFault (IsErrOf result OpenError.DiskFault)
-        (D.faults (records_device rows.old)) (D.faults (records_device rows.new)) }
+    ensures damaged { (at : ℕ) → IsErrOf result (ReadError.Damaged at) → IsTrue D.tells
+        → (all read : List (List ℕ)) → Hold all rows.old
+        → IsRestored all read (length read) restoring
+        → IsWrongEntry (records_magic rows.old) all at }
+    ensures reads { ReadsOne (IsErrOf result ReadError.DiskFault) rows.old rows.new }
 {
     let next = match restoring.commits().checked_add(1) {
         Some(next) => next,
-        None => return Err(OpenError::NoMemory),
+        None => return Err(ReadError::NoMemory),
     };
     let mut kept = restoring.keep();
     match load_commits(alloc, rows, next, &mut kept) {
         Ok(()) => Ok(kept),
-        Err(error) => Err(error.on(Device::Rows)),
+        Err(error) => Err(error),
     }
 }
 
@@ -120,26 +116,19 @@ pub fn held_back<D: Disk>(
     rows: &mut Records<D>,
     restoring: &mut Restoring,
     at: u64,
-) -> OpenError
+) -> LoadError
     requires { 0 < record_count rows.old }
-    ensures rows { (file place : ℕ) → result ≡ OpenError.Damaged Device.Rows file place
-        → (file ≡ 0) × (IsTrue D.tells → (all read : List (List ℕ)) (j : ℕ) → Hold all rows.old
-        → IsRestored all read j restoring.old
-        → IsWrongEntry (records_magic rows.old) all place) }
-    ensures index { (file place : ℕ) → result ≡ OpenError.Damaged Device.Index file place
-        → (file ≡ 0) × (place ≡ at) × (IsTrue D.tells → (all read : List (List ℕ)) (j : ℕ)
+    ensures rows { (place : ℕ) → result ≡ LoadError.Damaged Device.Rows place
+        → IsWrongOver rows.old restoring.old place }
+    ensures index { (place : ℕ) → result ≡ LoadError.Damaged Device.Index place
+        → (place ≡ at) × (IsTrue D.tells → (all read : List (List ℕ)) (j : ℕ)
         → Hold all rows.old → IsRestored all read j restoring.old → AreSound all) }
-    ensures created { result ≢ OpenError.NotCreated }
-    ensures read { IsTrue D.tells → AreRead rows.old rows.new }
-    ensures same { AreAsMany rows.old rows.new }
-    ensures faults { CountsFault (result ≡ OpenError.DiskFault)
-        (D.faults (records_device rows.old)) (D.faults (records_device rows.new)) }
+    ensures reads { ReadsOne (result ≡ LoadError.DiskFault) rows.old rows.new }
 {
     let last = rows.count() - 1;
     match cover_commits(alloc, rows, last, restoring) {
-        Ok(()) => OpenError::Damaged {
+        Ok(()) => LoadError::Damaged {
             device: Device::Index,
-            file: 0,
             at,
         },
         Err(error) => error.on(Device::Rows),
@@ -153,7 +142,7 @@ fn restore_entries<D: Disk, E: Disk>(
     rows: &mut Records<D>,
     entries: &mut Records<E>,
     restoring: &mut Restoring,
-) -> Result<Option<u64>, OpenError>
+) -> Result<Option<u64>, ReadError>
     requires { IsFlushed restoring.old }
     ensures restored { result ≡ Ok None → IsTrue D.tells → IsTrue E.tells
         → (all read : List (List ℕ)) → Hold all rows.old → Hold read entries.old
@@ -164,14 +153,12 @@ fn restore_entries<D: Disk, E: Disk>(
         → IsRestored all read 0 restoring.old
         → ((j : ℕ) × IsRestored all read j restoring.new)
         × IsWrongAmong (records_magic entries.old) all read at }
-    ensures damaged { (device : Device) (file at : ℕ)
-        → IsErrOf result (OpenError.Damaged device file at)
-        → (device ≡ Device.Rows) × (file ≡ 0) × (IsTrue D.tells → IsTrue E.tells
+    ensures damaged { (at : ℕ) → IsErrOf result (ReadError.Damaged at)
+        → IsTrue D.tells → IsTrue E.tells
         → (all read : List (List ℕ)) → Hold all rows.old → Hold read entries.old
         → IsRestored all read 0 restoring.old
-        → IsWrongEntry (records_magic rows.old) all at) }
-    ensures created { IsErrOf result OpenError.NotCreated → ⊥ }
-    ensures reads { ReadsBoth (IsErrOf result OpenError.DiskFault)
+        → IsWrongEntry (records_magic rows.old) all at }
+    ensures reads { ReadsBoth (IsErrOf result ReadError.DiskFault)
         rows.old entries.old rows.new entries.new }
 {
     let count = entries.count();
@@ -193,7 +180,7 @@ fn restore_entry<D: Disk, E: Disk>(
     entries: &mut Records<E>,
     j: u64,
     restoring: &mut Restoring,
-) -> Result<bool, OpenError>
+) -> Result<bool, ReadError>
     requires within { j < record_count entries.old }
     requires flushed { IsFlushed restoring.old }
     ensures restored { result ≡ Ok true → IsTrue D.tells → IsTrue E.tells
@@ -204,26 +191,20 @@ fn restore_entry<D: Disk, E: Disk>(
         → (all read : List (List ℕ)) → Hold all rows.old → Hold read entries.old
         → IsRestored all read j restoring.old
         → IsRestored all read j restoring.new × IsWrongPayload all read j }
-    ensures damaged { (device : Device) (file at : ℕ)
-        → IsErrOf result (OpenError.Damaged device file at)
-        → (device ≡ Device.Rows) × (file ≡ 0) × (IsTrue D.tells → (all read : List (List ℕ))
-        → Hold all rows.old → IsRestored all read j restoring.old
-        → IsWrongEntry (records_magic rows.old) all at) }
-    ensures created { IsErrOf result OpenError.NotCreated → ⊥ }
-    ensures reads { ReadsBoth (IsErrOf result OpenError.DiskFault)
+    ensures damaged { (at : ℕ) → IsErrOf result (ReadError.Damaged at) → IsTrue D.tells
+        → (all read : List (List ℕ)) → Hold all rows.old → IsRestored all read j restoring.old
+        → IsWrongEntry (records_magic rows.old) all at }
+    ensures reads { ReadsBoth (IsErrOf result ReadError.DiskFault)
         rows.old entries.old rows.new entries.new }
 {
-    let payload = match read_entry(entries, j) {
+    let payload = match entries.entry_at(j) {
         Ok(payload) => payload,
-        Err(error) => return Err(error.on(Device::Index)),
+        Err(error) => return Err(ReadError::from(error)),
     };
     match entry_in(alloc, &payload) {
-        Ok(Some(entry)) => match restore_read(alloc, rows, restoring, entry) {
-            Ok(restored) => Ok(restored),
-            Err(error) => Err(error.on(Device::Rows)),
-        },
+        Ok(Some(entry)) => restore_read(alloc, rows, restoring, entry),
         Ok(None) => Ok(false),
-        Err(AllocError) => Err(OpenError::NoMemory),
+        Err(AllocError) => Err(ReadError::NoMemory),
     }
 }
 
@@ -286,21 +267,6 @@ fn entry_of(entry: Entry<'_>) -> ReadEntry<'_>
     }
 }
 
-// The payload of entry `j`.
-fn read_entry<E: Disk>(entries: &mut Records<E>, j: u64) -> Result<Vec<u8>, LogError>
-    requires { j < record_count entries.old }
-    ensures entry { IfOk result (λ payload. IsTrue E.tells → (read : List (List ℕ))
-        → Hold read entries.old → payload.items ≡ slice_index_or read j []) }
-    ensures damaged { (at : ℕ) → IsErrOf result (LogError.Damaged at) → ⊥ }
-    ensures created { IsErrOf result LogError.NotCreated → ⊥ }
-    ensures read { IsTrue E.tells → AreRead entries.old entries.new }
-    ensures same { AreAsMany entries.old entries.new }
-    ensures faults { CountsFault (IsErrOf result LogError.DiskFault)
-        (E.faults (records_device entries.old)) (E.faults (records_device entries.new)) }
-{
-    Ok(entries.entry_at(j)?)
-}
-
 // Installs an entry, a batch when the commits that it covers were read; or tells that it can't come
 // behind those before it.
 fn restore_read<D: Disk>(
@@ -308,26 +274,17 @@ fn restore_read<D: Disk>(
     rows: &mut Records<D>,
     restoring: &mut Restoring,
     found: ReadEntry<'_>,
-) -> Result<bool, LogError>
+) -> Result<bool, ReadError>
     requires written { IsEntry (entry_read found) }
     requires flushed { IsFlushed restoring.old }
-    ensures restored { result ≡ Ok true → IsTrue D.tells → (all read : List (List ℕ)) (j : ℕ)
-        → Hold all rows.old → IsRestored all read j restoring.old
-        → take (j + 1) read ≡ take j read ++ entry_payload (entry_read found.entry) ∷ []
-        → IsRestored all read (j + 1) restoring.new }
+    ensures restored { result ≡ Ok true
+        → InstallsEntry rows.old (entry_read found.entry) restoring.old restoring.new }
     ensures flushed { result ≡ Ok true → IsFlushed restoring.new }
-    ensures refused { result ≡ Ok false → IsTrue D.tells → (all read : List (List ℕ)) (j : ℕ)
-        → Hold all rows.old → (old : IsRestored all read j restoring.old)
-        → IsRestored all read j restoring.new
-        × NoneCanCome all (index_state old.of_rows.state) (entry_read found.entry) }
-    ensures damaged { (at : ℕ) → IsErrOf result (LogError.Damaged at) → IsTrue D.tells
-        → (all read : List (List ℕ)) (j : ℕ) → Hold all rows.old
-        → IsRestored all read j restoring.old → IsWrongEntry (records_magic rows.old) all at }
-    ensures created { IsErrOf result LogError.NotCreated → ⊥ }
-    ensures read { IsTrue D.tells → AreRead rows.old rows.new }
-    ensures same { AreAsMany rows.old rows.new }
-    ensures faults { CountsFault (IsErrOf result LogError.DiskFault)
-        (D.faults (records_device rows.old)) (D.faults (records_device rows.new)) }
+    ensures refused { result ≡ Ok false
+        → RefusesEntry rows.old (entry_read found.entry) restoring.old restoring.new }
+    ensures damaged { (at : ℕ) → IsErrOf result (ReadError.Damaged at)
+        → IsWrongOver rows.old restoring.old at }
+    ensures reads { ReadsOne (IsErrOf result ReadError.DiskFault) rows.old rows.new }
 {
     match found {
         ReadEntry::Batch { batch } => restore_batch(alloc, rows, restoring, &batch),
@@ -336,7 +293,7 @@ fn restore_read<D: Disk>(
 }
 
 // Makes a step of OPTIMIZE; or tells that it is not the next one.
-fn restore_step(restoring: &mut Restoring, step: PassPlan) -> Result<bool, LogError>
+fn restore_step(restoring: &mut Restoring, step: PassPlan) -> Result<bool, ReadError>
     requires written { IsEntry (step_entry step) }
     requires flushed { IsFlushed restoring.old }
     ensures restored { result ≡ Ok true → (all read : List (List ℕ)) (j : ℕ)
@@ -347,11 +304,11 @@ fn restore_step(restoring: &mut Restoring, step: PassPlan) -> Result<bool, LogEr
     ensures refused { result ≡ Ok false → (all read : List (List ℕ)) (j : ℕ)
         → (old : IsRestored all read j restoring.old) → IsRestored all read j restoring.new
         × NoneCanCome all (index_state old.of_rows.state) (step_entry step) }
-    ensures memory { (error : LogError) → IsErrOf result error → error ≡ LogError.NoMemory }
+    ensures memory { (error : ReadError) → IsErrOf result error → error ≡ ReadError.NoMemory }
 {
     match restoring.restore_step(step) {
         Ok(()) => Ok(true),
-        Err(RestoreError::NoMemory) => Err(LogError::NoMemory),
+        Err(RestoreError::NoMemory) => Err(ReadError::NoMemory),
         Err(RestoreError::Bad) => Ok(false),
     }
 }
@@ -363,26 +320,17 @@ fn restore_batch<D: Disk>(
     rows: &mut Records<D>,
     restoring: &mut Restoring,
     batch: &ReadBatch<'_>,
-) -> Result<bool, LogError>
+) -> Result<bool, ReadError>
     requires written { IsEntry (batch_read batch.now) }
     requires flushed { IsFlushed restoring.old }
-    ensures restored { result ≡ Ok true → IsTrue D.tells → (all read : List (List ℕ)) (j : ℕ)
-        → Hold all rows.old → IsRestored all read j restoring.old
-        → take (j + 1) read ≡ take j read ++ entry_payload (batch_read batch.now) ∷ []
-        → IsRestored all read (j + 1) restoring.new }
+    ensures restored { result ≡ Ok true
+        → InstallsEntry rows.old (batch_read batch.now) restoring.old restoring.new }
     ensures flushed { result ≡ Ok true → IsFlushed restoring.new }
-    ensures refused { result ≡ Ok false → IsTrue D.tells → (all read : List (List ℕ)) (j : ℕ)
-        → Hold all rows.old → (old : IsRestored all read j restoring.old)
-        → IsRestored all read j restoring.new
-        × NoneCanCome all (index_state old.of_rows.state) (batch_read batch.now) }
-    ensures damaged { (at : ℕ) → IsErrOf result (LogError.Damaged at) → IsTrue D.tells
-        → (all read : List (List ℕ)) (j : ℕ) → Hold all rows.old
-        → IsRestored all read j restoring.old → IsWrongEntry (records_magic rows.old) all at }
-    ensures created { IsErrOf result LogError.NotCreated → ⊥ }
-    ensures read { IsTrue D.tells → AreRead rows.old rows.new }
-    ensures same { AreAsMany rows.old rows.new }
-    ensures faults { CountsFault (IsErrOf result LogError.DiskFault)
-        (D.faults (records_device rows.old)) (D.faults (records_device rows.new)) }
+    ensures refused { result ≡ Ok false
+        → RefusesEntry rows.old (batch_read batch.now) restoring.old restoring.new }
+    ensures damaged { (at : ℕ) → IsErrOf result (ReadError.Damaged at)
+        → IsWrongOver rows.old restoring.old at }
+    ensures reads { ReadsOne (IsErrOf result ReadError.DiskFault) rows.old rows.new }
 {
     if batch.through <= restoring.flushed() {
         return Ok(false);
@@ -396,7 +344,7 @@ fn restore_batch<D: Disk>(
     }
     match restoring.restore(batch.through, batch.synced, &batch.nodes) {
         Ok(()) => Ok(true),
-        Err(RestoreError::NoMemory) => Err(LogError::NoMemory),
+        Err(RestoreError::NoMemory) => Err(ReadError::NoMemory),
         Err(RestoreError::Bad) => Ok(false),
     }
 }
@@ -407,21 +355,14 @@ fn cover_commits<D: Disk>(
     rows: &mut Records<D>,
     through: u64,
     restoring: &mut Restoring,
-) -> Result<(), LogError>
+) -> Result<(), ReadError>
     requires { through < record_count rows.old }
-    ensures covered { OnOk result (IsTrue D.tells → (all read : List (List ℕ)) (j : ℕ)
-        → Hold all rows.old → (old : IsRestored all read j restoring.old)
-        → StillRestored all read j old restoring.new) }
+    ensures covered { OnOk result (CoversMore rows.old restoring.old restoring.new) }
     ensures commits { OnOk result (restoring_commits restoring.old ≤ through
         → restoring_commits restoring.new ≡ through) }
-    ensures damaged { (at : ℕ) → IsErrOf result (LogError.Damaged at) → IsTrue D.tells
-        → (all read : List (List ℕ)) (j : ℕ) → Hold all rows.old
-        → IsRestored all read j restoring.old → IsWrongEntry (records_magic rows.old) all at }
-    ensures created { IsErrOf result LogError.NotCreated → ⊥ }
-    ensures read { IsTrue D.tells → AreRead rows.old rows.new }
-    ensures same { AreAsMany rows.old rows.new }
-    ensures faults { CountsFault (IsErrOf result LogError.DiskFault)
-        (D.faults (records_device rows.old)) (D.faults (records_device rows.new)) }
+    ensures damaged { (at : ℕ) → IsErrOf result (ReadError.Damaged at)
+        → IsWrongOver rows.old restoring.old at }
+    ensures reads { ReadsOne (IsErrOf result ReadError.DiskFault) rows.old rows.new }
 {
     for k in restoring.commits()..through {
         match cover_commit(alloc, rows, k + 1, restoring) {
@@ -438,22 +379,15 @@ fn cover_commit<D: Disk>(
     rows: &mut Records<D>,
     k: u64,
     restoring: &mut Restoring,
-) -> Result<(), LogError>
+) -> Result<(), ReadError>
     requires within { k < record_count rows.old }
     requires next { k ≡ restoring_commits restoring.old + 1 }
-    ensures covered { OnOk result (IsTrue D.tells → (all read : List (List ℕ)) (j : ℕ)
-        → Hold all rows.old → (old : IsRestored all read j restoring.old)
-        → StillRestored all read j old restoring.new) }
+    ensures covered { OnOk result (CoversMore rows.old restoring.old restoring.new) }
     ensures commits { OnOk result (restoring_commits restoring.new
         ≡ restoring_commits restoring.old + 1) }
-    ensures damaged { (at : ℕ) → IsErrOf result (LogError.Damaged at) → IsTrue D.tells
-        → (all read : List (List ℕ)) (j : ℕ) → Hold all rows.old
-        → IsRestored all read j restoring.old → IsWrongEntry (records_magic rows.old) all at }
-    ensures created { IsErrOf result LogError.NotCreated → ⊥ }
-    ensures read { IsTrue D.tells → AreRead rows.old rows.new }
-    ensures same { AreAsMany rows.old rows.new }
-    ensures faults { CountsFault (IsErrOf result LogError.DiskFault)
-        (D.faults (records_device rows.old)) (D.faults (records_device rows.new)) }
+    ensures damaged { (at : ℕ) → IsErrOf result (ReadError.Damaged at)
+        → IsWrongOver rows.old restoring.old at }
+    ensures reads { ReadsOne (IsErrOf result ReadError.DiskFault) rows.old rows.new }
 {
     let columns = restoring.settings().columns.len();
     let changes = match read_commit(alloc, rows, k, columns) {
@@ -462,40 +396,39 @@ fn cover_commit<D: Disk>(
     };
     match restoring.replay(changes.as_slice()) {
         Ok(()) => Ok(()),
-        Err(PlanError::NoMemory) => Err(LogError::NoMemory),
-        Err(PlanError::Refused { .. }) => Err(LogError::Damaged {
+        Err(PlanError::NoMemory) => Err(ReadError::NoMemory),
+        Err(PlanError::Refused { .. }) => Err(ReadError::Damaged {
             at: rows.place_of(k),
         }),
     }
 }
 
 // Reads the settings, the first record.
-pub fn load_settings<D: Disk>(alloc: Global, records: &mut Records<D>) -> Result<Settings, LogError>
+pub fn load_settings<D: Disk>(
+    alloc: Global,
+    records: &mut Records<D>,
+) -> Result<Settings, ReadError>
     requires { 0 < record_count records.old }
     ensures right { IfOk result (λ settings. AreSettings settings) }
     ensures loaded { IfOk result (λ settings. IsTrue D.tells → (all : List (List ℕ))
         → Hold all records.old
         → BeginsWith settings all) }
-    ensures memory { IsErrOf result LogError.NoMemory → IsTrue D.tells → (all : List (List ℕ))
+    ensures memory { IsErrOf result ReadError.NoMemory → IsTrue D.tells → (all : List (List ℕ))
         → Hold all records.old → length (slice_index_or all 0 []) ≤ 300 }
-    ensures damaged { (at : ℕ) → IsErrOf result (LogError.Damaged at) → IsTrue D.tells
+    ensures damaged { (at : ℕ) → IsErrOf result (ReadError.Damaged at) → IsTrue D.tells
         → (all : List (List ℕ)) → Hold all records.old
         → IsWrongEntry (records_magic records.old) all at }
-    ensures created { IsErrOf result LogError.NotCreated → ⊥ }
-    ensures read { IsTrue D.tells → AreRead records.old records.new }
-    ensures same { AreAsMany records.old records.new }
-    ensures faults { CountsFault (IsErrOf result LogError.DiskFault)
-        (D.faults (records_device records.old)) (D.faults (records_device records.new)) }
+    ensures reads { ReadsOne (IsErrOf result ReadError.DiskFault) records.old records.new }
 {
     if records.size_of(0) > MOST_OF_SETTINGS {
         let at = records.place_of(0);
-        return Err(LogError::Damaged { at });
+        return Err(ReadError::Damaged { at });
     }
     let payload = records.entry_at(0)?;
     match decode_settings(alloc, &payload) {
         Ok(settings) => Ok(settings),
-        Err(DecodeError::NoMemory) => Err(LogError::NoMemory),
-        Err(DecodeError::Bad) => Err(LogError::Damaged {
+        Err(DecodeError::NoMemory) => Err(ReadError::NoMemory),
+        Err(DecodeError::Bad) => Err(ReadError::Damaged {
             at: records.place_of(0),
         }),
     }
@@ -507,17 +440,13 @@ fn load_commits<D: Disk>(
     records: &mut Records<D>,
     next: u64,
     kept: &mut Kept,
-) -> Result<(), LogError>
+) -> Result<(), ReadError>
     ensures loaded { OnOk result (IsTrue D.tells → (all read : List (List ℕ)) → Hold all records.old
         → IsLoaded all next read kept.old → IsLoaded all (length all) read kept.new) }
-    ensures damaged { (at : ℕ) → IsErrOf result (LogError.Damaged at) → IsTrue D.tells
+    ensures damaged { (at : ℕ) → IsErrOf result (ReadError.Damaged at) → IsTrue D.tells
         → (all read : List (List ℕ)) → Hold all records.old → IsLoaded all next read kept.old
         → IsWrongEntry (records_magic records.old) all at }
-    ensures created { IsErrOf result LogError.NotCreated → ⊥ }
-    ensures read { IsTrue D.tells → AreRead records.old records.new }
-    ensures same { AreAsMany records.old records.new }
-    ensures faults { CountsFault (IsErrOf result LogError.DiskFault)
-        (D.faults (records_device records.old)) (D.faults (records_device records.new)) }
+    ensures reads { ReadsOne (IsErrOf result ReadError.DiskFault) records.old records.new }
 {
     let count = records.count();
     for k in next..count {
@@ -535,18 +464,14 @@ fn load_commit<D: Disk>(
     records: &mut Records<D>,
     k: u64,
     kept: &mut Kept,
-) -> Result<(), LogError>
+) -> Result<(), ReadError>
     requires { k < record_count records.old }
     ensures loaded { OnOk result (IsTrue D.tells → (all read : List (List ℕ)) → Hold all records.old
         → IsLoaded all k read kept.old → IsLoaded all (k + 1) read kept.new) }
-    ensures damaged { (at : ℕ) → IsErrOf result (LogError.Damaged at) → IsTrue D.tells
+    ensures damaged { (at : ℕ) → IsErrOf result (ReadError.Damaged at) → IsTrue D.tells
         → (all read : List (List ℕ)) → Hold all records.old → IsLoaded all k read kept.old
         → IsWrongEntry (records_magic records.old) all at }
-    ensures created { IsErrOf result LogError.NotCreated → ⊥ }
-    ensures read { IsTrue D.tells → AreRead records.old records.new }
-    ensures same { AreAsMany records.old records.new }
-    ensures faults { CountsFault (IsErrOf result LogError.DiskFault)
-        (D.faults (records_device records.old)) (D.faults (records_device records.new)) }
+    ensures reads { ReadsOne (IsErrOf result ReadError.DiskFault) records.old records.new }
 {
     let columns = kept.settings().columns.len();
     let changes = match read_commit(alloc, records, k, columns) {
@@ -555,8 +480,8 @@ fn load_commit<D: Disk>(
     };
     match kept.replay(changes.as_slice()) {
         Ok(()) => Ok(()),
-        Err(PlanError::NoMemory) => Err(LogError::NoMemory),
-        Err(PlanError::Refused { .. }) => Err(LogError::Damaged {
+        Err(PlanError::NoMemory) => Err(ReadError::NoMemory),
+        Err(PlanError::Refused { .. }) => Err(ReadError::Damaged {
             at: records.place_of(k),
         }),
     }
@@ -568,32 +493,28 @@ fn read_commit<D: Disk>(
     records: &mut Records<D>,
     k: u64,
     columns: usize,
-) -> Result<Changes, LogError>
+) -> Result<Changes, ReadError>
     requires { k < record_count records.old }
     ensures commit { IfOk result (λ changes. IsWritten columns changes) }
     ensures payload { IfOk result (λ changes. IsTrue D.tells → (all : List (List ℕ))
         → Hold all records.old → commit_payload changes ≡ slice_index_or all k []) }
-    ensures memory { IsErrOf result LogError.NoMemory → IsTrue D.tells → (all : List (List ℕ))
+    ensures memory { IsErrOf result ReadError.NoMemory → IsTrue D.tells → (all : List (List ℕ))
         → Hold all records.old → length (slice_index_or all k []) ≤ 70000000 }
-    ensures damaged { (at : ℕ) → IsErrOf result (LogError.Damaged at) → IsTrue D.tells
+    ensures damaged { (at : ℕ) → IsErrOf result (ReadError.Damaged at) → IsTrue D.tells
         → (all : List (List ℕ)) → Hold all records.old
         → (at ≡ gate_at (records_magic records.old) all k)
         × IsNoCommit columns (slice_index_or all k []) }
-    ensures created { IsErrOf result LogError.NotCreated → ⊥ }
-    ensures read { IsTrue D.tells → AreRead records.old records.new }
-    ensures same { AreAsMany records.old records.new }
-    ensures faults { CountsFault (IsErrOf result LogError.DiskFault)
-        (D.faults (records_device records.old)) (D.faults (records_device records.new)) }
+    ensures reads { ReadsOne (IsErrOf result ReadError.DiskFault) records.old records.new }
 {
     if records.size_of(k) > MOST_OF_A_COMMIT {
         let at = records.place_of(k);
-        return Err(LogError::Damaged { at });
+        return Err(ReadError::Damaged { at });
     }
     let payload = records.entry_at(k)?;
     match decode_commit(alloc, columns, &payload) {
         Ok(changes) => Ok(changes),
-        Err(DecodeError::NoMemory) => Err(LogError::NoMemory),
-        Err(DecodeError::Bad) => Err(LogError::Damaged {
+        Err(DecodeError::NoMemory) => Err(ReadError::NoMemory),
+        Err(DecodeError::Bad) => Err(ReadError::Damaged {
             at: records.place_of(k),
         }),
     }

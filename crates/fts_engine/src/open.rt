@@ -13,7 +13,7 @@ ghost use Rattle.fts_engine.specs.Stands.{Holds, engine_limits, rows_left, index
 ghost use Rattle.fts_engine.specs.Opening.{IsDamaged, IsIndexDamaged, IsNoRows, records_left};
 
 use crate::create::{INDEX_MAGIC, LARGEST_LOG, ROWS_MAGIC};
-use crate::error::LogError;
+use crate::error::{LoadError, RowsError};
 use crate::load::{held_back, load, load_settings};
 use crate::restoring::Restoring;
 use crate::{Device, Engine, OpenError};
@@ -69,13 +69,16 @@ pub fn open_engine<D: Disk, E: Disk>(
 {
     let rows = match read_rows(alloc, rows) {
         Ok(rows) => rows,
-        Err((error, rows)) => return Err((error.on(Device::Rows), rows, index)),
+        Err((error, rows)) => return Err((OpenError::from(error), rows, index)),
     };
     match read_records(alloc, index, INDEX_MAGIC) {
-        Ok(entries) => open_records(alloc, rows, entries, limits),
+        Ok(entries) => match open_records(alloc, rows, entries, limits) {
+            Ok(engine) => Ok(engine),
+            Err((error, rows, index)) => Err((OpenError::from(error), rows, index)),
+        },
         Err((fts_log::OpenError::Damaged { at }, index)) => {
             let (error, rows) = refuse_index(alloc, rows, at);
-            Err((error, rows, index))
+            Err((OpenError::from(error), rows, index))
         }
         Err((fts_log::OpenError::NoMemory, index)) => {
             Err((OpenError::NoMemory, rows.close(), index))
@@ -92,7 +95,7 @@ fn open_records<D: Disk, E: Disk>(
     rows: Records<D>,
     entries: Records<E>,
     limits: Limits,
-) -> Result<Engine<D, E>, (OpenError, D, E)>
+) -> Result<Engine<D, E>, (LoadError, D, E)>
     requires magic { records_magic rows ≡ rows_magic }
     requires index_magic { records_magic entries ≡ index_magic }
     requires some { 0 < record_count rows }
@@ -102,19 +105,15 @@ fn open_records<D: Disk, E: Disk>(
     ensures opened { IfOk result (λ engine. IsTrue D.tells → IsTrue E.tells
         → (state : State) × Holds (opened state) engine) }
     ensures limits { IfOk result (λ engine. engine_limits engine ≡ limits) }
-    ensures not_created { IfErr result (λ e. e.0 ≢ OpenError.NotCreated) }
-    ensures damaged_rows { IfErr result (λ e. (file at : ℕ)
-        → e.0 ≡ OpenError.Damaged Device.Rows file at
-        → (file ≡ 0) × (IsTrue D.tells → IsTrue E.tells
-        → IsDamaged at (D.seen (records_device rows) 0))) }
-    ensures damaged_index { IfErr result (λ e. (file at : ℕ)
-        → e.0 ≡ OpenError.Damaged Device.Index file at
-        → (file ≡ 0) × (IsTrue D.tells → IsTrue E.tells → IsIndexDamaged at
-        (D.seen (records_device rows) 0) (E.seen (records_device entries) 0))) }
+    ensures damaged_rows { IfErr result (λ e. (at : ℕ) → e.0 ≡ LoadError.Damaged Device.Rows at
+        → IsTrue D.tells → IsTrue E.tells → IsDamaged at (D.seen (records_device rows) 0)) }
+    ensures damaged_index { IfErr result (λ e. (at : ℕ) → e.0 ≡ LoadError.Damaged Device.Index at
+        → IsTrue D.tells → IsTrue E.tells → IsIndexDamaged at
+        (D.seen (records_device rows) 0) (E.seen (records_device entries) 0)) }
     ensures looks_rows { IsTrue D.tells → Looks D.Disk (records_device rows) (rows_left result) }
     ensures looks_index { IsTrue E.tells
         → Looks E.Disk (records_device entries) (index_left result) }
-    ensures faults { CountsFault (IsErrAnd result (λ e. e.0 ≡ OpenError.DiskFault))
+    ensures faults { CountsFault (IsErrAnd result (λ e. e.0 ≡ LoadError.DiskFault))
         (D.faults (records_device rows) + E.faults (records_device entries))
         (D.faults (rows_left result) + E.faults (index_left result)) }
 {
@@ -130,8 +129,8 @@ fn open_records<D: Disk, E: Disk>(
     let rows = match rows.into_log(limits.log_bytes) {
         Ok(rows) => rows,
         Err((at, rows)) => {
-            let error = LogError::Damaged { at }.on(Device::Rows);
-            return Err((error, rows, entries.close()));
+            let device = Device::Rows;
+            return Err((LoadError::Damaged { device, at }, rows, entries.close()));
         }
     };
     match entries.into_log(limits.log_bytes) {
@@ -146,73 +145,70 @@ fn open_records<D: Disk, E: Disk>(
             })
         }
         Err((at, index)) => {
-            let error = LogError::Damaged { at }.on(Device::Index);
-            Err((error, rows.close(), index))
+            let device = Device::Index;
+            Err((LoadError::Damaged { device, at }, rows.close(), index))
         }
     }
 }
 
 // The whole records of the rows log, of which there are some: where there are none, a database was
 // never created, or its first record is torn.
-fn read_rows<D: Disk>(alloc: Global, rows: D) -> Result<Records<D>, (LogError, D)>
+fn read_rows<D: Disk>(alloc: Global, rows: D) -> Result<Records<D>, (RowsError, D)>
     ensures read { IfOk result (λ records. IsTrue D.tells
         → (all : List (List ℕ)) × Hold all records) }
     ensures some { IfOk result (λ records. (0 < record_count records)
         × (records_magic records ≡ rows_magic)) }
-    ensures not_created { IfErr result (λ e. e.0 ≡ LogError.NotCreated → IsTrue D.tells
+    ensures not_created { IfErr result (λ e. e.0 ≡ RowsError.NotCreated → IsTrue D.tells
         → IsCreated (D.seen rows 0) → ⊥) }
-    ensures damaged { IfErr result (λ e. (at : ℕ) → e.0 ≡ LogError.Damaged at → IsTrue D.tells
+    ensures damaged { IfErr result (λ e. (at : ℕ) → e.0 ≡ RowsError.Damaged at → IsTrue D.tells
         → IsDamaged at (D.seen rows 0)) }
     ensures looks { IsTrue D.tells → Looks D.Disk rows (records_left result) }
-    ensures faults { CountsFault (IsErrAnd result (λ e. e.0 ≡ LogError.DiskFault))
+    ensures faults { CountsFault (IsErrAnd result (λ e. e.0 ≡ RowsError.DiskFault))
         (D.faults rows) (D.faults (records_left result)) }
 {
     match read_records(alloc, rows, ROWS_MAGIC) {
         Ok(records) => some_records(records),
         Err((fts_log::OpenError::Damaged { at }, device)) => Err(tell_damage(device, at)),
-        Err((fts_log::OpenError::NoMemory, device)) => Err((LogError::NoMemory, device)),
-        Err((fts_log::OpenError::DiskFault, device)) => Err((LogError::DiskFault, device)),
+        Err((fts_log::OpenError::NoMemory, device)) => Err((RowsError::NoMemory, device)),
+        Err((fts_log::OpenError::DiskFault, device)) => Err((RowsError::DiskFault, device)),
     }
 }
 
 // The records, where there are some.
-fn some_records<D: Disk>(records: Records<D>) -> Result<Records<D>, (LogError, D)>
+fn some_records<D: Disk>(records: Records<D>) -> Result<Records<D>, (RowsError, D)>
     requires magic { records_magic records ≡ rows_magic }
     requires ready { IsTrue D.tells → (all : List (List ℕ)) × Hold all records }
     ensures read { IfOk result (λ some. some ≡ records) }
     ensures some { IfOk result (λ some. 0 < record_count some) }
-    ensures not_created { IfErr result (λ e. e.0 ≡ LogError.NotCreated → IsTrue D.tells
+    ensures not_created { IfErr result (λ e. e.0 ≡ RowsError.NotCreated → IsTrue D.tells
         → IsCreated (D.seen (records_device records) 0) → ⊥) }
-    ensures damaged { IfErr result (λ e. (at : ℕ) → e.0 ≡ LogError.Damaged at → IsTrue D.tells
+    ensures damaged { IfErr result (λ e. (at : ℕ) → e.0 ≡ RowsError.Damaged at → IsTrue D.tells
         → IsDamaged at (D.seen (records_device records) 0)) }
     ensures looks { IsTrue D.tells → Looks D.Disk (records_device records) (records_left result) }
-    ensures faults { CountsFault (IsErrAnd result (λ e. e.0 ≡ LogError.DiskFault))
+    ensures faults { CountsFault (IsErrAnd result (λ e. e.0 ≡ RowsError.DiskFault))
         (D.faults (records_device records)) (D.faults (records_left result)) }
 {
     if records.count() > 0 {
         return Ok(records);
     }
     match records.into_log(LARGEST_LOG) {
-        Ok(log) => Err((LogError::NotCreated, log.close())),
+        Ok(log) => Err((RowsError::NotCreated, log.close())),
         Err((at, device)) => Err(tell_damage(device, at)),
     }
 }
 
 // The index log is no log at all: so it is told, unless the rows log is at fault.
-fn refuse_index<D: Disk>(alloc: Global, rows: Records<D>, at: u64) -> (OpenError, D)
+fn refuse_index<D: Disk>(alloc: Global, rows: Records<D>, at: u64) -> (LoadError, D)
     requires magic { records_magic rows ≡ rows_magic }
     requires some { 0 < record_count rows }
     requires ready { IsTrue D.tells → (all : List (List ℕ)) × Hold all rows }
-    ensures not_created { result.0 ≢ OpenError.NotCreated }
-    ensures damaged_rows { (file place : ℕ)
-        → result.0 ≡ OpenError.Damaged Device.Rows file place
-        → (file ≡ 0) × (IsTrue D.tells → IsDamaged place (D.seen (records_device rows) 0)) }
-    ensures damaged_index { (file place : ℕ)
-        → result.0 ≡ OpenError.Damaged Device.Index file place
-        → (file ≡ 0) × (place ≡ at) × (IsTrue D.tells → (state : State)
+    ensures damaged_rows { (place : ℕ) → result.0 ≡ LoadError.Damaged Device.Rows place
+        → IsTrue D.tells → IsDamaged place (D.seen (records_device rows) 0) }
+    ensures damaged_index { (place : ℕ) → result.0 ≡ LoadError.Damaged Device.Index place
+        → (place ≡ at) × (IsTrue D.tells → (state : State)
         × IsRows state (D.seen (records_device rows) 0)) }
     ensures looks { IsTrue D.tells → Looks D.Disk (records_device rows) result.1 }
-    ensures faults { CountsFault (result.0 ≡ OpenError.DiskFault)
+    ensures faults { CountsFault (result.0 ≡ LoadError.DiskFault)
         (D.faults (records_device rows)) (D.faults result.1) }
 {
     let mut rows = rows;
@@ -226,32 +222,30 @@ fn refuse_index<D: Disk>(alloc: Global, rows: Records<D>, at: u64) -> (OpenError
 }
 
 // A fault of the index log is told where the rows log is whole; else the place where it is torn.
-fn told_first<D: Disk>(rows: Records<D>, error: OpenError) -> (OpenError, D)
+fn told_first<D: Disk>(rows: Records<D>, error: LoadError) -> (LoadError, D)
     requires magic { records_magic rows ≡ rows_magic }
-    ensures created { result.0 ≡ OpenError.NotCreated → error ≡ OpenError.NotCreated }
-    ensures fault { (result.0 ≡ OpenError.DiskFault) ↔ (error ≡ OpenError.DiskFault) }
-    ensures damaged_rows { (file at : ℕ) → result.0 ≡ OpenError.Damaged Device.Rows file at
-        → (error ≡ OpenError.Damaged Device.Rows file at)
-        ⊎ ((file ≡ 0) × ((place : ℕ) × (last : ℕ)
-        × (error ≡ OpenError.Damaged Device.Index place last))
+    ensures fault { (result.0 ≡ LoadError.DiskFault) ↔ (error ≡ LoadError.DiskFault) }
+    ensures damaged_rows { (at : ℕ) → result.0 ≡ LoadError.Damaged Device.Rows at
+        → (error ≡ LoadError.Damaged Device.Rows at)
+        ⊎ (((place : ℕ) × (error ≡ LoadError.Damaged Device.Index place))
         × (IsTrue D.tells → (all : List (List ℕ)) → Hold all rows
         → IsBrokenBehind rows_magic all at (D.seen (records_device rows) 0))) }
-    ensures damaged_index { (file at : ℕ) → result.0 ≡ OpenError.Damaged Device.Index file at
-        → (error ≡ OpenError.Damaged Device.Index file at) × (IsTrue D.tells
+    ensures damaged_index { (at : ℕ) → result.0 ≡ LoadError.Damaged Device.Index at
+        → (error ≡ LoadError.Damaged Device.Index at) × (IsTrue D.tells
         → (all : List (List ℕ)) → Hold all rows
         → IsLog rows_magic all (D.seen (records_device rows) 0)) }
     ensures device { result.1 ≡ records_device rows }
 {
     match error {
-        OpenError::Damaged { device, file, at } => match device {
+        LoadError::Damaged { device, at } => match device {
             Device::Index => match rows.into_log(LARGEST_LOG) {
-                Ok(log) => (OpenError::Damaged { device, file, at }, log.close()),
+                Ok(log) => (LoadError::Damaged { device, at }, log.close()),
                 Err((at, rows)) => {
-                    let error = LogError::Damaged { at }.on(Device::Rows);
-                    (error, rows)
+                    let device = Device::Rows;
+                    (LoadError::Damaged { device, at }, rows)
                 }
             },
-            Device::Rows => (OpenError::Damaged { device, file, at }, rows.close()),
+            Device::Rows => (LoadError::Damaged { device, at }, rows.close()),
         },
         error => (error, rows.close()),
     }
@@ -259,21 +253,21 @@ fn told_first<D: Disk>(rows: Records<D>, error: OpenError) -> (OpenError, D)
 
 // A file that is at fault where its first record should begin, or before: damaged if it was
 // created, else not created.
-fn tell_damage<D: Disk>(device: D, at: u64) -> (LogError, D)
+fn tell_damage<D: Disk>(device: D, at: u64) -> (RowsError, D)
     requires fault { IsTrue D.tells → IsFaultAt at (D.seen device 0) }
     requires none { IsTrue D.tells → IsNoRows (D.seen device 0) }
-    ensures not_created { result.0 ≡ LogError.NotCreated → IsTrue D.tells
+    ensures not_created { result.0 ≡ RowsError.NotCreated → IsTrue D.tells
         → IsCreated (D.seen device 0) → ⊥ }
-    ensures damaged { (place : ℕ) → result.0 ≡ LogError.Damaged place → IsTrue D.tells
+    ensures damaged { (place : ℕ) → result.0 ≡ RowsError.Damaged place → IsTrue D.tells
         → IsDamaged place (D.seen device 0) }
     ensures looks { IsTrue D.tells → Looks D.Disk device result.1 }
-    ensures faults { CountsFault (result.0 ≡ LogError.DiskFault)
+    ensures faults { CountsFault (result.0 ≡ RowsError.DiskFault)
         (D.faults device) (D.faults result.1) }
 {
     let mut device = device;
     match is_begun(&mut device) {
-        Ok(true) => (LogError::Damaged { at }, device),
-        Ok(false) => (LogError::NotCreated, device),
-        Err(_) => (LogError::DiskFault, device),
+        Ok(true) => (RowsError::Damaged { at }, device),
+        Ok(false) => (RowsError::NotCreated, device),
+        Err(_) => (RowsError::DiskFault, device),
     }
 }

@@ -39,8 +39,8 @@ returns-clause-damaged g c at e told all read j holds was =
     let columns : c.len-columns.result ≡ length (restoring_settings r).columns = c.len-columns.ensures ∙ ap (λ (s : Settings). length s.columns) c.settings.ensures in
     let told_place : c.place_of.result ≡ at = (let same = e in cc) in
     let place : at ≡ gate_at (records_magic c.args.rows.now) all k =
-    sym told_place ∙ c.place_of.ensures told all ((c.in-Ok.ensures.read told).stays all holds)
-    ∙ ap (λ (magic : List ℕ). gate_at magic all c.args.k) c.in-Ok.ensures.same.magic ∙ ap (gate_at (records_magic c.args.rows.now) all) c.requires.next in
+    sym told_place ∙ c.place_of.ensures told all ((c.in-Ok.ensures.reads.read told).stays all holds)
+    ∙ ap (λ (magic : List ℕ). gate_at magic all c.args.k) c.in-Ok.ensures.reads.same.magic ∙ ap (gate_at (records_magic c.args.rows.now) all) c.requires.next in
     wrong_accepted (records_magic c.args.rows.now) all k at (restoring_settings r) (restoring_rows r) was.of_rows
     (omega (arith, as_many all c.args.rows.now holds, c.requires.within, c.requires.next)) place c.as_slice.result.now c.in-Err-Refused.field-0
     (subst (λ (n : ℕ). IsWritten n c.as_slice.result.now) columns (subst (λ (commit : Commit). IsWritten c.len-columns.result commit) (sym c.as_slice.ensures) c.in-Ok.ensures.commit))

@@ -1,6 +1,7 @@
 use Rattle.std.proofs.Common.{◌≡◌, List, ℕ, IsTrue}
-use Rattle.fts_log.specs.Records.{Hold, AreRead, AreAsMany, records_device}
+use Rattle.fts_log.specs.Records.{Hold}
 use Rattle.fts_engine.specs.Loading.{IsRestored, StillRestored}
+use Rattle.fts_engine.specs.Reading.{ReadsOne}
 use Rattle.fts_engine.specs.Restoring.{restoring_commits}
 use Rattle.fts_engine.proofs.load.cover_commits.Given as goal
 
@@ -8,7 +9,5 @@ abbrev pub invariant-loop-k : goal.invariant-loop-k
 invariant-loop-k g l = record {
   covered : IsTrue g.D.Disk.tells → (all read : List (List ℕ)) (j : ℕ) → Hold all l.initial.rows → (was : IsRestored all read j l.initial.restoring) → StillRestored all read j was l.restoring;
   commits : restoring_commits l.restoring ≡ l.k;
-  read : IsTrue g.D.Disk.tells → AreRead l.initial.rows l.rows;
-  same : AreAsMany l.initial.rows l.rows;
-  calm : g.D.Disk.faults (records_device l.rows) ≡ g.D.Disk.faults (records_device l.initial.rows);
+  reads : ReadsOne ⊥ l.initial.rows l.rows;
 }

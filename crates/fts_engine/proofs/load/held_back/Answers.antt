@@ -9,8 +9,7 @@ use Rattle.fts_engine.proofs.Covering.{all_sound}
 use Rattle.fts_engine.proofs.load.held_back.Goals as goal
 
 pub returns-in-Ok-clause-index : goal.returns-in-Ok-clause-index
-returns-in-Ok-clause-index g c file place e = (
-  (let same = e in cc),
+returns-in-Ok-clause-index g c place e = (
   (let same = e in cc),
   λ told all read j holds was.
       let r = c.args.restoring.now in
@@ -22,6 +21,5 @@ returns-in-Ok-clause-index g c file place e = (
 )
 
 pub returns-in-Err-clause-rows : goal.returns-in-Err-clause-rows
-returns-in-Err-clause-rows g c file place e =
-    let damage = of_damage Rows Rows c.in-Err.error file place (sym c.on.ensures ∙ e) in
-    (damage.1, λ told all read j holds was. c.in-Err.ensures.damaged place (ap Err damage.2) told all read j holds was)
+returns-in-Err-clause-rows g c place e =
+    c.in-Err.ensures.damaged place (ap Err (of_damage Rows Rows c.in-Err.error place (sym c.on.ensures ∙ e)).1)

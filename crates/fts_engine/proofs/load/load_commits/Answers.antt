@@ -2,19 +2,16 @@ use Rattle.std.proofs.Common.{◌≡◌, ℕ, length, subst, arith, ◌∙◌}
 use Rattle.fts_engine.specs.Loading.{IsLoaded, IsWrongEntry}
 use Rattle.fts_engine.specs.Kept.{kept_settings, kept_rows}
 use Rattle.fts_engine.proofs.Loading.{within_all}
-use Rattle.fts_log.proofs.Reading.{as_many, read_more}
+use Rattle.fts_log.proofs.Reading.{as_many}
+use Rattle.fts_engine.proofs.OneLog.{reads_more, reads_told}
 use Rattle.fts_engine.proofs.load.load_commits.Goals as goal
 
 pub loop-k-preserved : goal.loop-k-preserved
 loop-k-preserved g c = record {
   loaded = λ told all read holds first.
-      c.in-Ok.ensures.loaded told all read ((c.loop-k.invariant.read told).stays all holds) (c.loop-k.invariant.loaded told all read holds first);
-  read = λ told. read_more c.args.records.now c.loop-k.records c.load_commit.new.records (c.loop-k.invariant.read told) (c.in-Ok.ensures.read told);
-  same = record {
-    count = c.in-Ok.ensures.same.count ∙ c.loop-k.invariant.same.count;
-    magic = c.in-Ok.ensures.same.magic ∙ c.loop-k.invariant.same.magic;
-  };
-  calm = c.in-Ok.ensures.faults.calm (λ e. let no = e in cc) ∙ c.loop-k.invariant.calm;
+      c.in-Ok.ensures.loaded told all read ((c.loop-k.invariant.reads.read told).stays all holds) (c.loop-k.invariant.loaded told all read holds first);
+  reads = reads_more ⊥ c.args.records.now c.loop-k.records c.load_commit.new.records c.loop-k.invariant.reads
+      (reads_told _ ⊥ _ _ (λ none. absurd none) (λ told. let no = told in cc) c.in-Ok.ensures.reads);
 }
 
 pub returns-clause-loaded : goal.returns-clause-loaded
@@ -26,5 +23,5 @@ returns-clause-loaded g c told all read holds first =
 
 pub returns-in-Err-clause-damaged : goal.returns-in-Err-clause-damaged
 returns-in-Err-clause-damaged g c at e told all read holds first =
-    subst (λ magic. IsWrongEntry magic all at) c.loop-k.invariant.same.magic
-    (c.in-Err.ensures.damaged at (let failed = e in cc) told all read ((c.loop-k.invariant.read told).stays all holds) (c.loop-k.invariant.loaded told all read holds first))
+    subst (λ magic. IsWrongEntry magic all at) c.loop-k.invariant.reads.same.magic
+    (c.in-Err.ensures.damaged at (let failed = e in cc) told all read ((c.loop-k.invariant.reads.read told).stays all holds) (c.loop-k.invariant.loaded told all read holds first))

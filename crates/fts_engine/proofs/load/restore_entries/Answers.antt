@@ -55,15 +55,10 @@ returns-in-Ok-false-clause-reads g c =
     (both_told _ _ _ _ _ _ (λ told. let no = told in cc) (λ told. let no = told in cc) c.in-Ok-false.ensures.reads)
 
 pub returns-in-Err-clause-damaged : goal.returns-in-Err-clause-damaged
-returns-in-Err-clause-damaged g c device file at e =
+returns-in-Err-clause-damaged g c at e told told' all read holds holds' was =
     let before = c.loop-j.invariant.reads in
-    let damage = c.in-Err.ensures.damaged device file at (let same = e in cc) in (
-      damage.0,
-      damage.1,
-      λ told told' all read holds holds' was.
-          subst (λ magic. IsWrongEntry magic all at) before.many_rows.magic
-          (damage.2 told all read ((before.of_rows told).stays all holds) (c.loop-j.invariant.restored told told' all read holds holds' was)),
-    )
+    subst (λ magic. IsWrongEntry magic all at) before.many_rows.magic
+    (c.in-Err.ensures.damaged at (let same = e in cc) told all read ((before.of_rows told).stays all holds) (c.loop-j.invariant.restored told told' all read holds holds' was))
 
 pub returns-in-Err-clause-reads : goal.returns-in-Err-clause-reads
 returns-in-Err-clause-reads g c =

@@ -1,44 +1,36 @@
 use Rattle.std.proofs.Common.{◌≡◌, ℕ, List, [], ◌∷◌, ◌++◌, ap, sym, ◌∙◌, arith, take, get_or}
 use Rattle.std.proofs.lemmas.List.{take_more}
-use Rattle.std.specs.Prelude.{Err}
 use Rattle.fts_log.proofs.Reading.{as_many}
 use Rattle.fts_ixcodec.specs.Payload.{entry_payload}
 use Rattle.fts_engine.specs.ReadEntry.{entry_read}
-use Rattle.fts_engine.specs.declared.error.Device.TheVariants.{Rows}
-use Rattle.fts_engine.proofs.Causes.{of_damage}
 use Rattle.fts_engine.proofs.Covering.{wrong_payload, wrong_entry}
 use Rattle.fts_engine.proofs.load.restore_entry.Goals as goal
 
 pub restore_read-requires-clause-written : goal.restore_read-requires-clause-written
 restore_read-requires-clause-written g c = (c.in-Ok-Some.ensures.entry c.in-Ok-Some.entry (let is = c.in-Ok-Some.entry-is in cc)).0
 
-pub returns-in-Ok-restore_read-clause-restored : goal.returns-in-Ok-restore_read-clause-restored
-returns-in-Ok-restore_read-clause-restored g c e told told' all read holds holds' was =
+pub returns-in-Ok-Some-clause-restored : goal.returns-in-Ok-Some-clause-restored
+returns-in-Ok-Some-clause-restored g c e told told' all read holds holds' was =
     let entry = c.in-Ok-Some.entry in
     let j = c.args.j in
     let found = c.in-Ok-Some.ensures.entry entry (let is = c.in-Ok-Some.entry-is in cc) in
     let spelled : get_or read j [] ≡ entry_payload (entry_read entry) = sym (c.in-Ok.ensures.entry told' read holds') ∙ sym c.deref.ensures.value ∙ found.1 in
-    c.in-Ok-restore_read.ensures.restored (let same = e in cc) told all read j holds was
+    c.restore_read.ensures.restored (let same = e in cc) told all read j holds was
     (take_more read j [] (omega (arith, as_many read c.args.entries.now holds', c.requires.within)) ∙ ap (λ (payload : List ℕ). take j read ++ payload ∷ []) spelled)
 
-pub returns-in-Ok-restore_read-clause-refused : goal.returns-in-Ok-restore_read-clause-refused
-returns-in-Ok-restore_read-clause-refused g c e told told' all read holds holds' was =
+pub returns-in-Ok-Some-clause-refused : goal.returns-in-Ok-Some-clause-refused
+returns-in-Ok-Some-clause-refused g c e told told' all read holds holds' was =
     let entry = c.in-Ok-Some.entry in
     let j = c.args.j in
     let found = c.in-Ok-Some.ensures.entry entry (let is = c.in-Ok-Some.entry-is in cc) in
     let spelled : get_or read j [] ≡ entry_payload (entry_read entry) = sym (c.in-Ok.ensures.entry told' read holds') ∙ sym c.deref.ensures.value ∙ found.1 in
-    let refused = c.in-Ok-restore_read.ensures.refused (let same = e in cc) told all read j holds was in (
+    let refused = c.restore_read.ensures.refused (let same = e in cc) told all read j holds was in (
       refused.0,
       wrong_entry all read j c.args.restoring.now was (omega (arith, as_many read c.args.entries.now holds', c.requires.within)) (entry_read entry) found.0 spelled refused.1,
     )
 
 pub returns-in-Ok-Some-clause-damaged : goal.returns-in-Ok-Some-clause-damaged
-returns-in-Ok-Some-clause-damaged g c device file at e =
-    let damage = of_damage Rows device c.in-Err-restore_read.error file at (sym c.on-in-Err-restore_read.ensures ∙ (let same = e in cc)) in (
-      sym damage.0,
-      damage.1,
-      λ told all read holds was. c.in-Err-restore_read.ensures.damaged at (ap Err damage.2) told all read c.args.j holds was,
-    )
+returns-in-Ok-Some-clause-damaged g c at e told all read holds was = c.restore_read.ensures.damaged at e told all read c.args.j holds was
 
 pub returns-in-Ok-None-clause-refused : goal.returns-in-Ok-None-clause-refused
 returns-in-Ok-None-clause-refused g c e told told' all read holds holds' was =

@@ -1,9 +1,13 @@
 use Rattle.std.proofs.Common.{◌≡◌, ◌+◌, ◌∷◌, ◌++◌, [], take, subst, sym}
+use Rattle.fts_log.specs.Records.{records_device}
+use Rattle.fts_log.proofs.Reading.{read_none}
 use Rattle.fts_ixcodec.specs.Payload.{entry_payload}
 use Rattle.fts_steps.specs.State.{index_state}
 use Rattle.fts_engine.specs.Loading.{NoneCanCome}
 use Rattle.fts_engine.specs.ReadEntry.{entry_read}
 use Rattle.fts_engine.specs.declared.load.ReadEntry.{ReadEntry}
+use Rattle.fts_engine.specs.declared.error.ReadError.TheVariants.{DiskFault}
+use Rattle.fts_engine.proofs.OneLog.{reads_none, reads_told}
 use Rattle.fts_engine.proofs.load.restore_read.Goals as goal
 
 pub returns-in-Batch-clause-restored : goal.returns-in-Batch-clause-restored
@@ -29,3 +33,9 @@ returns-in-Step-clause-refused g c e told all read j holds was =
       refused.0,
       subst (λ (entry : ReadEntry). NoneCanCome all (index_state was.of_rows.state) (entry_read entry)) (sym c.in-Step.is) refused.1,
     )
+
+pub returns-in-Step-clause-reads : goal.returns-in-Step-clause-reads
+returns-in-Step-clause-reads g c =
+    let rows = c.args.rows.now in
+    reads_told ⊥ _ rows rows (λ told. absurd (let no = c.restore_step.ensures.memory DiskFault told in cc)) (λ none. absurd none)
+    (reads_none rows (λ told. read_none rows (λ files left. g.met.D.Disk.only_now (records_device rows) files told left)))

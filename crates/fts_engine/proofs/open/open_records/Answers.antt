@@ -12,8 +12,8 @@ use Rattle.fts_engine.specs.Kept.{kept_settings, kept_rows}
 use Rattle.fts_engine.specs.Loading.{IsWrongEntry, IsWrongAmong}
 use Rattle.fts_engine.specs.Opening.{IsDamaged, IsIndexDamaged}
 use Rattle.fts_engine.specs.declared.error.Device.TheVariants.{Rows, Index}
-use Rattle.fts_engine.specs.declared.error.OpenError.{OpenError}
-use Rattle.fts_engine.specs.declared.error.OpenError.TheVariants.{DiskFault}
+use Rattle.fts_engine.specs.declared.error.LoadError.{LoadError}
+use Rattle.fts_engine.specs.declared.error.LoadError.TheVariants.{Damaged, DiskFault}
 use Rattle.fts_engine.proofs.Causes.{same_damage, damage_no_fault, ok_no_err, counts_none}
 use Rattle.fts_engine.proofs.Gates.{wrong_damaged, torn_damaged, wrong_index, torn_index}
 use Rattle.fts_engine.proofs.Loading.{loaded_all}
@@ -22,107 +22,86 @@ use Rattle.fts_engine.proofs.Opened.{keeps_log, whole_rows, of_index, found_here
 use Rattle.fts_engine.proofs.open.open_records.Goals as goal
 
 pub returns-in-Err-clause-damaged_rows : goal.returns-in-Err-clause-damaged_rows
-returns-in-Err-clause-damaged_rows g c file at e =
+returns-in-Err-clause-damaged_rows g c at e told told_index =
     let rows = c.args.rows in
     let bytes = g.D.Disk.seen (records_device rows) 0 in
-    elim (c.told_first-error.ensures.damaged_rows file at e) [
+    let all = (c.requires.ready told).0 in
+    let holds = (c.requires.ready told).1 in
+    let read = (c.requires.index_ready told_index).0 in
+    let holds_index = (c.requires.index_ready told_index).1 in
+    elim (c.told_first-error.ensures.damaged_rows at e) [
       | inl same ↦
-          (let damage = c.in-Err.ensures.damaged_rows file at (ap Err same) in (
-            damage.0,
-            λ told told_index.
-                let all = (c.requires.ready told).0 in
-                let holds = (c.requires.ready told).1 in
-                wrong_damaged all at bytes rows.found (found_here rows_magic all rows rows c.requires.magic holds)
-                (subst (λ (magic : List ℕ). IsWrongEntry magic all at) c.requires.magic
-                (damage.1 told told_index all (c.requires.index_ready told_index).0 holds (c.requires.index_ready told_index).1)),
-          ))
+          wrong_damaged all at bytes rows.found (found_here rows_magic all rows rows c.requires.magic holds)
+          (subst (λ (magic : List ℕ). IsWrongEntry magic all at) c.requires.magic
+          (c.in-Err.ensures.damaged_rows at (ap Err same) told told_index all read holds holds_index))
       | inr torn ↦
-          (let damage = c.in-Err.ensures.damaged_index torn.1.0 torn.1.1 (ap Err torn.1.2) in (
-            torn.0,
-            λ told told_index.
-                let all = (c.requires.ready told).0 in
-                let holds = (c.requires.ready told).1 in
-                let read = (c.requires.index_ready told_index).0 in
-                let is_read = c.in-Err.ensures.reads.of_rows told in
-                let sound = (damage.1 told told_index all read holds (c.requires.index_ready told_index).1).0 in
-                torn_damaged all at bytes (omega (arith, as_many all rows holds, c.requires.some)) (inr (sound.state, sound.sound, sound.same))
-                (broken_here rows_magic all rows c.load.new.rows c.requires.magic is_read at (torn.2 told all (is_read.stays all holds))),
-          ))
+          (let is_read = c.in-Err.ensures.reads.of_rows told in
+          let sound = (c.in-Err.ensures.damaged_index torn.0.0 (ap Err torn.0.1) told told_index all read holds holds_index).0 in
+          torn_damaged all at bytes (omega (arith, as_many all rows holds, c.requires.some)) (inr (sound.state, sound.sound, sound.same))
+          (broken_here rows_magic all rows c.load.new.rows c.requires.magic is_read at (torn.1 told all (is_read.stays all holds))))
     ]
 
 pub returns-in-Err-clause-damaged_index : goal.returns-in-Err-clause-damaged_index
-returns-in-Err-clause-damaged_index g c file at e =
+returns-in-Err-clause-damaged_index g c at e told told_index =
     let rows = c.args.rows in
     let entries = c.args.entries in
     let bytes = g.D.Disk.seen (records_device rows) 0 in
     let index = g.E.Disk.seen (records_device entries) 0 in
-    let first = c.told_first-error.ensures.damaged_index file at e in
-    let damage = c.in-Err.ensures.damaged_index file at (ap Err first.0) in (
-      damage.0,
-      λ told told_index.
-          let all = (c.requires.ready told).0 in
-          let holds = (c.requires.ready told).1 in
-          let read = (c.requires.index_ready told_index).0 in
-          let holds_index = (c.requires.index_ready told_index).1 in
-          let is_read = c.in-Err.ensures.reads.of_rows told in
-          let wrong = damage.1 told told_index all read holds holds_index in
-          record {
-            state = wrong.0.state;
-            of_rows = whole_rows all bytes wrong.0 (log_here rows_magic all rows c.load.new.rows c.requires.magic is_read (first.1 told all (is_read.stays all holds)));
-            place = wrong_index wrong.0.state wrong.0.sound all read at index entries.found wrong.0.same
-                (found_here index_magic read entries entries c.requires.index_magic holds_index)
-                (subst (λ (magic : List ℕ). IsWrongAmong magic all read at) c.requires.index_magic wrong.1);
-          },
-    )
+    let first = c.told_first-error.ensures.damaged_index at e in
+    let all = (c.requires.ready told).0 in
+    let holds = (c.requires.ready told).1 in
+    let read = (c.requires.index_ready told_index).0 in
+    let holds_index = (c.requires.index_ready told_index).1 in
+    let is_read = c.in-Err.ensures.reads.of_rows told in
+    let wrong = c.in-Err.ensures.damaged_index at (ap Err first.0) told told_index all read holds holds_index in
+    record {
+      state = wrong.0.state;
+      of_rows = whole_rows all bytes wrong.0 (log_here rows_magic all rows c.load.new.rows c.requires.magic is_read (first.1 told all (is_read.stays all holds)));
+      place = wrong_index wrong.0.state wrong.0.sound all read at index entries.found wrong.0.same
+          (found_here index_magic read entries entries c.requires.index_magic holds_index)
+          (subst (λ (magic : List ℕ). IsWrongAmong magic all read at) c.requires.index_magic wrong.1);
+    }
 
 pub returns-in-Err-into_log-clause-damaged_rows : goal.returns-in-Err-into_log-clause-damaged_rows
-returns-in-Err-into_log-clause-damaged_rows g c file at e = (
-  sym (same_damage Rows Rows 0 file c.in-Err-into_log.at at (sym c.on-error.ensures ∙ e)).1,
-  λ told told_index.
-      let rows = c.args.rows in
-      let bytes = g.D.Disk.seen (records_device rows) 0 in
-      let all = (c.requires.ready told).0 in
-      let holds = (c.requires.ready told).1 in
-      let read = (c.requires.index_ready told_index).0 in
-      let is_read = c.in-Ok.ensures.reads.of_rows told in
-      let loaded = c.in-Ok.ensures.loaded told told_index all read holds (c.requires.index_ready told_index).1 in
-      let whole = loaded_all all (kept_settings c.in-Ok.kept) (kept_rows c.in-Ok.kept) loaded.of_rows in
-      let place = (same_damage Rows Rows 0 file c.in-Err-into_log.at at (sym c.on-error.ensures ∙ e)).2 in
-      subst (λ (at : ℕ). IsDamaged at bytes) place
-      (torn_damaged all c.in-Err-into_log.at bytes (omega (arith, as_many all rows holds, c.requires.some)) (inr (loaded.of_rows.state, loaded.of_rows.sound, whole))
-      (broken_first rows_magic all rows c.load.new.rows c.requires.magic is_read c.in-Ok.ensures.reads.many_rows c.in-Err-into_log.at
-      (c.in-Err-into_log.ensures.broken told all (is_read.stays all holds)))),
-)
+returns-in-Err-into_log-clause-damaged_rows g c at e told told_index =
+    let rows = c.args.rows in
+    let bytes = g.D.Disk.seen (records_device rows) 0 in
+    let all = (c.requires.ready told).0 in
+    let holds = (c.requires.ready told).1 in
+    let read = (c.requires.index_ready told_index).0 in
+    let is_read = c.in-Ok.ensures.reads.of_rows told in
+    let loaded = c.in-Ok.ensures.loaded told told_index all read holds (c.requires.index_ready told_index).1 in
+    let whole = loaded_all all (kept_settings c.in-Ok.kept) (kept_rows c.in-Ok.kept) loaded.of_rows in
+    subst (λ (at : ℕ). IsDamaged at bytes) (same_damage Rows Rows c.in-Err-into_log.at at e).1
+    (torn_damaged all c.in-Err-into_log.at bytes (omega (arith, as_many all rows holds, c.requires.some)) (inr (loaded.of_rows.state, loaded.of_rows.sound, whole))
+    (broken_first rows_magic all rows c.load.new.rows c.requires.magic is_read c.in-Ok.ensures.reads.many_rows c.in-Err-into_log.at
+    (c.in-Err-into_log.ensures.broken told all (is_read.stays all holds))))
 
 pub returns-in-Err-into_log-2-clause-damaged_index : goal.returns-in-Err-into_log-2-clause-damaged_index
-returns-in-Err-into_log-2-clause-damaged_index g c file at e = (
-  sym (same_damage Index Index 0 file c.in-Err-into_log-2.at at (sym c.on-error-in-Err-into_log-2.ensures ∙ e)).1,
-  λ told told_index.
-      let rows = c.args.rows in
-      let entries = c.args.entries in
-      let bytes = g.D.Disk.seen (records_device rows) 0 in
-      let index = g.E.Disk.seen (records_device entries) 0 in
-      let all = (c.requires.ready told).0 in
-      let holds = (c.requires.ready told).1 in
-      let read = (c.requires.index_ready told_index).0 in
-      let holds_index = (c.requires.index_ready told_index).1 in
-      let is_read = c.in-Ok.ensures.reads.of_rows told in
-      let index_read = c.in-Ok.ensures.reads.of_index told_index in
-      let loaded = c.in-Ok.ensures.loaded told told_index all read holds holds_index in
-      let whole = loaded_all all (kept_settings c.in-Ok.kept) (kept_rows c.in-Ok.kept) loaded.of_rows in
-      let place = (same_damage Index Index 0 file c.in-Err-into_log-2.at at (sym c.on-error-in-Err-into_log-2.ensures ∙ e)).2 in
-      let log = c.in-Ok-into_log.rows in
-      subst (λ (at : ℕ). IsIndexDamaged at bytes index) place
-      record {
-        state = loaded.of_rows.state;
-        of_rows = whole_rows all bytes (record { state = loaded.of_rows.state; sound = loaded.of_rows.sound; same = whole })
-            (log_first rows_magic all rows c.load.new.rows c.requires.magic is_read c.in-Ok.ensures.reads.many_rows log
-            (c.in-Ok-into_log.ensures.whole told all (is_read.stays all holds)) c.in-Ok-into_log.ensures.kept.0 c.in-Ok-into_log.ensures.device);
-        place = torn_index loaded.of_rows.state read c.in-Err-into_log-2.at index (of_index all (length all) read c.in-Ok.kept loaded)
-            (broken_first index_magic read entries c.load.new.entries c.requires.index_magic index_read c.in-Ok.ensures.reads.many_index c.in-Err-into_log-2.at
-            (c.in-Err-into_log-2.ensures.broken told_index read (index_read.stays read holds_index)));
-      },
-)
+returns-in-Err-into_log-2-clause-damaged_index g c at e told told_index =
+    let rows = c.args.rows in
+    let entries = c.args.entries in
+    let bytes = g.D.Disk.seen (records_device rows) 0 in
+    let index = g.E.Disk.seen (records_device entries) 0 in
+    let all = (c.requires.ready told).0 in
+    let holds = (c.requires.ready told).1 in
+    let read = (c.requires.index_ready told_index).0 in
+    let holds_index = (c.requires.index_ready told_index).1 in
+    let is_read = c.in-Ok.ensures.reads.of_rows told in
+    let index_read = c.in-Ok.ensures.reads.of_index told_index in
+    let loaded = c.in-Ok.ensures.loaded told told_index all read holds holds_index in
+    let whole = loaded_all all (kept_settings c.in-Ok.kept) (kept_rows c.in-Ok.kept) loaded.of_rows in
+    let log = c.in-Ok-into_log.rows in
+    subst (λ (at : ℕ). IsIndexDamaged at bytes index) (same_damage Index Index c.in-Err-into_log-2.at at e).1
+    record {
+      state = loaded.of_rows.state;
+      of_rows = whole_rows all bytes (record { state = loaded.of_rows.state; sound = loaded.of_rows.sound; same = whole })
+          (log_first rows_magic all rows c.load.new.rows c.requires.magic is_read c.in-Ok.ensures.reads.many_rows log
+          (c.in-Ok-into_log.ensures.whole told all (is_read.stays all holds)) c.in-Ok-into_log.ensures.kept.0 c.in-Ok-into_log.ensures.device);
+      place = torn_index loaded.of_rows.state read c.in-Err-into_log-2.at index (of_index all (length all) read c.in-Ok.kept loaded)
+          (broken_first index_magic read entries c.load.new.entries c.requires.index_magic index_read c.in-Ok.ensures.reads.many_index c.in-Err-into_log-2.at
+          (c.in-Err-into_log-2.ensures.broken told_index read (index_read.stays read holds_index)));
+    }
 
 pub returns-in-Ok-into_log-2-clause-opened : goal.returns-in-Ok-into_log-2-clause-opened
 returns-in-Ok-into_log-2-clause-opened g c told told_index =
@@ -170,18 +149,18 @@ returns-in-Ok-into_log-2-clause-opened g c told told_index =
 
 pub returns-in-Err-into_log-clause-faults : goal.returns-in-Err-into_log-clause-faults
 returns-in-Err-into_log-clause-faults g c =
-    counts_none (IsErrOf {E = OpenError} (Ok c.in-Ok.kept) DiskFault) (c.on-error.result ≡ DiskFault)
+    counts_none (IsErrOf {E = LoadError} (Ok c.in-Ok.kept) DiskFault) (Damaged Rows c.in-Err-into_log.at ≡ DiskFault)
     (g.D.Disk.faults (records_device c.args.rows) + g.E.Disk.faults (records_device c.args.entries))
     (g.D.Disk.faults (records_device c.load.new.rows)) (g.E.Disk.faults (records_device c.load.new.entries))
     (g.D.Disk.faults c.in-Err-into_log.rows) (g.E.Disk.faults c.close-in-Err-into_log.result)
-    (ok_no_err {E = OpenError} c.in-Ok.kept DiskFault) (λ is. damage_no_fault Rows 0 c.in-Err-into_log.at (sym c.on-error.ensures ∙ is))
+    (ok_no_err {E = LoadError} c.in-Ok.kept DiskFault) (damage_no_fault Rows c.in-Err-into_log.at)
     (ap g.D.Disk.faults c.in-Err-into_log.ensures.device) (ap g.E.Disk.faults c.close-in-Err-into_log.ensures) c.in-Ok.ensures.reads.faults
 
 pub returns-in-Err-into_log-2-clause-faults : goal.returns-in-Err-into_log-2-clause-faults
 returns-in-Err-into_log-2-clause-faults g c =
-    counts_none (IsErrOf {E = OpenError} (Ok c.in-Ok.kept) DiskFault) (c.on-error-in-Err-into_log-2.result ≡ DiskFault)
+    counts_none (IsErrOf {E = LoadError} (Ok c.in-Ok.kept) DiskFault) (Damaged Index c.in-Err-into_log-2.at ≡ DiskFault)
     (g.D.Disk.faults (records_device c.args.rows) + g.E.Disk.faults (records_device c.args.entries))
     (g.D.Disk.faults (records_device c.load.new.rows)) (g.E.Disk.faults (records_device c.load.new.entries))
     (g.D.Disk.faults c.close-in-Err-into_log-2.result) (g.E.Disk.faults c.in-Err-into_log-2.index)
-    (ok_no_err {E = OpenError} c.in-Ok.kept DiskFault) (λ is. damage_no_fault Index 0 c.in-Err-into_log-2.at (sym c.on-error-in-Err-into_log-2.ensures ∙ is))
+    (ok_no_err {E = LoadError} c.in-Ok.kept DiskFault) (damage_no_fault Index c.in-Err-into_log-2.at)
     (ap g.D.Disk.faults (c.close-in-Err-into_log-2.ensures ∙ c.in-Ok-into_log.ensures.device)) (ap g.E.Disk.faults c.in-Err-into_log-2.ensures.device) c.in-Ok.ensures.reads.faults

@@ -3,7 +3,7 @@ use Rattle.std.proofs.lemmas.Result.{IfErr-weaker}
 use Rattle.fts_disk.specs.Device.{Files}
 use Rattle.fts_log.specs.Records.{records_device}
 use Rattle.fts_engine.specs.Opening.{IsDamaged}
-use Rattle.fts_engine.specs.declared.error.LogError.TheVariants.{Damaged}
+use Rattle.fts_engine.specs.declared.error.RowsError.TheVariants.{Damaged}
 use Rattle.fts_engine.proofs.open.read_rows.Goals as goal
 
 pub returns-in-Ok-clause-damaged : goal.returns-in-Ok-clause-damaged
