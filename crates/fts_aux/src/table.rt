@@ -12,7 +12,8 @@ ghost use Rattle.fts_aux.specs.Table.{find, list_in, nodes_in, is_key, is_key_at
 ghost use Rattle.fts_ilist.specs.Front.{front};
 ghost use Rattle.fts_aux.specs.Table.{with_room, filled, filled_as, seen, IsListing, IsNext};
 ghost use Rattle.fts_aux.specs.Table.{IsLast, IsListed, Becomes, Enters, Writes, no_list, Lists};
-ghost use Rattle.fts_aux.specs.Table.{IsNotedBut, IsFilledBut, AreFilledBut, AreFilled, Drops, AddsRoom, IsWithin, needs};
+ghost use Rattle.fts_aux.specs.Table.{IsNotedBut, IsFilledBut, AreFilledBut, AreFilled};
+ghost use Rattle.fts_aux.specs.Table.{Drops, AddsRoom, IsWithin, needs};
 ghost use Rattle.fts_aux.specs.Table.{KeepsNodes, HasLoose, Recounts, loose_count};
 ghost use Rattle.fts_ilist.specs.Packing.{are_loose};
 
@@ -348,9 +349,11 @@ fn is_empty(words: &Words, word: &[u8]) -> bool
 /// Whether the word with this number has no nodes.
 fn is_empty_at(words: &Words, number: usize) -> bool
     ensures yes { (w : List ℕ) → result ≡ true
-        → is_key_at (keys_of words.now.entries) number w ≡ true → nodes_in words.now.entries w ≡ [] }
+        → is_key_at (keys_of words.now.entries) number w ≡ true
+        → nodes_in words.now.entries w ≡ [] }
     ensures no { (w : List ℕ) → result ≡ false
-        → is_key_at (keys_of words.now.entries) number w ≡ true → nodes_in words.now.entries w ≢ [] }
+        → is_key_at (keys_of words.now.entries) number w ≡ true
+        → nodes_in words.now.entries w ≢ [] }
 {
     match words.get_index(number) {
         Some((_, list)) => list.is_empty(),

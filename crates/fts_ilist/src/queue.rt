@@ -18,7 +18,11 @@ use std::alloc::{AllocError, Global};
 use std::marker::Model;
 
 /// How many bytes a queue may hold beside those in use, and as many as these.
-const KEPT_ROOM: usize = 16;
+const KEPT_ROOM: usize = 32;
+
+/// How many more bytes a queue that has too little room gets at least. An allocator gives no block
+/// of fewer.
+const LEAST_ROOM: usize = 24;
 
 /// Documents by ascending ids, each with its positions, kept in the bytes of a list. A document is
 /// put in at the back, within room that was made for it, and the oldest leave at the front.
@@ -173,7 +177,8 @@ impl PostingQueue {
         if self.bytes.capacity() - self.bytes.len() < room {
             // An eighth more, so that the bytes that are copied stay within a constant for each
             // byte put in.
-            self.bytes.reserve_exact(room.max(self.bytes.len() / 8))?;
+            self.bytes
+                .reserve_exact(room.max(self.bytes.len() / 8 + LEAST_ROOM))?;
         }
         self.room = room;
         Ok(())

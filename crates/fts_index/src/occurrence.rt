@@ -32,6 +32,14 @@ fn found_in<'a>(lower: &'a RowTexts, found: &PlacedWord) -> Occurrence<'a>
     Occurrence::new(found.span.of(lower.text(found.column)), found.position)
 }
 
+/// How many words texts may have, so that their list seldom grows: one of six bytes each.
+fn words_expected(texts: &RowTexts) -> usize {
+    match texts.size() {
+        Some(size) => size / 6,
+        None => 0,
+    }
+}
+
 /// The indexed words of a row, in their order.
 fn listed<'a>(
     alloc: Global,
@@ -43,7 +51,7 @@ fn listed<'a>(
     requires lower { lower.now ≡ map lowered texts.now }
     ensures { IfOk result (λ all. AreListed (rules_of settings.now) texts.now all.items) }
 {
-    let mut all = Vec::new(alloc);
+    let mut all = Vec::with_capacity(alloc, words_expected(texts))?;
     for found in indexed_words(settings, texts) {
         all.push(found_in(lower, &found))?;
     }

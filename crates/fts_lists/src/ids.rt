@@ -111,8 +111,8 @@ impl IdSet {
         self.ids.contains(&id)
     }
 
-    /// Takes the ids of the set out of others. Each is written, and the next takes its place where it
-    /// is of the set. It takes no memory.
+    /// Takes the ids of the set out of others. Each is written, and the next takes its place where
+    /// it is of the set. It takes no memory.
     pub fn take_from(&self, ids: &mut Vec<DocId>)
         ensures { ids.new.items ≡ without self.now.ids ids.old.items }
     {
@@ -206,8 +206,8 @@ impl IdSet {
         }
     }
 
-    /// Takes these ids out, those of them that are there, and marks what is left anew. It takes time
-    /// for each of them and of those that are left.
+    /// Takes these ids out, those of them that are there, and marks what is left anew. It takes
+    /// time for each of them and of those that are left.
     pub fn purge(&mut self, ids: &[DocId])
         ensures { self.new ≡ record { ids = without ids.now self.old.ids; room = self.old.room } }
     {

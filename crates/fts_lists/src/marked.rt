@@ -103,8 +103,8 @@ impl MarkedIds {
     }
 
     /// Takes the ids of the set out of others that ascend: one look for each that has a mark, and a
-    /// walk for the others. Each is written, and the next takes its place where it is of the set: so
-    /// no branch hangs on which these are. It takes no memory.
+    /// walk for the others. Each is written, and the next takes its place where it is of the set:
+    /// so no branch hangs on which these are. It takes no memory.
     pub fn take_from(&self, ids: &mut Vec<DocId>)
         requires { Ascend ids.old.items }
         ensures { ids.new.items ≡ without self.now.ids ids.old.items }

@@ -6,7 +6,7 @@ use Rattle.fts_index.proofs.occurrence.listed.Goals as goal
 
 pub loop-found-init : goal.loop-found-init
 loop-found-init c =
-    rw c.new-all.ensures.items
+    rw c.in_ok-all.ensures.items
     (listing_begins (rules_of c.args.settings.now) c.args.texts.now _ (ap indexed_words_left c.into_iter-found-iterator.ensures.into_iter_gives ∙ c.indexed_words-found-items.ensures))
 
 pub found_in-requires : goal.found_in-requires
