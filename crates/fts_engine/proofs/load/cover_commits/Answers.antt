@@ -29,3 +29,8 @@ returns-in-Err-clause-damaged g c at e told all read j holds was =
     let before = c.loop-k.invariant.covered told all read j holds was in
     subst (λ magic. IsWrongEntry magic all at) c.loop-k.invariant.reads.same.magic
     (c.in-Err.ensures.damaged at (let failed = e in cc) told all read j ((c.loop-k.invariant.reads.read told).stays all holds) before.is)
+
+pub returns-in-Err-clause-reads : goal.returns-in-Err-clause-reads
+returns-in-Err-clause-reads g c =
+    reads_more _ c.args.rows.now c.loop-k.rows c.cover_commit.new.rows c.loop-k.invariant.reads
+    (reads_told _ _ _ _ (λ told. let same = told in cc) (λ told. let same = told in cc) c.in-Err.ensures.reads)

@@ -42,6 +42,10 @@ returns-in-Err-load_rest-clause-damaged_rows g c at e told told' all read holds 
     subst (λ magic. IsWrongEntry magic all at) (reads.many_rows.magic ∙ c.in-Ok.ensures.reads.same.magic)
     (c.in-Err-load_rest.ensures.damaged at (ap Err damage.1) told all read ((reads.of_rows told).stays all behind) restored)
 
+pub returns-in-Err-load_rest-clause-damaged_index : goal.returns-in-Err-load_rest-clause-damaged_index
+returns-in-Err-load_rest-clause-damaged_index g c at e =
+    absurd (let other = (of_damage Rows Index c.in-Err-load_rest.error at (sym c.on-in-Err-load_rest.ensures ∙ (let same = e in cc))).0 in cc)
+
 pub returns-in-Err-load_rest-clause-reads : goal.returns-in-Err-load_rest-clause-reads
 returns-in-Err-load_rest-clause-reads g c =
     let entries = c.args.entries.now in

@@ -25,3 +25,8 @@ pub returns-in-Err-clause-damaged : goal.returns-in-Err-clause-damaged
 returns-in-Err-clause-damaged g c at e told all read holds first =
     subst (λ magic. IsWrongEntry magic all at) c.loop-k.invariant.reads.same.magic
     (c.in-Err.ensures.damaged at (let failed = e in cc) told all read ((c.loop-k.invariant.reads.read told).stays all holds) (c.loop-k.invariant.loaded told all read holds first))
+
+pub returns-in-Err-clause-reads : goal.returns-in-Err-clause-reads
+returns-in-Err-clause-reads g c =
+    reads_more _ c.args.records.now c.loop-k.records c.load_commit.new.records c.loop-k.invariant.reads
+    (reads_told _ _ _ _ (λ told. let same = told in cc) (λ told. let same = told in cc) c.in-Err.ensures.reads)
