@@ -17,5 +17,5 @@ mod rows;
 mod summary;
 
 pub use listing::listing_text;
-pub use reply::{Reply, created_text, fixed_text, reply_text};
+pub use reply::{Reply, created_text, fixed_text, put_reply_text, reply_text};
 pub use summary::{Summary, Sums, is_error, summary_text};

@@ -121,6 +121,32 @@ pub fn reply_text(alloc: Global, reply: &Reply) -> Result<Vec<u8>, AllocError>
     }
 }
 
+/// Puts the text of a reply, as `reply_text` makes it, in the place of another. It is written into
+/// the memory of that one where it fits, so that searches write into the same again and again.
+///
+/// The only error is want of memory.
+pub fn put_reply_text(text: &mut Vec<u8>, reply: &Reply) -> Result<(), AllocError>
+    ensures { OnOk result (text.new.items ≡ text_of reply.now) }
+{
+    if let Reply::Found { number, docs } = reply {
+        return put_found_text(text, *number, docs.as_slice());
+    }
+    let other = reply_text(*text.allocator(), reply)?;
+    replace(text, other)
+}
+
+// Puts bytes in the place of others, in whose memory they are written where they fit.
+fn replace(text: &mut Vec<u8>, other: Vec<u8>) -> Result<(), AllocError>
+    ensures { OnOk result (text.new.items ≡ other.items) }
+{
+    if other.len() > text.capacity() {
+        *text = other;
+        return Ok(());
+    }
+    text.clear();
+    text.extend_from_slice(&other)
+}
+
 // The text of a reply with a number or a name.
 fn written_text(alloc: Global, reply: &Reply) -> Result<Vec<u8>, AllocError>
     requires { is_fixed reply.now ≡ false }
@@ -214,14 +240,25 @@ pub fn created_text() -> &'static str
 fn found_text(alloc: Global, number: u64, docs: &[u64]) -> Result<Vec<u8>, AllocError>
     ensures { IfOk result (λ text. text.items ≡ text_of (Reply.Found number docs.now)) }
 {
-    let mut text = format!(in alloc; "OK as of {number}:")?.into_bytes();
+    let mut text = Vec::new(alloc);
+    put_found_text(&mut text, number, docs)?;
+    Ok(text)
+}
+
+// Puts what a search found in the place of a text.
+fn put_found_text(text: &mut Vec<u8>, number: u64, docs: &[u64]) -> Result<(), AllocError>
+    ensures { OnOk result (text.new.items ≡ text_of (Reply.Found number docs.now)) }
+{
+    let front = format!(in *text.allocator(); "OK as of {number}:")?;
+    text.clear();
+    text.extend_from_slice(front.as_bytes())?;
     if docs.is_empty() {
         text.extend_from_slice(b" none")?;
     } else {
-        push_ids(&mut text, docs)?;
+        push_ids(text, docs)?;
     }
     text.push(b'\n')?;
-    Ok(text)
+    Ok(())
 }
 
 #[cfg(test)]

@@ -1,5 +1,6 @@
 ghost use Rattle.std.specs.Prelude.{◌≡◌, ◌^◌, ◌<◌, ◌≤◌, ◌+◌, ℕ, [], length, IsTrue, IsOk};
 ghost use Rattle.std.specs.Prelude.{false, Ok, Err};
+ghost use Rattle.std.specs.Vec.{vec_capacity};
 ghost use Rattle.fts_faults.specs.Count.{CountsFault};
 ghost use Rattle.fts_io.specs.Text.{lines_of};
 ghost use Rattle.fts_io.specs.Reading.{ahead, given_by, taken_by, work_left};
@@ -14,9 +15,12 @@ use crate::batches::met_behind;
 use crate::ends::{Halt, Health, RunEnd, Unsent};
 use crate::sessions::Sessions;
 use fts_io::{Gate, Lines, Next, Sink, Source, write_whole};
-use fts_schema::{Reply, fixed_text, reply_text};
+use fts_schema::{Reply, fixed_text, put_reply_text};
 use fts_sessions::EngineSteps;
 use std::alloc::Global;
+
+// So many bytes at most are kept for the text of the next reply.
+const KEPT_TEXT: usize = 4 << 20;
 
 /// Executes the lines of the source in order, each in its own session. Each reply is written before
 /// the next line is executed. A refused line ends nothing, also where it is refused for want of
@@ -54,18 +58,28 @@ pub fn run<I: Source, O: Sink, S: EngineSteps, G: Gate>(
         Ok(sessions) => sessions,
         Err(_) => return RunEnd::NoMemory,
     };
+    let mut text = Vec::new(alloc);
     let mut met = Health::Sound;
     'lines: loop {
-        match one_line(alloc, &mut lines, input, out, &mut sessions, steps, gate) {
+        match one_line(
+            &mut text,
+            &mut lines,
+            input,
+            out,
+            &mut sessions,
+            steps,
+            gate,
+        ) {
             Ok(now) => met = met.worse(now),
             Err(halt) => return halt.end_of(met),
         }
     }
 }
 
-// Reads a line, executes it and writes its reply: what it met, or why no more lines are executed.
+// Reads a line, executes it and writes its reply, whose text takes the place of the last one: what
+// it met, or why no more lines are executed.
 fn one_line<I: Source, O: Sink, S: EngineSteps, G: Gate>(
-    alloc: Global,
+    text: &mut Vec<u8>,
     lines: &mut Lines,
     input: &mut I,
     out: &mut O,
@@ -104,14 +118,14 @@ fn one_line<I: Source, O: Sink, S: EngineSteps, G: Gate>(
 {
     match lines.next_line(input) {
         Next::Line(line) => match sessions.execute(steps, gate, &line) {
-            Ok(reply) => match send(alloc, out, &reply) {
+            Ok(reply) => match send(text, out, &reply) {
                 Ok(()) => Ok(met_behind(steps, &reply)),
                 Err(unsent) => Err(Halt::from(unsent)),
             },
             Err(session) => Err(Halt::TooManySessions { session }),
         },
         Next::TooLong { line: _ } => match sessions.skip() {
-            Ok(()) => match send(alloc, out, &Reply::LineTooLong) {
+            Ok(()) => match send(text, out, &Reply::LineTooLong) {
                 Ok(()) => Ok(Health::Sound),
                 Err(unsent) => Err(Halt::from(unsent)),
             },
@@ -127,34 +141,46 @@ fn one_line<I: Source, O: Sink, S: EngineSteps, G: Gate>(
     }
 }
 
-// Writes a reply. A text that is fixed, as that of a fault, takes no memory.
-fn send<O: Sink>(alloc: Global, out: &mut O, reply: &Reply) -> Result<(), Unsent>
+// Writes a reply. A text that is fixed, as that of a fault, takes no memory; any other takes the
+// place of the last one.
+fn send<O: Sink>(text: &mut Vec<u8>, out: &mut O, reply: &Reply) -> Result<(), Unsent>
     ensures sends { IsTrue O.tells → Sends result reply.now (O.holds out.old) (O.holds out.new) }
     ensures fixed { result ≡ Err Unsent.NoMemory → is_fixed reply.now ≡ false }
     ensures write { CountsFault (result ≡ Err Unsent.WriteFault)
         (O.faults out.old) (O.faults out.new) }
 {
     match fixed_text(reply) {
-        Some(text) => match write_whole(out, text.as_bytes()) {
+        Some(fixed) => match write_whole(out, fixed.as_bytes()) {
             Ok(()) => Ok(()),
             Err(_) => Err(Unsent::WriteFault),
         },
-        None => send_written(alloc, out, reply),
+        None => send_written(text, out, reply),
     }
 }
 
 // Writes a reply with a number or a name.
-fn send_written<O: Sink>(alloc: Global, out: &mut O, reply: &Reply) -> Result<(), Unsent>
+fn send_written<O: Sink>(text: &mut Vec<u8>, out: &mut O, reply: &Reply) -> Result<(), Unsent>
     ensures sends { IsTrue O.tells → Sends result reply.now (O.holds out.old) (O.holds out.new) }
     ensures write { CountsFault (result ≡ Err Unsent.WriteFault)
         (O.faults out.old) (O.faults out.new) }
 {
-    let text = match reply_text(alloc, reply) {
-        Ok(text) => text,
+    match put_reply_text(text, reply) {
+        Ok(()) => {}
         Err(_) => return Err(Unsent::NoMemory),
-    };
-    match write_whole(out, &text) {
+    }
+    let written = write_whole(out, text);
+    give_up_large(text);
+    match written {
         Ok(()) => Ok(()),
         Err(_) => Err(Unsent::WriteFault),
+    }
+}
+
+// Gives up the memory of a text where that is much.
+fn give_up_large(text: &mut Vec<u8>)
+    ensures { vec_capacity text.new ≤ 4194304 }
+{
+    if text.capacity() > KEPT_TEXT {
+        *text = Vec::new(*text.allocator());
     }
 }
