@@ -5,6 +5,7 @@ use barred::Barred;
 use fts_disk::{Disk, Failed};
 use fts_io::{Sink, Source};
 use std::alloc::Global;
+use std::os::unix::fs::symlink;
 use std::path::PathBuf;
 use std::test::Fail;
 use std::{env, fs, process};
@@ -196,6 +197,21 @@ fn a_refusal_says_where_and_why(rt: HostRuntime) -> Result<(), Fail> {
         "/dev/null/nowhere/rows.log: Not a directory (os error 20)"
     );
     assert!(rt; rows.refusal().is_none());
+    Ok(())
+}
+
+#[test]
+fn a_length_that_the_system_refuses_is_a_fault(rt: HostRuntime) -> Result<(), Fail> {
+    let alloc = rt.alloc();
+    let folder = fresh(rt, "fts_host_length")?;
+    fs::create_dir(&rt, &folder)?;
+    // Its end is no place that can be sought.
+    symlink(&rt, "/proc/self/mem", folder.join(alloc, "index.log")?)?;
+    let (_rows, mut index) = devices(rt, &folder)?;
+    assert_eq!(rt; index.len(0), Err(Failed));
+    assert_eq!(rt; index.faults(), 1);
+    assert!(rt; told(alloc, index.refusal())?.contains("/index.log: "));
+    fs::remove_dir_all(&rt, &folder)?;
     Ok(())
 }
 
