@@ -103,7 +103,7 @@ pub(crate) fn make_batch_room(
         ≡ tables.begin_behind index.old.tables nodes.now) }
 {
     index.lists.reserve(DeleteList::Deleted, dead)?;
-    // Numbers up to the largest of the batches before, so that searches need one look for an id.
+    // No id above those that were flushed before is deleted by a batch.
     index.lists.mark_deleted(dead)?;
     index.tables.reserve(nodes)
 }

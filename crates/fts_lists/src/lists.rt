@@ -132,13 +132,13 @@ impl Lists {
         self.deleted_cache.take_from(ids);
     }
 
-    /// Marks the ids of DELETED, where they are dense enough with so many more that will come, so
-    /// that a test of an id is one look. It costs the numbers up to the largest id that have no
-    /// mark yet. Where memory is wanting, some of them have none.
+    /// Marks the ids of DELETED up to the largest that is flushed, where they are dense enough with
+    /// so many more that will come, so that a test of an id is one look. It costs the numbers that
+    /// have no mark yet. Where memory is wanting, some of them have none.
     pub fn mark_deleted(&mut self, more: usize) -> Result<(), AllocError>
         ensures { self.new ≡ self.old }
     {
-        self.deleted.mark(more)
+        self.deleted.mark(self.synced, more)
     }
 
     /// The ids of BEING_DELETED, ascending, each once.

@@ -119,16 +119,12 @@ impl MarkedIds {
         ids.truncate(kept);
     }
 
-    /// Marks the numbers up to the last id, where ids are dense enough with so many more that will
-    /// be put in. It costs the numbers that have no mark yet.
-    pub fn mark(&mut self, more: usize) -> Result<(), AllocError>
+    /// Marks the numbers up to one, where the ids, and so many more that will be put in, are dense
+    /// enough among them. It costs the numbers that have no mark yet.
+    pub fn mark(&mut self, last: DocId, more: usize) -> Result<(), AllocError>
         ensures { self.new ≡ self.old }
     {
         let ids = self.ids.as_slice();
-        if ids.is_empty() {
-            return Ok(());
-        }
-        let last = ids[ids.len() - 1];
         if last / SPREAD > ids.len().saturating_add(more) as u64 {
             return Ok(());
         }

@@ -62,6 +62,7 @@ fn is_as_plain(
         let id = n.wrapping_mul(step) % 257;
         make_room(rt, lists, list, &plain)?;
         if n % 50 == 0 {
+            lists.set_flushed(n, n / 2);
             lists.mark_deleted(1)?;
         }
         lists.add(list, id);
@@ -180,6 +181,7 @@ fn what_is_not_deleted_is_left(rt: HostRuntime) -> Result<(), Fail> {
     let mut plain = BTreeSet::new(alloc);
     let ids = [1, 2, 3, 4, 9, 10, 20, 21];
     put(&rt, &mut lists, DeleteList::Deleted, &mut plain, &[2, 4, 9])?;
+    lists.set_flushed(1, 10);
     lists.mark_deleted(1)?;
     put(&rt, &mut lists, DeleteList::Deleted, &mut plain, &[3, 20])?;
     let mut left = Vec::from_slice(alloc, &ids)?;
