@@ -157,7 +157,7 @@ def order_of_the_calls(room):
     script = insert(1) + insert(2) + SEARCH
     count = ordered(room, calls_of(room, "shop", "create", "--columns", "body", script=b""))
     count += ordered(room, calls_of(room, "shop", "run", script=script))
-    return f"null device thrice, lock, then files; {count} writes at their places, each durable before its reply, no lseek"
+    return f"null device thrice, lock, then files; {count} writes at their places, each durable before its reply, lseek for lengths alone"
 
 
 def calls_of(room, *words, script):
@@ -191,7 +191,8 @@ def ordered(room, calls):
             pending.discard(file)
         elif name == "write":
             same((text[:2], pending), ("1<", set()), f"what is not durable at {text}")
-        same(name == "lseek", False, "a cursor that is moved")
+        # a file's length is the place of its end; no read or write takes it
+        same(name == "lseek" and "SEEK_END" not in text, False, "a cursor that is moved")
     return writes
 
 
