@@ -47,3 +47,7 @@ IsAsked found command = (met : Text × List Row) × (found ≡ Some met) × IsCo
 pub record Asks (words : List Text) (command : Command) : Type 0 where
   pub taken : fault_of command_line words ≡ []
   pub asked : IsAsked (subcommand_of command_line words) command
+
+-- the words ask for no command
+abbrev pub AskNothing : List Text → Type 0
+AskNothing words = (command : Command) → Asks words command → ⊥

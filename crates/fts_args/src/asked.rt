@@ -1,7 +1,8 @@
 ghost use Rattle.std.specs.Prelude.{◌≡◌, IfOk, IfSome, IfNone, codes, map};
 ghost use Rattle.std.specs.String.{string_bytes};
 ghost use Rattle.clap.specs.Words.{found_of, rows_of, subcommand_rows_of};
-ghost use Rattle.fts_args.specs.Asked.{Asks, HasOptions, HasSettings, IsAsked, IsCommand};
+ghost use Rattle.fts_args.specs.Asked.{AskNothing, Asks, HasOptions, HasSettings};
+ghost use Rattle.fts_args.specs.Asked.{IsAsked, IsCommand};
 ghost use Rattle.fts_args.specs.declared.command.Command.{Command};
 ghost use Rattle.fts_types.specs.declared.settings.Settings.{Settings};
 
@@ -19,8 +20,7 @@ use std::alloc::{AllocError, Global};
 /// None is a faulty command line. What the folder is, is not looked at.
 pub fn command_of(alloc: Global, words: &[String]) -> Result<Option<Command>, AllocError>
     ensures found { IfOk result (λ found. IfSome found (Asks (map string_bytes words.now))) }
-    ensures none { IfOk result (λ found. IfNone found
-        ((command : Command) → Asks (map string_bytes words.now) command → ⊥)) }
+    ensures none { IfOk result (λ found. IfNone found (AskNothing (map string_bytes words.now))) }
 {
     match command_line(alloc)?.try_get_matches_from(words) {
         Ok(matches) => asked(alloc, &matches),

@@ -22,12 +22,6 @@ not_written file at noted done old new undone same =
     let Step : Bool → Type 0 = λ done. new ≡ step_seen (Write file at noted done) old in
     subst Step (sym undone) same
 
--- the same of a cut
-pub was_cut : (file len : ℕ) (done : Bool) (old new : Files) → done ≡ true → OnFile file (λ (from to : List ℕ). to ≡ take len from) old new → new ≡ step_seen (Cut file len done) old
-was_cut file len done old new is_done goes =
-    let Step : Bool → Type 0 = λ done. new ≡ step_seen (Cut file len done) old in
-    subst Step (sym is_done) (is_put file (take len (old file)) old new (record { this = goes.this; others = goes.others }))
-
 pub not_cut : (file len : ℕ) (done : Bool) (old new : Files) → done ≡ false → new ≡ old → new ≡ step_seen (Cut file len done) old
 not_cut file len done old new undone same =
     let Step : Bool → Type 0 = λ done. new ≡ step_seen (Cut file len done) old in

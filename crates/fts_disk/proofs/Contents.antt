@@ -1,6 +1,6 @@
 -- What a write to one file of a list makes of what the files hold.
 use Rattle.std.proofs.Common.{◌≡◌, ◌≢◌, ℕ, zero, suc, ◌+◌, ◌<◌, ◌≤◌, List, [], ◌∷◌, ◌++◌, map, length, take, slice_index_or, slice_set, Vec, refl, ap, sym, ◌∙◌, subst}
-use Rattle.std.proofs.lemmas.List.{map-set, map-append, get_or-map, get_or-set_same, get_or-set_other, length-map, take_more, take_all}
+use Rattle.std.proofs.lemmas.List.{map-set, map-append, get_or-map, get_or-set_same, get_or-set_other, length-map, take_all}
 use Rattle.std.proofs.Math.Seq.{map-set_same}
 use Rattle.std.specs.declared.alloc.Global.{Global}
 use Rattle.fts_disk.specs.Device.{Files, OnFile}
@@ -59,16 +59,6 @@ empty_more files new empty =
     let more : map items_of (files ++ new ∷ []) ≡ map items_of files ++ [] ∷ [] =
     map-append items_of files (new ∷ []) ∙ ap (λ (bytes : List ℕ). map items_of files ++ bytes ∷ []) empty in
     ap from_all more ∙ (λ i file. more_absent (map items_of files) file i)
-
--- the same files, copied one by one
-pub copied_more : (copy files : List (Vec ℕ Global)) (i : ℕ) (old new : Vec ℕ Global) → i < length files → old ≡ slice_index_or files i old → new.items ≡ old.items
-    → map items_of copy ≡ map items_of (take i files) → map items_of (copy ++ new ∷ []) ≡ map items_of (take (i + 1) files)
-copied_more copy files i old new below is same so_far =
-    map-append items_of copy (new ∷ [])
-    ∙ ap (λ (all : List (List ℕ)). all ++ new.items ∷ []) so_far
-    ∙ ap (λ (bytes : List ℕ). map items_of (take i files) ++ bytes ∷ []) (same ∙ ap items_of is)
-    ∙ sym (map-append items_of (take i files) (slice_index_or files i old ∷ []))
-    ∙ ap (map items_of) (sym (take_more files i old below))
 
 pub copied_all : (copy files : List (Vec ℕ Global)) (i : ℕ) → length files ≤ i → map items_of copy ≡ map items_of (take i files) → contents copy ≡ contents files
 copied_all copy files i all so_far = ap from_all (so_far ∙ ap (map items_of) (take_all i files all))

@@ -1,5 +1,5 @@
 -- Why a database was not opened, by its two logs.
-use Rattle.std.proofs.Common.{◌≡◌, ℕ, ◌+◌, refl, ap, subst, sym, ◌∙◌, inl, inr, arith}
+use Rattle.std.proofs.Common.{◌≡◌, ℕ, ◌+◌, refl, ap, sym, ◌∙◌, inl, inr, arith}
 use Rattle.std.specs.Prelude.{Ok, Err, IsErrOf}
 use Rattle.fts_faults.specs.Count.{Rose, CountsFault}
 use Rattle.fts_engine.specs.Opening.{load_error_of, open_error_of, open_error_of_rows}
@@ -41,36 +41,10 @@ rose_behind : (a b b' : ℕ) → Rose b b' → Rose (a + b) (a + b')
 rose_behind a b b' (inl rose) = inl (omega (arith, rose))
 rose_behind a b b' (inr last) = inr (omega (arith, last))
 
--- a fault of the second device, behind calls without one of the first
-pub counts_behind : (device : Device) (error : ReadError) (a a' b b' : ℕ) → a' ≡ a → CountsFault (error ≡ DiskFault) b b'
-    → CountsFault (load_error_of device error ≡ load.DiskFault) (a + b) (a' + b')
-counts_behind device error a a' b b' same counts = subst (λ (n : ℕ). CountsFault (load_error_of device error ≡ load.DiskFault) (a + b) (n + b')) (sym same) (record {
-  rose = λ is. rose_behind a b b' (counts.rose (of_fault device error is));
-  calm = λ no. ap (λ (n : ℕ). a + n) (counts.calm (λ is. no (ap (load_error_of device) is)));
-  never_falls = omega (arith, counts.never_falls);
-})
-
--- a fault that ended the reading of a log is one of the opening
-pub counts_of : {T : Type 0} (device : Device) (error : ReadError) (a a' : ℕ) → CountsFault (IsErrOf {T = T} (Err error) DiskFault) a a'
-    → CountsFault (load_error_of device error ≡ load.DiskFault) a a'
-counts_of device error a a' counts = record {
-  rose = λ is. counts.rose (ap Err (of_fault device error is));
-  calm = λ no. counts.calm (λ is. let same : error ≡ DiskFault = (let e = is in cc) in no (ap (load_error_of device) same));
-  never_falls = counts.never_falls;
-}
-
 pub fault_of : {T : Type 0} (told error : LoadError) (a a' : ℕ) → told ≡ error → CountsFault (error ≡ load.DiskFault) a a' → CountsFault (IsErrOf {T = T} (Err told) load.DiskFault) a a'
 fault_of told error a a' same counts = record {
   rose = λ is. counts.rose (sym same ∙ (let e = is in cc));
   calm = λ no. counts.calm (λ is. no (ap Err (same ∙ is)));
-  never_falls = counts.never_falls;
-}
-
--- the causes of a log's reading are those of the opening
-pub counts_on : (device : Device) (error : ReadError) (a a' : ℕ) → CountsFault (error ≡ DiskFault) a a' → CountsFault (load_error_of device error ≡ load.DiskFault) a a'
-counts_on device error a a' counts = record {
-  rose = λ is. counts.rose (of_fault device error is);
-  calm = λ no. counts.calm (λ is. no (ap (load_error_of device) is));
   never_falls = counts.never_falls;
 }
 

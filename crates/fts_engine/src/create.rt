@@ -7,6 +7,7 @@ ghost use Rattle.fts_types.specs.declared.settings.Settings.{Settings};
 ghost use Rattle.fts_types.specs.Settings.{AreSettings};
 ghost use Rattle.fts_log.specs.Frame.{payload_of};
 ghost use Rattle.fts_log.specs.Framing.{inner};
+ghost use Rattle.fts_log.specs.Log.{framed_size};
 ghost use Rattle.fts_log.specs.Record.{IsLog};
 ghost use Rattle.fts_rowcodec.specs.Payload.{settings_payload};
 ghost use Rattle.fts_steps.specs.State.{IsCreated, IsRows, IsIndex, index_magic, created_with};
@@ -119,7 +120,7 @@ fn framed_settings(alloc: Global, settings: &Settings) -> Result<Framed, AllocEr
 // Puts the payload of settings into the bytes of its frame.
 fn put_settings(frame: &mut [u8], settings: &Settings)
     requires settings { AreSettings settings.now }
-    requires room { length frame.old ≡ length (settings_payload settings.now) + 5 }
+    requires room { length frame.old ≡ framed_size (settings_payload settings.now) }
     ensures size { length frame.new ≡ length frame.old }
     ensures payload { inner frame.new ≡ settings_payload settings.now }
 {

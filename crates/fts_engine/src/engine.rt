@@ -1,9 +1,9 @@
-ghost use Rattle.std.specs.Prelude.{◌≡◌, ◌+◌, ◌≤◌, ℕ, false, length, IsTrue, IsErr, OnOk, IfOk};
+ghost use Rattle.std.specs.Prelude.{◌≡◌, ◌≤◌, ℕ, false, length, IsTrue, IsErr, OnOk, IfOk};
 ghost use Rattle.std.specs.Prelude.{◌<◌, ◌^◌, Err, None};
 ghost use Rattle.fts_engine.specs.Refusing.{refusal_answer};
 ghost use Rattle.fts_log.specs.Frame.{payload_of};
 ghost use Rattle.fts_log.specs.Framing.{inner};
-ghost use Rattle.fts_log.specs.Log.{count_of};
+ghost use Rattle.fts_log.specs.Log.{count_of, framed_size};
 ghost use Rattle.fts_commits.specs.Commit.{replay};
 ghost use Rattle.fts_commits.specs.Fits.{CanCommit};
 ghost use Rattle.fts_rowcodec.specs.Payload.{IsWritten, commit_payload};
@@ -286,7 +286,7 @@ fn framed_batch(alloc: Global, plan: &SyncPlan) -> Result<Framed, AllocError>
 // Puts the payload of a batch into the bytes of its frame.
 fn put_batch(frame: &mut [u8], plan: &SyncPlan)
     requires fits { FitsRecord (batch_of plan.now) }
-    requires room { length frame.old ≡ length (entry_payload (batch_of plan.now)) + 5 }
+    requires room { length frame.old ≡ framed_size (entry_payload (batch_of plan.now)) }
     ensures size { length frame.new ≡ length frame.old }
     ensures payload { inner frame.new ≡ entry_payload (batch_of plan.now) }
     ensures numbers { (plan.now.through < 2 ^ 64) × (plan.now.synced < 2 ^ 64) }
@@ -298,7 +298,7 @@ fn put_batch(frame: &mut [u8], plan: &SyncPlan)
 // Puts the payload of a commit into the bytes of its frame.
 fn put_commit(frame: &mut [u8], changes: &[Change])
     requires written { (columns : ℕ) × (columns ≤ 8) × IsWritten columns changes.now }
-    requires room { length frame.old ≡ length (commit_payload changes.now) + 5 }
+    requires room { length frame.old ≡ framed_size (commit_payload changes.now) }
     ensures size { length frame.new ≡ length frame.old }
     ensures payload { inner frame.new ≡ commit_payload changes.now }
 {

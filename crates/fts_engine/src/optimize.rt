@@ -1,8 +1,9 @@
 //! The steps of OPTIMIZE.
-ghost use Rattle.std.specs.Prelude.{◌≡◌, ◌+◌, ◌≤◌, false, length, Ok, IfOk, IfSome, IsTrue};
+ghost use Rattle.std.specs.Prelude.{◌≡◌, ◌≤◌, false, length, Ok, IfOk, IfSome, IsTrue};
 ghost use Rattle.fts_codec.specs.Writing.{Puts};
 ghost use Rattle.fts_log.specs.Frame.{payload_of};
 ghost use Rattle.fts_log.specs.Framing.{inner};
+ghost use Rattle.fts_log.specs.Log.{framed_size};
 ghost use Rattle.fts_ixcodec.specs.Payload.{entry_payload, FitsRecord, HasSize};
 ghost use Rattle.fts_index.specs.Passing.{step_entry};
 ghost use Rattle.fts_steps.specs.Step.{step_of, to_optimize, is_disk_fault, writes, Steps};
@@ -57,7 +58,7 @@ fn encode_step_into(plan: &PassPlan, buf: &mut [u8]) -> usize
 // Puts the payload of a step into the bytes of its frame.
 fn put_step(frame: &mut [u8], plan: &PassPlan)
     requires fits { FitsRecord (step_entry plan.now) }
-    requires room { length frame.old ≡ length (entry_payload (step_entry plan.now)) + 5 }
+    requires room { length frame.old ≡ framed_size (entry_payload (step_entry plan.now)) }
     ensures size { length frame.new ≡ length frame.old }
     ensures payload { inner frame.new ≡ entry_payload (step_entry plan.now) }
 {

@@ -10,7 +10,7 @@ use Rattle.fts_types.specs.Row.{Row}
 use Rattle.fts_commits.specs.Commit.{Rows, no_rows}
 use Rattle.fts_commits.specs.Turn.{Turn, RowsAscend, AreTurns, births_of, deaths_of, rows_but, rows_by}
 use Rattle.fts_entries.specs.Batch.{largest_after, alive_of}
-use Rattle.fts_entries.proofs.Filters.{leads, all_joined}
+use Rattle.fts_entries.proofs.Filters.{leads, all_joined, unfiltered}
 use Rattle.fts_entries.proofs.Turns.{two_parts, births_ascend}
 
 rows_lower : (low middle high : ℕ) (rows : List Row) → low ≤ middle → RowsAscend middle high rows → RowsAscend low high rows
@@ -37,15 +37,6 @@ first P (x ∷ xs) ys h = (h.0, first P xs ys h.1)
 second : (P : Row → Type 0) (xs ys : List Row) → AllByRecursion P (xs ++ ys) → AllByRecursion P ys
 second P [] ys h = h
 second P (x ∷ xs) ys h = second P xs ys h.1
-
-unfiltered : (P : Row → Type 0) (test : Row → Bool) (rows : List Row) → AllByRecursion P (filter test rows) → AllByRecursion (λ row. test row ≡ true → P row) rows
-unfiltered P test [] h = tt
-unfiltered P test (row ∷ rows) h = by (test row) refl h (unfiltered P test rows)
-  where
-    by : (b : Bool) → test row ≡ b → AllByRecursion P (cond b (row ∷ filter test rows) (filter test rows))
-        → (AllByRecursion P (filter test rows) → AllByRecursion (λ r. test r ≡ true → P r) rows) → AllByRecursion (λ r. test r ≡ true → P r) (row ∷ rows)
-    by true e h others = (λ is. h.0, others h.1)
-    by false e h others = (λ is. absurd (false≢true (sym e ∙ is)), others h)
 
 -- ---- who is not taken away is among the rows that are left
 

@@ -13,7 +13,7 @@ use Rattle.fts_ids.specs.Ids.{has}
 use Rattle.fts_ids.proofs.Ascending.{has-filter}
 use Rattle.fts_lists.proofs.Merging.{has-with_ids}
 use Rattle.fts_ilist.specs.Spelling.{Posting}
-use Rattle.fts_ilist.specs.Node.{Docs, NodesAfter, nodes_for}
+use Rattle.fts_ilist.specs.Node.{Docs, nodes_for}
 use Rattle.fts_ilist.specs.Packing.{joined}
 use Rattle.fts_entries.specs.Entry.{Batch, IndexEntry, IndexState, sealed, begun, worked, finished, no_entries, after_entry, index_of, unflushed, unflushed_through, flushed_deaths, AreThrough}
 use Rattle.fts_entries.specs.Batch.{largest_after}
@@ -22,7 +22,7 @@ use Rattle.fts_entries.specs.Coming.{born_ids, CanSeal, CanCome, CanComeAll, Are
 use Rattle.fts_entries.specs.Exact.{FitsTurns, IdsAfter}
 use Rattle.fts_entries.proofs.Batches.{fails}
 use Rattle.fts_entries.proofs.Commits.{none_fits, sealed_with, taken_before}
-use Rattle.fts_entries.proofs.Packing.{after_join, packed_ascend}
+use Rattle.fts_entries.proofs.Packing.{after_join}
 use Rattle.fts_entries.proofs.Postings.{IsBetween, ends_within}
 use Rattle.fts_entries.proofs.Turns.{two_parts, largest_behind, ids_rise, births_ascend}
 
@@ -133,11 +133,6 @@ fits_from turns s (finished ∷ entries) are fits come =
 -- the state of an index fits its commits
 pub entries_fit : (turns : List Turn) (entries : List IndexEntry) → AreTurns 0 turns → AreEntries turns entries → FitsTurns turns (index_of turns entries)
 entries_fit turns entries are come = fits_from turns no_entries entries are (none_fits turns) come
-
--- the nodes of a batch that can come ascend
-pub seal_ascends : (turns : List Turn) (s : IndexState) (through synced : ℕ) (batch : Batch) → CanSeal turns s through synced batch → (word : List ℕ) → NodesAfter 0 (nodes_for word batch)
-seal_ascends turns s through synced batch can word =
-    subst (NodesAfter 0) (can.packed_are word) (packed_ascend 0 (joined (nodes_for word batch)) (can.ascend word))
 
 -- ---- entries over more commits
 

@@ -15,4 +15,5 @@ pub mod Groups
 pub mod Places
 pub mod Spelled
 pub mod Alive
+pub mod Dead
 mod WorkedRows

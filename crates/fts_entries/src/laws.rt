@@ -4,7 +4,7 @@ ghost use Rattle.fts_ilist.specs.Node.{NodesAfter, last_of, nodes_for};
 ghost use Rattle.fts_words.specs.Indexed.{Rules};
 ghost use Rattle.fts_types.specs.Row.{Row};
 ghost use Rattle.fts_commits.specs.Commit.{Rows, no_rows};
-ghost use Rattle.fts_commits.specs.Turn.{Turn, AreTurns, rows_by};
+ghost use Rattle.fts_commits.specs.Turn.{Turn, AreTurns, deaths_of, has_doc, rows_by};
 ghost use Rattle.fts_entries.specs.Entry.{Batch, IndexEntry, IndexState, sealed, after_entry};
 ghost use Rattle.fts_entries.specs.Entry.{begun, worked, finished};
 ghost use Rattle.fts_entries.specs.Pass.{IsWord, CanFinish, IsStep, IsIdle, next_steps};
@@ -13,11 +13,11 @@ ghost use Rattle.fts_ids.specs.Ids.{has};
 ghost use Rattle.fts_ilist.specs.Node.{Docs};
 ghost use Rattle.fts_ilist.specs.Packing.{joined};
 ghost use Rattle.std.specs.List.{All, Contains};
-ghost use Rattle.std.specs.Prelude.{false};
+ghost use Rattle.std.specs.Prelude.{true, false};
 ghost use Rattle.fts_entries.specs.Entry.{no_entries, index_of, unflushed_through, AreThrough};
 ghost use Rattle.fts_entries.specs.Batch.{IsBatch, after_batch, next_through, next_entry};
 ghost use Rattle.fts_entries.specs.Batch.{largest_after, packed_words, alive_of};
-ghost use Rattle.fts_entries.specs.Exact.{FitsTurns, IsExact};
+ghost use Rattle.fts_entries.specs.Exact.{FitsTurns, IsExact, is_deleted, all_postings};
 
 /// A batch keeps an index right. It does nothing: its contract is the theorem.
 pub fn batches_keep()
@@ -123,6 +123,23 @@ pub fn entries_can_come()
         → AreEntries turns entries → AreThrough (length turns) entries }
     ensures fits { (turns : List Turn) (entries : List IndexEntry) → AreTurns 0 turns
         → AreEntries turns entries → FitsTurns turns (index_of turns entries) }
+{}
+
+/// What stands in DELETED, or in BEING_DELETED, died in some commit, and what died is no row. Of an
+/// index that is right, a document that tables or cache have and that is no row is in DELETED, or
+/// died in a commit that is not flushed. It does nothing: its contract is the theorem.
+pub fn deleted_are_dead()
+    ensures died { (turns : List Turn) (entries : List IndexEntry) (id : ℕ)
+        → has (index_of turns entries).deleted id ≡ true → has (deaths_of turns) id ≡ true }
+    ensures being { (turns : List Turn) (entries : List IndexEntry) (id : ℕ)
+        → has (index_of turns entries).being_deleted id ≡ true → has (deaths_of turns) id ≡ true }
+    ensures gone { (turns : List Turn) → AreTurns 0 turns → (id : ℕ)
+        → has (deaths_of turns) id ≡ true
+        → has_doc id (fold rows_by no_rows turns).list ≡ false }
+    ensures deleted { (rules : Rules) (rows : List Row) (turns : List Turn) (s : IndexState)
+        → IsExact rules rows turns s → (word : List ℕ)
+        → All (λ p. has_doc p.id rows ≡ false → is_deleted turns s p.id ≡ true)
+        (all_postings rules turns s word) }
 {}
 
 /// Each row of a batch is a row of the table. It does nothing: its contract is the theorem.

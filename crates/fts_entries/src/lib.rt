@@ -11,13 +11,16 @@
 //! laws `no_entries_are_right`, `commits_keep`, `batches_keep` and `passes_keep`. Which batch comes
 //! next is one answer (`one_batch_is_next`), of rows of the table (`alive_are_rows`), and so is
 //! which step of OPTIMIZE comes next (`one_step_is_next`). Which entries can come is a fact on
-//! commits and entries alone (`AreEntries`), that each such batch meets (`entries_can_come`). There
-//! is no code here but these laws.
+//! commits and entries alone (`AreEntries`), that each such batch meets (`entries_can_come`). What
+//! stands in DELETED has died, and what the index has of no row is deleted (`deleted_are_dead`).
+//!
+//! There is no code here but these laws, which a caller cites as `batches_keep();` and which cost
+//! nothing.
 #![tactic(auto)]
 
 mod laws;
 
 pub use laws::{
-    alive_are_rows, batches_keep, commits_keep, entries_can_come, no_entries_are_right,
-    one_batch_is_next, one_step_is_next, passes_keep,
+    alive_are_rows, batches_keep, commits_keep, deleted_are_dead, entries_can_come,
+    no_entries_are_right, one_batch_is_next, one_step_is_next, passes_keep,
 };

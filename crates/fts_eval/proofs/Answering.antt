@@ -16,7 +16,7 @@ use Rattle.fts_query.specs.Seen.{candidate_seen}
 use Rattle.fts_eval.specs.declared.part.Part.{Part}
 use Rattle.fts_eval.specs.declared.resolve.Parts.{Parts}
 use Rattle.fts_eval.specs.Says.{docs_of}
-use Rattle.fts_eval.specs.Means.{Stands, Means, PartsMean, IsGroup, part_says}
+use Rattle.fts_eval.specs.Means.{PostingsBegin, Means, PartsMean, IsGroup, part_says}
 use Rattle.fts_eval.proofs.Meaning.{no_term, dropped_list}
 use Rattle.fts_eval.proofs.Building.{group_means}
 use Rattle.fts_query.proofs.Chosen.{where_ascends, has_where}
@@ -68,7 +68,7 @@ candidates_ascend rules rows terms view kept seen up s =
 
 -- ---- a view that stands for rows
 
-pub stands : (rules : Rules) (rows : List Row) (terms : Terms) (view : View) → AscendFrom 0 (map (λ (row : Row). row.doc) rows) → StandsFor rules rows terms view → Stands rules rows [] (leaves rules terms) [] view.texts view.postings
+pub stands : (rules : Rules) (rows : List Row) (terms : Terms) (view : View) → AscendFrom 0 (map (λ (row : Row). row.doc) rows) → StandsFor rules rows terms view → PostingsBegin rules rows [] (leaves rules terms) [] view.texts view.postings
 stands rules rows terms view up s =
     let all : leaves rules terms ++ [] ≡ leaves rules terms = append-nil (leaves rules terms) in
     record {
@@ -88,11 +88,11 @@ answered rules rows texts terms parts part list up m g ascends h =
 
 -- the same, where the parts of a view and of a query are lent
 pub stands_at : (rules : Rules) (rows : List Row) (terms lent : Terms) (view : View) (texts : List Candidate) (postings : List Postings) → lent ≡ terms → texts ≡ view.texts → postings ≡ view.postings
-    → AscendFrom 0 (map (λ (row : Row). row.doc) rows) → StandsFor rules rows terms view → Stands rules rows [] (leaves rules lent) [] texts postings
+    → AscendFrom 0 (map (λ (row : Row). row.doc) rows) → StandsFor rules rows terms view → PostingsBegin rules rows [] (leaves rules lent) [] texts postings
 stands_at rules rows terms lent view texts postings e f g up s =
-    subst (λ (ts : Terms). Stands rules rows [] (leaves rules ts) [] texts postings) (sym e)
-    (subst (λ (cs : List Candidate). Stands rules rows [] (leaves rules terms) [] cs postings) (sym f)
-    (subst (λ (ps : List Postings). Stands rules rows [] (leaves rules terms) [] view.texts ps) (sym g) (stands rules rows terms view up s)))
+    subst (λ (ts : Terms). PostingsBegin rules rows [] (leaves rules ts) [] texts postings) (sym e)
+    (subst (λ (cs : List Candidate). PostingsBegin rules rows [] (leaves rules terms) [] cs postings) (sym f)
+    (subst (λ (ps : List Postings). PostingsBegin rules rows [] (leaves rules terms) [] view.texts ps) (sym g) (stands rules rows terms view up s)))
 
 -- ---- rows whose ids ascend, one beside another
 

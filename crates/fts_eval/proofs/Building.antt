@@ -19,7 +19,7 @@ use Rattle.fts_query.specs.Seen.{postings_seen}
 use Rattle.fts_eval.specs.declared.part.Part.{Part}
 use Rattle.fts_eval.specs.declared.resolve.Parts.{Parts}
 use Rattle.fts_eval.specs.Says.{is_chosen, says, each_says, some_says}
-use Rattle.fts_eval.specs.Means.{Stands, Means, Continues, PartsMean, Adds, IsGroup, MeansOperand, are_some, has_parts}
+use Rattle.fts_eval.specs.Means.{PostingsBegin, Means, Continues, PartsMean, Adds, IsGroup, MeansOperand, are_some, has_parts}
 use Rattle.fts_eval.proofs.Listing.{leaves_from, split}
 use Rattle.fts_eval.proofs.Operands.{leaf_means}
 use Rattle.fts_eval.proofs.Parts.{says-Group}
@@ -222,7 +222,7 @@ module _ (rules : Rules) (rows : List Row) (texts : List Candidate) where
 -- ---- the postings of a term, and those behind it
 
 module _ (rules : Rules) (rows : List Row) (texts : List Candidate) where
-  stands_term : (before leaves first rest after : List Leaf) (ps : List Postings) → leaves ≡ first ++ rest → Stands rules rows before leaves after texts ps → Stands rules rows before first (rest ++ after) texts ps
+  stands_term : (before leaves first rest after : List Leaf) (ps : List Postings) → leaves ≡ first ++ rest → PostingsBegin rules rows before leaves after texts ps → PostingsBegin rules rows before first (rest ++ after) texts ps
   stands_term before leaves first rest after ps cut s =
       let whole : leaves ++ after ≡ first ++ (rest ++ after) = ap (λ (ls : List Leaf). ls ++ after) cut ∙ append_assoc first rest after in
       record {
@@ -231,7 +231,7 @@ module _ (rules : Rules) (rows : List Row) (texts : List Candidate) where
         postings_are = s.postings_are ∙ ap (map (postings_of rules rows)) whole;
       }
 
-  stands_rest : (before first rest after : List Leaf) (ps qs : List Postings) → Stands rules rows before first (rest ++ after) texts ps → qs ≡ map (postings_of rules rows) (rest ++ after) → Stands rules rows (before ++ first) rest after texts qs
+  stands_rest : (before first rest after : List Leaf) (ps qs : List Postings) → PostingsBegin rules rows before first (rest ++ after) texts ps → qs ≡ map (postings_of rules rows) (rest ++ after) → PostingsBegin rules rows (before ++ first) rest after texts qs
   stands_rest before first rest after ps qs s e = record {
     ascend = s.ascend;
     texts_are = s.texts_are ∙ ap (λ (ls : List Leaf). map candidate_of (filter (is_looked_into rules ls) rows)) (sym (append_assoc before first (rest ++ after)));
@@ -243,15 +243,15 @@ module _ (rules : Rules) (rows : List Row) (texts : List Candidate) where
 -- the parts so far are those of the terms so far, and the postings that are left those of the terms that are left
 abbrev pub IsBuilding : Rules → List Row → List Leaf → List Candidate → List Term → ℕ → Parts → List Postings → Type 0
 IsBuilding rules rows after texts terms place parts rest =
-    (before : List Leaf) × Stands rules rows before (leaves_from rules terms place) after texts rest × Continues rules rows texts parts (terms_view (drop place terms)) (terms_view terms)
+    (before : List Leaf) × PostingsBegin rules rows before (leaves_from rules terms place) after texts rest × Continues rules rows texts parts (terms_view (drop place terms)) (terms_view terms)
 
 module _ (rules : Rules) (rows : List Row) (after : List Leaf) (texts : List Candidate) (terms : List Term) where
-  pub building_first : (before : List Leaf) (parts : Parts) (ps : List Postings) → parts.required.items ≡ [] → parts.optional.items ≡ [] → parts.excluded.items ≡ [] → Stands rules rows before (leaves_from rules terms 0) after texts ps → IsBuilding rules rows after texts terms 0 parts ps
+  pub building_first : (before : List Leaf) (parts : Parts) (ps : List Postings) → parts.required.items ≡ [] → parts.optional.items ≡ [] → parts.excluded.items ≡ [] → PostingsBegin rules rows before (leaves_from rules terms 0) after texts ps → IsBuilding rules rows after texts terms 0 parts ps
   building_first before parts ps r o e s = (before, s, continues_first rules rows texts parts (terms_view terms) r o e)
 
   pub building_more : (place : ℕ) (d : Term) (old new : Parts) (sign : Sign) (found : Option Part) (ps qs : List Postings) → place < length terms
       → IsBuilding rules rows after texts terms place old ps
-      → ((b a : List Leaf) → Stands rules rows b (map (leaf_of rules) (operands_of (term_view (get_or terms place d)))) a texts ps → Means rules rows texts (term_view (get_or terms place d)) found × (qs ≡ map (postings_of rules rows) a))
+      → ((b a : List Leaf) → PostingsBegin rules rows b (map (leaf_of rules) (operands_of (term_view (get_or terms place d)))) a texts ps → Means rules rows texts (term_view (get_or terms place d)) found × (qs ≡ map (postings_of rules rows) a))
       → sign ≡ sign_of_term (term_view (get_or terms place d)) → Adds sign found old new → IsBuilding rules rows after texts terms (place + 1) new qs
   building_more place d old new sign found ps qs within b step sg added =
       let term = term_view (get_or terms place d) in
@@ -275,22 +275,22 @@ module _ (rules : Rules) (rows : List Row) (after : List Leaf) (texts : List Can
   -- the same, at a term that is given
   pub building_at : (place : ℕ) (t : Term) (old new : Parts) (sign : Sign) (found : Option Part) (ps qs : List Postings) → place < length terms → t ≡ get_or terms place t
       → IsBuilding rules rows after texts terms place old ps
-      → ((b a : List Leaf) → Stands rules rows b (map (leaf_of rules) (operands_of (term_view t))) a texts ps → Means rules rows texts (term_view t) found × (qs ≡ map (postings_of rules rows) a))
+      → ((b a : List Leaf) → PostingsBegin rules rows b (map (leaf_of rules) (operands_of (term_view t))) a texts ps → Means rules rows texts (term_view t) found × (qs ≡ map (postings_of rules rows) a))
       → sign ≡ sign_of_term (term_view t) → Adds sign found old new → IsBuilding rules rows after texts terms (place + 1) new qs
   building_at place t old new sign found ps qs within is b step sg added =
       building_more place t old new sign found ps qs within b
-      (subst (λ (u : Term). (b a : List Leaf) → Stands rules rows b (map (leaf_of rules) (operands_of (term_view u))) a texts ps → Means rules rows texts (term_view u) found × (qs ≡ map (postings_of rules rows) a)) is step)
+      (subst (λ (u : Term). (b a : List Leaf) → PostingsBegin rules rows b (map (leaf_of rules) (operands_of (term_view u))) a texts ps → Means rules rows texts (term_view u) found × (qs ≡ map (postings_of rules rows) a)) is step)
       (subst (λ (u : Term). sign ≡ sign_of_term (term_view u)) is sg) added
 
 -- ---- a term that is one operand
 
 module _ (rules : Rules) (rows : List Row) (before after : List Leaf) (texts : List Candidate) (sign : Sign) (operand : tree.Operand) (term : tree.Term) (is : term ≡ tree.leaf sign operand) where
   pub leaf_step : (ps : List Kept) (first : Kept) (part : Option Part) → 0 < length ps → first ≡ get_or ps 0 first → MeansOperand operand (postings_seen first) part
-      → Stands rules rows before (map (leaf_of rules) (operands_of term)) after texts (map postings_seen ps)
+      → PostingsBegin rules rows before (map (leaf_of rules) (operands_of term)) after texts (map postings_seen ps)
       → Means rules rows texts term part × (map postings_seen (take (length ps - 1) (drop 1 ps)) ≡ map (postings_of rules rows) after)
   leaf_step [] first part some at m s = absurd (omega (arith, some))
   leaf_step (p ∷ ps) first part some at m s =
-      let here : Stands rules rows before (leaf_of rules operand ∷ []) after texts (postings_seen p ∷ map postings_seen ps) = subst (λ (t : tree.Term). Stands rules rows before (map (leaf_of rules) (operands_of t)) after texts (postings_seen p ∷ map postings_seen ps)) is s in
+      let here : PostingsBegin rules rows before (leaf_of rules operand ∷ []) after texts (postings_seen p ∷ map postings_seen ps) = subst (λ (t : tree.Term). PostingsBegin rules rows before (map (leaf_of rules) (operands_of t)) after texts (postings_seen p ∷ map postings_seen ps)) is s in
       let e = here.postings_are in
       let behind : map postings_seen ps ≡ map (postings_of rules rows) after = cc in
       let rest : take (length (p ∷ ps) - 1) ps ≡ ps = take_all (length (p ∷ ps) - 1) ps (omega arith) in (

@@ -7,17 +7,11 @@ use Rattle.fts_meaning.specs.Leaf.{of_words, words_leaf, leaf_of, operands, oper
 use Rattle.fts_query.specs.declared.query.Term.{Term}
 use Rattle.fts_query.specs.declared.view.Leaf.{Leaf}
 use Rattle.fts_query.specs.View.{term_view, terms_view}
-use Rattle.fts_query.specs.Seen.{leaf_seen, leaves_seen}
 
 -- words of which there are some
 pub some_words : (words : List (List ℕ)) → (words ≡ [] → ⊥) → of_words words ≡ words_leaf words
 some_words [] some = absurd (some refl)
 some_words (w ∷ ws) some = refl
-
--- a leaf more
-pub one_listed : (leaves longer : List Leaf) (one : Leaf) (l : leaf.Leaf) → longer ≡ leaves ++ one ∷ [] → leaf_seen one ≡ l → leaves_seen longer ≡ leaves_seen leaves ++ l ∷ []
-one_listed leaves longer one l added seen =
-    ap leaves_seen added ∙ map-append leaf_seen leaves (one ∷ []) ∙ ap (λ (x : leaf.Leaf). leaves_seen leaves ++ x ∷ []) seen
 
 module _ (rules : Rules) (terms : List Term) where
   abbrev pub leaves_from : ℕ → List leaf.Leaf

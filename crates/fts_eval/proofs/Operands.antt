@@ -13,7 +13,7 @@ use Rattle.fts_meaning.specs.Leaf.{Leaf, no_leaf, of_word, of_prefix, of_words, 
 use Rattle.fts_meaning.specs.View.{Candidate, Postings, is_candidate, needs_texts, is_looked_into, candidate_of, postings_of, texts_at, columns_at}
 use Rattle.fts_meaning.proofs.Candidates.{candidate}
 use Rattle.fts_eval.specs.declared.part.Part.{Part}
-use Rattle.fts_eval.specs.Means.{Stands, Means, MeansOperand, operand_says, phrase_says, distance_says, is_dropped}
+use Rattle.fts_eval.specs.Means.{PostingsBegin, Means, MeansOperand, operand_says, phrase_says, distance_says, is_dropped}
 use Rattle.fts_eval.proofs.Meaning.{texts_kept}
 use Rattle.fts_query.proofs.Chosen.{has_where}
 
@@ -129,7 +129,7 @@ operand_stays rules sign (distance words n) = refl
 
 -- the part of an operand means what its term says
 pub leaf_means : (rules : Rules) (rows : List Row) (before after : List Leaf) (texts : List Candidate) (sign : Sign) (operand : Operand) (p : Postings) (ps : List Postings) (part : Option Part)
-    → Stands rules rows before (leaf_of rules operand ∷ []) after texts (p ∷ ps) → MeansOperand operand p part → Means rules rows texts (leaf sign operand) part
+    → PostingsBegin rules rows before (leaf_of rules operand ∷ []) after texts (p ∷ ps) → MeansOperand operand p part → Means rules rows texts (leaf sign operand) part
 leaf_means rules rows before after texts sign operand p ps None s m =
     let here : p ≡ postings_of rules rows (leaf_of rules operand) = (let e = s.postings_are in cc) in
     operand_stays rules sign operand ∙ ap not (ap (λ (q : Postings). is_dropped operand q.leaf) (sym here) ∙ m)

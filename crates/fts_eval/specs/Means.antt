@@ -17,7 +17,7 @@ use Rattle.fts_eval.specs.declared.resolve.Parts.{Parts}
 use Rattle.fts_eval.specs.Says.{says, each_says, some_says}
 
 -- the postings begin with those of some leaves of a query, whose view has these texts
-pub record Stands (rules : Rules) (rows : List Row) (before leaves after : List Leaf) (texts : List Candidate)
+pub record PostingsBegin (rules : Rules) (rows : List Row) (before leaves after : List Leaf) (texts : List Candidate)
     (postings : List Postings) : Type 0 where
   pub ascend : AscendFrom 0 (map (λ row. row.doc) rows)
   pub texts_are : texts ≡ map candidate_of (filter (is_looked_into rules (before ++ (leaves ++ after))) rows)

@@ -7,7 +7,8 @@ ghost use Rattle.fts_meaning.specs.View as meaning_view;
 ghost use Rattle.fts_meaning.specs.Holds.{sign_of_term};
 ghost use Rattle.fts_query.specs.View.{operand_view, term_view, terms_view};
 ghost use Rattle.fts_query.specs.Seen.{postings_seen};
-ghost use Rattle.fts_eval.specs.Means.{Adds, IsGroup, Means, MeansOperand, PartsMean, Stands};
+ghost use Rattle.fts_eval.specs.Means.{Adds, IsGroup, Means, MeansOperand, PartsMean};
+ghost use Rattle.fts_eval.specs.Means.{PostingsBegin};
 ghost use Rattle.fts_eval.specs.Means.{has_parts};
 
 use crate::part::Part;
@@ -124,8 +125,9 @@ fn part_of<'a>(
 ) -> Result<(Option<Part<'a>>, &'a [Postings]), AllocError>
     ensures { IfOk result (λ found. (rules : Rules) (rows : List Row)
         (before after : List meaning_leaf.Leaf) (texts : List meaning_view.Candidate)
-        → Stands rules rows before (map (leaf_of rules) (operands_of (term_view term.now))) after
-        texts (map postings_seen postings.now)
+        → PostingsBegin rules rows before
+        (map (leaf_of rules) (operands_of (term_view term.now))) after texts
+        (map postings_seen postings.now)
         → Means rules rows texts (term_view term.now) found.0
         × (map postings_seen found.1.now ≡ map (meaning_view.postings_of rules rows) after)) }
 {
@@ -150,8 +152,9 @@ pub(crate) fn parts_of<'a>(
 ) -> Result<(Parts<'a>, &'a [Postings]), AllocError>
     ensures { IfOk result (λ found. (rules : Rules) (rows : List Row)
         (before after : List meaning_leaf.Leaf) (texts : List meaning_view.Candidate)
-        → Stands rules rows before (map (leaf_of rules) (operands (terms_view terms.now))) after
-        texts (map postings_seen postings.now)
+        → PostingsBegin rules rows before
+        (map (leaf_of rules) (operands (terms_view terms.now))) after texts
+        (map postings_seen postings.now)
         → PartsMean rules rows texts (terms_view terms.now) found.0
         × (map postings_seen found.1.now ≡ map (meaning_view.postings_of rules rows) after)) }
 {

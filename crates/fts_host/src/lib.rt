@@ -14,6 +14,10 @@
 //!
 //! The last three count the errors that the system gave, up to `2^64 - 1`, answer `Failed` for
 //! each, and keep the first of them, with the file or stream at which it came, as a `Refusal`.
+//!
+//! `let (rows, index) = HostDisk::pair(alloc, rt.clone()?, rt.clone()?, "shop")?;` makes both
+//! devices of the folder `shop`, and touches nothing yet; `StdSource::new(rt.stdin())` makes the
+//! source. A call costs one of the system, and the first of a file those that open and lock it.
 #![tactic(auto)]
 
 mod disk;

@@ -17,11 +17,6 @@ uniting_first a b f g = record {
   same = λ id. refl;
 }
 
--- ids ascend from their first on
-pub from_first : (xs : List ℕ) (n m : ℕ) → AscendFrom n xs → 0 < length xs → m ≤ get_or xs 0 0 → AscendFrom m xs
-from_first [] n m f some le = absurd (omega (arith, some))
-from_first (x ∷ xs) n m f some le = (le, f.1)
-
 head_at_least : (xs : List ℕ) (n : ℕ) → AscendFrom n xs → 0 < length xs → n ≤ get_or xs 0 0
 head_at_least [] n f some = absurd (omega (arith, some))
 head_at_least (x ∷ xs) n f some = f.0

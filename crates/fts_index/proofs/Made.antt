@@ -2,7 +2,6 @@
 use Rattle.std.proofs.Common.{◌≡◌, ℕ, ◌<◌, ◌≤◌, List, [], ◌∷◌, ◌++◌, append-nil, map, nat_eq, refl, sym, ap₂, subst, ◌∙◌, arith}
 use Rattle.std.specs.List.{All, IsDistinct}
 use Rattle.std.proofs.lemmas.Grind.{flat_map-append}
-use Rattle.std.proofs.lemmas.List.Elements.{All-from_recursion}
 use Rattle.fts_words.specs.Indexed.{Rules}
 use Rattle.fts_types.specs.Row.{Row, row_of}
 use Rattle.fts_types.specs.declared.row.Row.{Row as Kept}
@@ -104,13 +103,6 @@ module _ (rules : Rules) (last : ℕ) (dead : List ℕ) (old new : Index) (made 
 
 pub no_births : (last : ℕ) → AreBirths last last []
 no_births last = record { ids = omega arith; rows = λ k d less. absurd (omega (arith, less)) }
-
--- one in which one alone dies
-pub made_without : (rules : Rules) (last id : ℕ) (old new : Index) (made : IsMade rules last [] old) → id ≤ last
-    → StandsFor rules (made.turns ++ turn_of [] (id ∷ []) last ∷ []) made.state new → IsMade rules last (id ∷ []) new
-unfolding IsDistinct
-made_without rules last id old new made low stands =
-    made_more rules last [] old new made [] (id ∷ []) last (no_births last) (All-from_recursion (λ (n : ℕ). n ≤ last) (id ∷ []) (low, tt)) (tt, tt) stands
 
 -- births that are lent
 pub lent : (last largest : ℕ) (rows births : List Kept) → births ≡ rows → AreBirths last largest (map row_of rows) → AreBirths last largest (map row_of births)

@@ -142,13 +142,6 @@ impl Lines {
         self.given
     }
 
-    /// How many bytes were taken from the source.
-    pub fn taken(&self) -> u64
-        ensures { result ≡ taken_by self.now }
-    {
-        self.taken
-    }
-
     /// Reads into the buffer where it is empty.
     fn fill<S: Source>(&mut self, source: &mut S) -> Filled
         ensures filled { HasFilled result self.new }

@@ -71,10 +71,6 @@ module _ (all rest next : List Docs) (docs : Docs) (step : rest ≡ docs ∷ nex
     put = subst (λ (xs : List ℕ). Puts xs old new (at + m)) (sym (one_more all rest next docs step w.passes)) (puts_both (flat w.passes.done) old now at (omega (arith, here, room)) w.put (list_payload docs) sub new m put new_is);
   }
 
--- at the end all are written
-pub all_written : (all : List Docs) (old now : List ℕ) (at : ℕ) → IsWriting all [] old now at → Puts (flat all) old now at
-all_written all old now at w = subst (λ (ns : List Docs). Puts (flat ns) old now at) (sym (append-nil w.passes.done) ∙ w.passes.parts) w.put
-
 -- the place is within the buffer
 pub place_within : (all rest : List Docs) (old now : List ℕ) (at : ℕ) → IsWriting all rest old now at → length (flat all) ≤ length old → at ≤ length now
 place_within all rest old now at w room =

@@ -3,6 +3,10 @@
 //! The definitions stand in `specs/Listing.antt`: what a view lists is a relation between the
 //! commits, the state of the index and a [`Listing`], which has one solution. A listing keeps each
 //! word once, with the position lists of its documents; `fts_schema` prints it row by row.
+//!
+//! `engine.listing(ListingKind::Deleted)?` gives a `NumberedListing`, whose listing is
+//! `Listing::Ids` of the documents in DELETED. A listing holds a copy of what it lists, and costs
+//! that.
 #![tactic(auto)]
 
 mod kind;

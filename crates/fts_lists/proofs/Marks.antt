@@ -1,8 +1,7 @@
 -- Marks beside ids.
-use Rattle.std.proofs.Common.{◌≡◌, ℕ, ◌+◌, ◌<◌, ◌≤◌, Bool, true, false, ◌||◌, ◌&&◌, not, List, [], ◌∷◌, ◌++◌, length, take, set, get_or, cond, nat_eq, refl, sym, ap, subst, ◌∙◌, ⊎_elim, arith}
-use Rattle.std.proofs.lemmas.Bool.{cases_eq, cases_lt, eq-eqb, ne_eqb}
-use Rattle.std.proofs.lemmas.List.{length-append, get_or-set_other, get_or_append_left}
-use Rattle.std.proofs.Math.Seq.{get_or-append_seam}
+use Rattle.std.proofs.Common.{◌≡◌, ℕ, ◌+◌, ◌<◌, Bool, true, false, ◌||◌, ◌&&◌, not, List, length, take, set, get_or, cond, refl, sym, ap, ◌∙◌, ⊎_elim, arith}
+use Rattle.std.proofs.lemmas.Bool.{cases_eq, eq-eqb, ne_eqb}
+use Rattle.std.proofs.lemmas.List.{get_or-set_other}
 use Rattle.std.proofs.lemmas.Grind.{get_or-set_at}
 use Rattle.fts_ids.specs.Ids.{has}
 use Rattle.fts_ids.specs.Marks.{is_marked}
@@ -36,26 +35,6 @@ set_one first marks ids k id m lt within same =
     (λ (e : id ≡ x). get_or-set_at marks x id m false e within ∙ sym (ap (λ b. cond b m (is_marked first id)) (more_is ids k id lt e)))
     (λ (o : id ≡ x → ⊥). get_or-set_other marks x id m false o ∙ same ∙ sym (ap (λ b. cond b m (is_marked first id)) (more_other ids k id lt o)))
     (cases_eq id x)
-
--- one that has no mark changes nothing
-pub set_none : (first marks : List Bool) (ids : List ℕ) (k id : ℕ) (m : Bool) → k < length ids → id < get_or ids k 0
-    → is_marked marks id ≡ cond (has (take k ids) id) m (is_marked first id)
-    → is_marked marks id ≡ cond (has (take (k + 1) ids) id) m (is_marked first id)
-set_none first marks ids k id m lt below same =
-    same ∙ sym (ap (λ b. cond b m (is_marked first id)) (more_other ids k id lt (λ e. omega (arith, e, below))))
-
--- a mark more, for the next number
-pub marks_more : (marks more : List Bool) (ids : List ℕ) (m : Bool) → AreMarked marks ids → m ≡ has ids (length marks) → more ≡ marks ++ m ∷ [] → AreMarked more ids
-marks_more marks more ids m are is pushed id lt =
-    let long : length (marks ++ m ∷ []) ≡ length marks + 1 = length-append marks (m ∷ []) in
-    ap (λ ms. is_marked ms id) pushed
-    ∙ ⊎_elim
-    (λ (before : id < length marks). get_or_append_left marks (m ∷ []) false id before ∙ are id before)
-    (λ (behind : length marks ≤ id).
-    let last : id ≡ length marks = omega (arith, behind, lt, ap length pushed, long) in
-    subst (λ q. is_marked (marks ++ m ∷ []) q ≡ has ids q) (sym last)
-    (get_or-append_seam marks m [] false ∙ is))
-    (cases_lt id (length marks))
 
 put_is : (a b c : Bool) → c ≡ a → cond b true c ≡ (a || b)
 put_is true true c e = refl

@@ -1,7 +1,7 @@
 -- A payload in the bytes of a frame.
 use Rattle.std.proofs.Common.{◌≡◌, ℕ, ◌-◌, ◌≤◌, List, [], ◌∷◌, ◌++◌, length, drop, refl, sym, ◌∙◌, ap, length-append, arith}
 use Rattle.std.specs.Prelude.{slice_set}
-use Rattle.std.proofs.lemmas.List.{take_at, take-append-drop, length-drop, length-take-le, set-append_right}
+use Rattle.std.proofs.lemmas.List.{take-append-drop, length-drop, length-take-le, set-append_right}
 use Rattle.std.specs.Int.{w32, to_be_bytes}
 use Rattle.fts_log.specs.Framing.{staged, inner}
 
@@ -9,10 +9,6 @@ set_one : (xs : List ℕ) → length xs ≡ 1 → slice_set xs 0 0 ≡ 0 ∷ []
 set_one [] one = absurd (omega arith)
 set_one (x ∷ []) one = refl
 set_one (x ∷ y ∷ xs) one = absurd (omega arith)
-
--- the payload of a frame
-pub inner_staged : (payload : List ℕ) → inner (staged payload) ≡ payload
-inner_staged payload = take_at payload (0 ∷ []) (length (staged payload) - 5) (omega (arith, length-append payload (0 ∷ [])))
 
 -- the length written over the first four bytes, and a closed gate over the last
 pub staged_around : (old mid new : List ℕ) (last count : ℕ) → 5 ≤ length old → last ≡ length old - 1 → count ≡ last - 4

@@ -34,6 +34,10 @@ count_of log = log.count
 abbrev pub end_of : {D : Type 0} {disk : Ghosts D} → Log D disk → ℕ
 end_of log = log.end
 
+-- how many bytes the frame of a payload has: its length and a closed gate are around it
+abbrev pub framed_size : List ℕ → ℕ
+framed_size payload = length payload + 5
+
 -- the end after an append of the frame: an open gate, a length of four bytes and the payload come before the closed
 -- gate
 abbrev pub end_after : {D : Type 0} {disk : Ghosts D} → Log D disk → Framed → ℕ

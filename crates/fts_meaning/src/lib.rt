@@ -3,7 +3,8 @@
 //!
 //! The definitions are in `specs/`: `+apple -"apple pie"` is a list of two terms, and holds in a
 //! row that has the word and not the phrase. This crate has the types that they are about, and the
-//! law that a text without a fault has one tree.
+//! laws that a text without a fault has one tree and that a leaf's candidates are enough, which a
+//! caller cites as `candidates_are_enough();` and which cost nothing.
 #![tactic(auto)]
 
 mod laws;

@@ -5,7 +5,7 @@ use Rattle.std.proofs.lemmas.List.Elements.{filter-append}
 use Rattle.std.specs.Prelude.{MatchOption, Option, Some, None}
 use Rattle.std.specs.Borrow.{Bor}
 use Rattle.fts_types.specs.Row.{Row, row_of}
-use Rattle.fts_types.specs.declared.row.Row.{Row as Kept}
+use Rattle.fts_types.specs.declared.row.Row.{Row as HeldRow}
 use Rattle.fts_commits.specs.Commit.{Rows, with_key, without_key}
 use Rattle.fts_commits.specs.Turn.{Turn, RowsAscend, has_doc, rows_but, rows_by}
 use Rattle.fts_rows.specs.Plan.{Fits, HaveKeysOnce, is_among, with_death}
@@ -43,7 +43,7 @@ of_rows key rows turn row gone one is =
     by false = refl
 
 -- a row that is found among those that came is found among all, where these have the same rows of the key
-pub found_in : (news all : List Row) (found : Option (Bor Kept)) → all ≡ news → MatchOption found (news ≡ []) (λ row. news ≡ row_of row.now ∷ [])
+pub found_in : (news all : List Row) (found : Option (Bor HeldRow)) → all ≡ news → MatchOption found (news ≡ []) (λ row. news ≡ row_of row.now ∷ [])
     → MatchOption found (all ≡ []) (λ row. (others : List Row) × (all ≡ row_of row.now ∷ others))
 found_in news all None same none = same ∙ none
 found_in news all (Some row) same one = ([], same ∙ one)

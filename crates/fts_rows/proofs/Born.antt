@@ -1,7 +1,7 @@
 -- What comes of one row that is born.
 use Rattle.std.proofs.Common.{◌≡◌, ℕ, ◌<◌, false, List, [], ◌∷◌, ◌++◌, map, ap, ◌∙◌}
 use Rattle.fts_types.specs.Row.{Row, row_of}
-use Rattle.fts_types.specs.declared.row.Row.{Row as Kept}
+use Rattle.fts_types.specs.declared.row.Row.{Row as HeldRow}
 use Rattle.fts_commits.specs.Commit.{Rows, has_key, with_key}
 use Rattle.fts_commits.specs.Turn.{Turn, RowsAscend, rows_by}
 use Rattle.fts_rows.specs.Plan.{Fits, HaveKeysOnce, IsTurnOf, after_row}
@@ -14,10 +14,10 @@ use Rattle.fts_rows.proofs.Turning.{turned}
 abbrev pub turn_with : Row → Turn
 turn_with row = record { births = row ∷ []; deaths = []; largest = row.doc }
 
-pub born_is : (kept : Kept) (births : List Kept) (deaths : List ℕ) (plan : Turn) → plan ≡ record { births = map row_of births; deaths = deaths; largest = kept.doc }
+pub born_is : (kept : HeldRow) (births : List HeldRow) (deaths : List ℕ) (plan : Turn) → plan ≡ record { births = map row_of births; deaths = deaths; largest = kept.doc }
     → births ≡ kept ∷ [] → deaths ≡ [] → plan ≡ turn_with (row_of kept)
 born_is kept births deaths plan made one none =
-    made ∙ ap (λ (rows : List Kept). let t : Turn = record { births = map row_of rows; deaths = deaths; largest = kept.doc } in t) one
+    made ∙ ap (λ (rows : List HeldRow). let t : Turn = record { births = map row_of rows; deaths = deaths; largest = kept.doc } in t) one
     ∙ ap (λ (ids : List ℕ). let t : Turn = record { births = row_of kept ∷ []; deaths = ids; largest = kept.doc } in t) none
 
 pub one_leads : (rows : Rows) (row : Row) → rows_by rows (turn_with row) ≡ after_row rows row

@@ -8,7 +8,7 @@ use Rattle.std.specs.Prelude.{MatchOption}
 use Rattle.std.specs.Borrow.{Bor}
 use Rattle.std.specs.Option.{option_copied}
 use Rattle.fts_types.specs.Row.{Row, row_of}
-use Rattle.fts_types.specs.declared.row.Row.{Row as Kept}
+use Rattle.fts_types.specs.declared.row.Row.{Row as HeldRow}
 use Rattle.fts_commits.specs.Commit.{has_key, with_key, without_key}
 use Rattle.fts_commits.specs.Turn.{RowsAscend}
 use Rattle.fts_rows.specs.Rows.{row_with_key, row_with_id, without_id}
@@ -178,12 +178,12 @@ only_one [] doc found e is = absurd (omega (arith, ap length e))
 only_one (row ∷ []) doc found e is = subst (λ (f : Option Row). MatchOption f (row ∷ [] ≡ []) (λ r. row ∷ [] ≡ r ∷ [])) (sym is) refl
 only_one (row ∷ other ∷ rows) doc found e is = absurd (omega (arith, ap length e))
 
-copied : (rows : List Row) (found : Option (Bor Kept)) → MatchOption (option_map row_of (option_copied found)) (rows ≡ []) (λ row. rows ≡ row ∷ []) → MatchOption found (rows ≡ []) (λ row. rows ≡ row_of row.now ∷ [])
+copied : (rows : List Row) (found : Option (Bor HeldRow)) → MatchOption (option_map row_of (option_copied found)) (rows ≡ []) (λ row. rows ≡ row ∷ []) → MatchOption found (rows ≡ []) (λ row. rows ≡ row_of row.now ∷ [])
 copied rows None only = only
 copied rows (Some row) only = only
 
 -- the row that an id leads to, to which a key led, is the only one of the key
-pub led_only : (key doc high : ℕ) (rows : List Row) (found : Option (Bor Kept)) → RowsAscend 0 high rows → docs (with_key key rows) ≡ doc ∷ [] → option_map row_of (option_copied found) ≡ row_with_id doc rows
+pub led_only : (key doc high : ℕ) (rows : List Row) (found : Option (Bor HeldRow)) → RowsAscend 0 high rows → docs (with_key key rows) ≡ doc ∷ [] → option_map row_of (option_copied found) ≡ row_with_id doc rows
     → MatchOption found (with_key key rows ≡ []) (λ row. with_key key rows ≡ row_of row.now ∷ [])
 led_only key doc high rows found ids one is =
     copied (with_key key rows) found (only_one (with_key key rows) doc (option_map row_of (option_copied found)) one (is ∙ led_found key doc 0 high rows ids one ∙ found_first key rows))

@@ -7,7 +7,7 @@ use Rattle.std.proofs.lemmas.List.Folds.{list_any-append}
 use Rattle.std.specs.Prelude.{MatchOption, is_some}
 use Rattle.std.specs.Borrow.{Bor}
 use Rattle.fts_types.specs.Row.{Row, row_of}
-use Rattle.fts_types.specs.declared.row.Row.{Row as Kept}
+use Rattle.fts_types.specs.declared.row.Row.{Row as HeldRow}
 use Rattle.fts_commits.specs.Commit.{has_key, with_key, without_key}
 use Rattle.fts_commits.specs.Turn.{RowsAscend}
 use Rattle.fts_rows.specs.Rows.{row_with_id, without_id}
@@ -44,7 +44,7 @@ none_behind key rows more none = second (has_key key rows) (has_key key more) (s
     second false b e = e
 
 -- whether a row of the key was found
-pub found_has : (key : ℕ) (rows : List Row) (found : Option (Bor Kept)) → MatchOption found (with_key key rows ≡ []) (λ row. (others : List Row) × (with_key key rows ≡ row_of row.now ∷ others))
+pub found_has : (key : ℕ) (rows : List Row) (found : Option (Bor HeldRow)) → MatchOption found (with_key key rows ≡ []) (λ row. (others : List Row) × (with_key key rows ≡ row_of row.now ∷ others))
     → is_some found ≡ has_key key rows
 found_has key rows None none = sym (none_has key rows none)
 found_has key rows (Some row) some = sym (some_has key rows (row_of row.now) some.0 some.1)

@@ -2,14 +2,14 @@
 use Rattle.std.specs.Prelude.{◌≡◌, ℕ, ◌<◌, ◌≤◌, List, [], ◌∷◌, length, map, flat_map, Option, Some, None}
 use Rattle.fts_types.specs.Row.{Row, row_of}
 use Rattle.fts_commits.specs.Commit.{with_key}
-use Rattle.fts_types.specs.declared.row.Row.{Row as Kept}
+use Rattle.fts_types.specs.declared.row.Row.{Row as HeldRow}
 
 -- slots: document ids, each with its row, or with none where it was taken out
 abbrev pub Slots : Type 0
-Slots = List (ℕ × Option Kept)
+Slots = List (ℕ × Option HeldRow)
 
 -- the row in a slot, if there is one
-abbrev pub row_in : Option Kept → List Row
+abbrev pub row_in : Option HeldRow → List Row
 row_in None = []
 row_in (Some row) = row_of row ∷ []
 
@@ -18,7 +18,7 @@ abbrev pub rows_in : Slots → List Row
 rows_in slots = flat_map (λ slot. row_in slot.1) slots
 
 -- the row in a slot has its id
-abbrev pub IsAt : ℕ → Option Kept → Type 0
+abbrev pub IsAt : ℕ → Option HeldRow → Type 0
 IsAt doc None = Unit {0}
 IsAt doc (Some row) = row.doc ≡ doc
 

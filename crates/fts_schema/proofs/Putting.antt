@@ -5,10 +5,10 @@ use Rattle.std.proofs.lemmas.List.{append_assoc, append-nil, length-append}
 use Rattle.fts_schema.specs.Listing.{lines}
 use Rattle.fts_schema.specs.Reply.{ids_text}
 use Rattle.fts_schema.specs.Rows.{Puts}
-use Rattle.fts_schema.specs.declared.rows.Rows.{Rows}
+use Rattle.fts_schema.specs.declared.rows.RowLines.{RowLines}
 
 -- so far all rows but the rest were written behind those at the start
-pub record IsPutting (start now : Rows) (rest all : List (List ℕ)) : Type 0 where
+pub record IsPutting (start now : RowLines) (rest all : List (List ℕ)) : Type 0 where
   pub text : now.text.items ++ lines rest ≡ start.text.items ++ lines all
   pub count : now.count + length rest ≡ start.count + length all
 
@@ -18,11 +18,11 @@ lines-append (row ∷ rows) more =
     ap (λ (text : List ℕ). (row ++ 10 ∷ []) ++ text) (lines-append rows more) ∙ sym (append_assoc (row ++ 10 ∷ []) (lines rows) (lines more))
 
 -- it begins with all of them
-pub begins : (start : Rows) (all : List (List ℕ)) → IsPutting start start all all
+pub begins : (start : RowLines) (all : List (List ℕ)) → IsPutting start start all all
 begins start all = record { text = refl; count = refl }
 
 -- some more are written
-pub goes_on : (start now next : Rows) (piece rest all : List (List ℕ)) → IsPutting start now (piece ++ rest) all → Puts now next piece → IsPutting start next rest all
+pub goes_on : (start now next : RowLines) (piece rest all : List (List ℕ)) → IsPutting start now (piece ++ rest) all → Puts now next piece → IsPutting start next rest all
 goes_on start now next piece rest all is puts = record {
   text = ap (λ (text : List ℕ). text ++ lines rest) puts.text ∙ append_assoc now.text.items (lines piece) (lines rest)
       ∙ ap (λ (text : List ℕ). now.text.items ++ text) (sym (lines-append piece rest)) ∙ is.text;
@@ -30,7 +30,7 @@ goes_on start now next piece rest all is puts = record {
 }
 
 -- and ends with none
-pub ends : (start now : Rows) (all : List (List ℕ)) → IsPutting start now [] all → Puts start now all
+pub ends : (start now : RowLines) (all : List (List ℕ)) → IsPutting start now [] all → Puts start now all
 ends start now all is = record {
   text = sym (append-nil now.text.items) ∙ is.text;
   count = let count = is.count in omega (arith, count);
@@ -45,7 +45,7 @@ five a b c d e before at1 at2 at3 at4 after is1 is2 is3 is4 is5 =
     ∙ append_assoc before a (b ++ (c ++ (d ++ e)))
 
 -- rows are written, and then more
-pub puts_both : (old mid new : Rows) (rows more : List (List ℕ)) → Puts old mid rows → Puts mid new more → Puts old new (rows ++ more)
+pub puts_both : (old mid new : RowLines) (rows more : List (List ℕ)) → Puts old mid rows → Puts mid new more → Puts old new (rows ++ more)
 puts_both old mid new rows more first later = record {
   text = later.text ∙ ap (λ (text : List ℕ). text ++ lines more) first.text ∙ append_assoc old.text.items (lines rows) (lines more)
       ∙ ap (λ (text : List ℕ). old.text.items ++ text) (sym (lines-append rows more));

@@ -9,7 +9,7 @@ ghost use Rattle.fts_schema.specs.Listing.{listing_text as the_listing_text};
 ghost use Rattle.fts_schema.specs.Rows.{Puts};
 ghost use Rattle.fts_words.specs.Stopwords.{default_stopwords};
 
-use crate::rows::{Rows, push_field};
+use crate::rows::{RowLines, push_field};
 use fts_ilist::{Document, Node, WordNodes};
 use fts_listing::{Config, Listing};
 use fts_stopwords::default_words;
@@ -23,7 +23,7 @@ use std::alloc::{AllocError, Global};
 pub fn listing_text(alloc: Global, number: u64, listing: &Listing) -> Result<Vec<u8>, AllocError>
     ensures { IfOk result (λ text. text.items ≡ the_listing_text number listing.now) }
 {
-    let mut rows = Rows::begun(alloc, header_of(listing))?;
+    let mut rows = RowLines::begun(alloc, header_of(listing))?;
     put_listing(&mut rows, alloc, listing)?;
     rows.closed(number)
 }
@@ -40,7 +40,7 @@ fn header_of(listing: &Listing) -> &'static str
     }
 }
 
-fn put_listing(rows: &mut Rows, alloc: Global, listing: &Listing) -> Result<(), AllocError>
+fn put_listing(rows: &mut RowLines, alloc: Global, listing: &Listing) -> Result<(), AllocError>
     ensures { OnOk result (Puts rows.old rows.new (rows_of listing.now)) }
 {
     match listing {
@@ -51,7 +51,7 @@ fn put_listing(rows: &mut Rows, alloc: Global, listing: &Listing) -> Result<(), 
     }
 }
 
-fn put_words(rows: &mut Rows, alloc: Global, words: &[WordNodes]) -> Result<(), AllocError>
+fn put_words(rows: &mut RowLines, alloc: Global, words: &[WordNodes]) -> Result<(), AllocError>
     ensures { OnOk result (Puts rows.old rows.new (words_rows words.now)) }
 {
     for word in words {
@@ -60,7 +60,7 @@ fn put_words(rows: &mut Rows, alloc: Global, words: &[WordNodes]) -> Result<(), 
     Ok(())
 }
 
-fn put_word(rows: &mut Rows, alloc: Global, word: &WordNodes) -> Result<(), AllocError>
+fn put_word(rows: &mut RowLines, alloc: Global, word: &WordNodes) -> Result<(), AllocError>
     ensures { OnOk result (Puts rows.old rows.new (word_rows word.now)) }
 {
     for group in word.nodes() {
@@ -69,7 +69,12 @@ fn put_word(rows: &mut Rows, alloc: Global, word: &WordNodes) -> Result<(), Allo
     Ok(())
 }
 
-fn put_group(rows: &mut Rows, alloc: Global, word: &[u8], group: &Node) -> Result<(), AllocError>
+fn put_group(
+    rows: &mut RowLines,
+    alloc: Global,
+    word: &[u8],
+    group: &Node,
+) -> Result<(), AllocError>
     ensures { OnOk result (Puts rows.old rows.new (group_rows word.now group.now)) }
 {
     let front = group_front(alloc, word, group)?;
@@ -91,7 +96,7 @@ fn group_front(alloc: Global, word: &[u8], group: &Node) -> Result<Vec<u8>, Allo
     Ok(front)
 }
 
-fn put_document(rows: &mut Rows, front: &[u8], document: &Document) -> Result<(), AllocError>
+fn put_document(rows: &mut RowLines, front: &[u8], document: &Document) -> Result<(), AllocError>
     ensures { OnOk result (Puts rows.old rows.new (document_rows front.now document.now)) }
 {
     for position in document.positions() {
@@ -100,7 +105,7 @@ fn put_document(rows: &mut Rows, front: &[u8], document: &Document) -> Result<()
     Ok(())
 }
 
-fn put_ids(rows: &mut Rows, ids: &[DocId]) -> Result<(), AllocError>
+fn put_ids(rows: &mut RowLines, ids: &[DocId]) -> Result<(), AllocError>
     ensures { OnOk result (Puts rows.old rows.new (map decimal ids.now)) }
 {
     for id in ids {
@@ -109,7 +114,7 @@ fn put_ids(rows: &mut Rows, ids: &[DocId]) -> Result<(), AllocError>
     Ok(())
 }
 
-fn put_config(rows: &mut Rows, config: &Config) -> Result<(), AllocError>
+fn put_config(rows: &mut RowLines, config: &Config) -> Result<(), AllocError>
     ensures { OnOk result (Puts rows.old rows.new (config_rows config.now)) }
 {
     rows.put_number("max_token_size", u64::from(config.max))?;
@@ -136,13 +141,13 @@ fn switch_text(on: bool) -> &'static [u8]
     if on { b"1" } else { b"0" }
 }
 
-fn put_stopwords(rows: &mut Rows) -> Result<(), AllocError>
+fn put_stopwords(rows: &mut RowLines) -> Result<(), AllocError>
     ensures { OnOk result (Puts rows.old rows.new default_stopwords) }
 {
     put_texts(rows, default_words())
 }
 
-fn put_texts(rows: &mut Rows, texts: &[&str]) -> Result<(), AllocError>
+fn put_texts(rows: &mut RowLines, texts: &[&str]) -> Result<(), AllocError>
     ensures { OnOk result (Puts rows.old rows.new (map (λ text. text.now) texts.now)) }
 {
     for text in texts {

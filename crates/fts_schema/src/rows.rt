@@ -8,22 +8,22 @@ use std::alloc::{AllocError, Global};
 
 /// Rows of one table.
 #[derive(Drop)]
-pub struct Rows {
+pub struct RowLines {
     /// Their lines, behind that of the columns' names.
     pub text: Vec<u8>,
     /// How many rows there are.
     pub count: u64,
 }
 
-impl Rows {
+impl RowLines {
     /// No row yet: the line of the columns' names alone.
-    pub fn begun(alloc: Global, header: &str) -> Result<Rows, AllocError>
+    pub fn begun(alloc: Global, header: &str) -> Result<RowLines, AllocError>
         ensures text { IfOk result (λ rows. rows.text.items ≡ header.now ++ 10 ∷ []) }
         ensures count { IfOk result (λ rows. rows.count ≡ 0) }
     {
         let mut text = Vec::from_slice(alloc, header.as_bytes())?;
         text.push(b'\n')?;
-        Ok(Rows { text, count: 0 })
+        Ok(RowLines { text, count: 0 })
     }
 
     /// Writes a row.
@@ -73,7 +73,7 @@ impl Rows {
         ensures { IfOk result
             (λ text. text.items ≡ self.text.items ++ closing self.count number) }
     {
-        let Rows { mut text, count } = self;
+        let RowLines { mut text, count } = self;
         push_closing(&mut text, count, number)?;
         Ok(text)
     }

@@ -152,12 +152,6 @@ one_session line (Some a) (Some b) (some, inl is) (some2, inr none) = absurd (no
 one_session line (Some a) (Some b) (some, inr none) (some2, inl is2) = absurd (none.1 b is2)
 one_session line (Some a) (Some b) (some, inr none) (some2, inr none2) = ap Some (none.0 ∙ sym none2.0)
 
--- the session of a line, by its tokens
-pub session_tokens : (line : List ℕ) (session : ℕ) (tokens : List Placed) (ending : Ending) → IsSession line (Some session) → Reads 1 line tokens ending
-    → session ≡ session_in (tokens_in tokens)
-session_tokens line session tokens ending (some, inl is) reads = numbered_tokens line session tokens ending is reads
-session_tokens line session tokens ending (some, inr none) reads = none.0 ∙ bare_tokens line tokens ending none.1 reads
-
 -- where a line's first pieces are these, a number in front of it is the first
 
 record Fronts (line before text digits behind between rest : List ℕ) : Type 0 where

@@ -5,6 +5,10 @@
 //! have. The definitions stand in `specs/`; the crate has the types of the answers of a commit (its
 //! number, or a [`CommitError`]), of a batch ([`SyncBatch`]) and of a step of OPTIMIZE
 //! ([`OptimizeStep`]), or an [`IndexError`].
+//!
+//! Behind three commits `engine.sync_batch()?` may answer
+//! `SyncBatch::Flushed { through: 2, commits: 3 }`: the words of the first two are in the tables.
+//! An answer is a number or two, and takes no memory.
 #![tactic(auto)]
 
 mod commit;

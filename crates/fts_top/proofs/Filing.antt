@@ -18,7 +18,7 @@ use Rattle.fts_top.specs.declared.ends.RunEnd.TheVariants as end
 use Rattle.fts_top.specs.declared.ends.Unsent.{Unsent}
 use Rattle.fts_top.specs.declared.ends.Unsent.TheVariants as unsent
 use Rattle.fts_top.specs.Generate.{Tells, Generates}
-use Rattle.fts_top.specs.Run.{Sides, Front, Reads, Stops, Outcome}
+use Rattle.fts_top.specs.Run.{Sides, Front, ReadsToEnd, Stops, Outcome}
 use Rattle.fts_top.specs.Talk.{Talks}
 use Rattle.fts_top.specs.Once.{Devices, devices_of, Disks, disks_of, disk_faults, device_sight}
 use Rattle.fts_top.proofs.Crashing.{crash_behind}
@@ -78,7 +78,7 @@ module _ {S : Type 0} (sight : Sight S) (single : sight.is_shared ≡ false) (se
         looked.index (front.index single told sure));
   }
 
-  abbrev reads_on : (met : Health) → Reads sight met start script before now → Reads (device_sight both settings limits) met start script begun done
+  abbrev reads_on : (met : Health) → ReadsToEnd sight met start script before now → ReadsToEnd (device_sight both settings limits) met start script begun done
   reads_on met reads = record { front = front_on true [] reads.front; whole = reads.whole; met_is = reads.met_is; empty = reads.empty }
 
   abbrev stops_on : (n : ℕ) → Stops sight start script n before now → Stops (device_sight both settings limits) start script n begun done

@@ -17,7 +17,7 @@ use Rattle.fts_top.specs.Batches.{MakesSteps}
 use Rattle.fts_top.specs.Health.{health_of, health_of_steps, worse, end_of, read_end}
 use Rattle.fts_top.specs.Sessions.{Met, Speaks, Serves}
 use Rattle.fts_top.specs.Talk.{AreBatches, most_behind}
-use Rattle.fts_top.specs.Run.{MayCrash, MayCrashIndex, Sides, Stays, Front, IsWhole, IsCut, Reads, IsDone, OneLine, Outcome}
+use Rattle.fts_top.specs.Run.{MayCrash, MayCrashIndex, Sides, Stays, Front, IsWhole, IsCut, ReadsToEnd, IsDone, OneLine, Outcome}
 use Rattle.fts_steps.proofs.Adding.{grows, stays_sure, adds}
 use Rattle.fts_top.proofs.Crashing.{crash_more, index_crash_more}
 use Rattle.fts_top.proofs.Health.{failed_before, failed_now, counted_more, counted_reply}
@@ -178,7 +178,7 @@ module _ {S : Type 0} (sight : Sight S) (start : Running) (script : List Line) w
       (subst (λ (s : List Met). OneLine sight (Ok now_met) ahead behind s left middle now) (sym far.sessions_are) turn) worst one
 
   -- the script was read to its end
-  read : (met : Health) (before now : Sides S) → Reads sight met start script before now → Outcome sight (read_end met) start script before now
+  read : (met : Health) (before now : Sides S) → ReadsToEnd sight met start script before now → Outcome sight (read_end met) start script before now
   read Sound before now reads = reads
   read Short before now reads = reads
   read Failed before now reads = reads

@@ -8,7 +8,7 @@ use Rattle.fts_sessions.specs.declared.session.Session.{Session}
 use Rattle.fts_sessions.specs.Transaction.{FitsTable}
 use Rattle.fts_top.specs.declared.sessions.Sessions.{Sessions}
 use Rattle.fts_top.specs.Sessions.{Met, met, is_met, open_in, leaving}
-use Rattle.fts_top.specs.Kept.{met_of, mets_of, mets, AreKept, IsPlace, IsOneMore}
+use Rattle.fts_top.specs.Kept.{met_of, mets_of, mets, AreKept, IsPlace}
 
 -- 16 sessions at most
 pub kept_few : (sessions : Sessions) → AreKept sessions → length (mets sessions) ≤ 16
@@ -74,13 +74,6 @@ at_end [] number new none is closed = record {
 at_end (one ∷ sessions) number new none is closed =
     let parts = or_parts (one.number == number) (is_met (mets_of sessions) number) none in
     later_place one (mets_of sessions) (sessions ++ new ∷ []) number (length sessions) parts.0 (at_end sessions number new parts.1 is closed)
-
--- one more than there may be
-pub too_many : (sessions : Sessions) (number : ℕ) → AreKept sessions → 16 ≤ length sessions.sessions.items → is_met (mets sessions) number ≡ false → IsOneMore (mets sessions) number
-too_many sessions number kept more none = record {
-  unmet = none;
-  many = let few = kept.few in let same = length-map sessions.sessions.items met_of in omega (arith, few, more, same);
-}
 
 -- a session was changed at its place
 pub changed : (old : List Met) (number place : ℕ) (new : List Session) (d one : Session) → IsPlace old number place new → one.number ≡ (slice_index_or new place d).number

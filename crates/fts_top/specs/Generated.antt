@@ -13,14 +13,14 @@ use Rattle.fts_top.specs.declared.status.Status.{Status}
 use Rattle.fts_top.specs.declared.status.Status.TheVariants as status
 use Rattle.fts_top.specs.Ends.{status_of_opening}
 use Rattle.fts_top.specs.Generate.{script_of, Generates}
-use Rattle.fts_top.specs.Once.{SinkSeen, Devices, Disks, DisksTell, Holds, disk_faults, device_sight, Unopened}
+use Rattle.fts_top.specs.Once.{SinkSeen, Devices, Disks, DisksTell, DisksHold, disk_faults, device_sight, Unopened}
 use Rattle.fts_top.specs.Run.{sides}
 
 -- the script of a number was executed on the database that the opening found, and ended so
 pub record Generated {D E : Type 0} (disks : Disks D E) (seed statements : ℕ) (end : Result Health Unsent)
     (sink sink' : SinkSeen) (before after : Devices D E) : Type 0 where
-  pub found : DisksTell disks → (state : State) × Holds disks state before
-  pub outcome : IsTrue sink.tells → DisksTell disks → (start : State) → Holds disks start before → IsRight start
+  pub found : DisksTell disks → (state : State) × DisksHold disks state before
+  pub outcome : IsTrue sink.tells → DisksTell disks → (start : State) → DisksHold disks start before → IsRight start
       → Generates (device_sight disks start.settings standard_limits) end statements (opened start)
       (script_of start.settings seed statements) (sides [] sink.held before) (sides [] sink'.held after)
   pub fault : IsOk end → CountsFault (end ≡ Ok Failed) (disk_faults disks before) (disk_faults disks after)

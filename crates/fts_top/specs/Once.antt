@@ -89,8 +89,8 @@ abbrev pub DisksTell : {D E : Type 0} → Disks D E → Type 0
 DisksTell disks = IsTrue disks.rows.tells × IsTrue disks.index.tells
 
 -- the two logs are those of the database
-abbrev pub Holds : {D E : Type 0} → Disks D E → State → Devices D E → Type 0
-Holds disks state here = IsDatabase state (file_of disks.rows here.rows) (file_of disks.index here.index)
+abbrev pub DisksHold : {D E : Type 0} → Disks D E → State → Devices D E → Type 0
+DisksHold disks state here = IsDatabase state (file_of disks.rows here.rows) (file_of disks.index here.index)
 
 -- a run seen from outside: the devices in place of the steps
 abbrev pub seen_from : {D E : Type 0} → Outside D E → Sides (Devices D E)
@@ -114,9 +114,9 @@ device_sight {D} {E} disks settings limits = record {
 -- search need not find what a scan does
 pub record Executed {D E : Type 0} (disks : Disks D E) (limits : Limits) (end : RunEnd) (before after : Outside D E)
     : Type 0 where
-  pub found : DisksTell disks → (state : State) × Holds disks state before.devices
+  pub found : DisksTell disks → (state : State) × DisksHold disks state before.devices
   pub outcome : IsTrue before.source.tells → IsTrue before.sink.tells → DisksTell disks
-      → (start : State) → Holds disks start before.devices → IsRight start
+      → (start : State) → DisksHold disks start before.devices → IsRight start
       → Outcome (device_sight disks start.settings limits) end (opened start) (lines_of before.source.left)
       (seen_from before) (seen_from after)
   pub whole : IsRead end → IsTrue before.source.tells → length before.source.left ≤ 2 ^ 40
@@ -159,7 +159,7 @@ created_text = codes "OK created" ++ 10 ∷ []
 -- a database without commits was made where none was created, and a crash leaves it. Its index is right
 pub record Made {D E : Type 0} (disks : Disks D E) (settings : Settings) (before after : Devices D E) : Type 0 where
   pub fresh : IsCreated (file_of disks.rows before.rows) → ⊥
-  pub database : Holds disks (created_with settings) after
+  pub database : DisksHold disks (created_with settings) after
   pub right : IsRight (created_with settings)
   pub rows : Only (disks.rows.seen after.rows) (disks.rows.images after.rows)
   pub index : Only (disks.index.seen after.index) (disks.index.images after.index)
@@ -219,7 +219,7 @@ CanFinish disks words before =
     ((settings : Settings) × Asks words (Create settings) × IsTrue disks.rows.tells
     × (IsCreated (file_of disks.rows before.devices.rows) → ⊥))
     ⊎ ((Asks words Run × IsTrue before.source.tells × DisksTell disks
-    × ((state : State) × Holds disks state before.devices) × (length before.source.left ≤ 2 ^ 40)
+    × ((state : State) × DisksHold disks state before.devices) × (length before.source.left ≤ 2 ^ 40)
     × HasFewSessions (lines_of before.source.left))
     ⊎ (((seed : ℕ) × (statements : ℕ) × Asks words (Gen seed statements)) × DisksTell disks
-    × ((state : State) × Holds disks state before.devices)))
+    × ((state : State) × DisksHold disks state before.devices)))

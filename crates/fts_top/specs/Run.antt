@@ -94,7 +94,7 @@ abbrev pub Begun : ℕ → List Line → List ℕ → Type 0
 Begun n ahead left = (kept : List ℕ) × (length kept ≡ n) × OnlyBegun ahead (kept ++ left)
 
 -- the script was read to its end, and its lines met this
-pub record Reads {S : Type 0} (sight : Sight S) (met : Health) (start : Running) (script : List Line)
+pub record ReadsToEnd {S : Type 0} (sight : Sight S) (met : Health) (start : Running) (script : List Line)
     (before after : Sides S) : Type 0 where
   pub front : Front sight start true script [] before after
   pub whole : IsWhole front.replies front.text
@@ -148,9 +148,9 @@ pub record Crowds {S : Type 0} (sight : Sight S) (start : Running) (script : Lis
 
 -- what a run has done with these lines, by its end
 abbrev pub Outcome : {S : Type 0} → Sight S → RunEnd → Running → List Line → Sides S → Sides S → Type 0
-Outcome sight end.Done start script before after = Reads sight health.Sound start script before after
-Outcome sight end.ShortOfMemory start script before after = Reads sight health.Short start script before after
-Outcome sight end.DiskFault start script before after = Reads sight health.Failed start script before after
+Outcome sight end.Done start script before after = ReadsToEnd sight health.Sound start script before after
+Outcome sight end.ShortOfMemory start script before after = ReadsToEnd sight health.Short start script before after
+Outcome sight end.DiskFault start script before after = ReadsToEnd sight health.Failed start script before after
 Outcome sight end.ReadFault start script before after = Stops sight start script 0 before after
 Outcome sight (end.ScriptTooLong lines bytes) start script before after =
     (stops : Stops sight start script 1 before after) × (lines ≡ length stops.front.lines)

@@ -4,7 +4,7 @@ ghost use Rattle.fts_faults.specs.Count.{CountsFault};
 ghost use Rattle.fts_types.specs.declared.settings.Settings.{Settings};
 ghost use Rattle.fts_types.specs.Settings.{AreSettings};
 ghost use Rattle.fts_types.specs.Limits.{standard_limits};
-ghost use Rattle.fts_args.specs.Asked.{Asks};
+ghost use Rattle.fts_args.specs.Asked.{AskNothing, Asks};
 ghost use Rattle.fts_args.specs.declared.command.Command.{Command};
 ghost use Rattle.fts_engine.specs.Bounds.{AreWithin};
 ghost use Rattle.fts_top.specs.Generated.{GenEnds};
@@ -107,9 +107,8 @@ pub fn fts_once<I: Source, O: Sink, D: Disk, E: Disk, G: Gate>(
     gate: &G,
 ) -> (Status, D, E)
     // The words that ask for nothing.
-    ensures usage { result.0 ≡ Status.Usage
-        → (command : Command) → Asks (map string_bytes words.now) command → ⊥ }
-    ensures unasked { ((command : Command) → Asks (map string_bytes words.now) command → ⊥)
+    ensures usage { result.0 ≡ Status.Usage → AskNothing (map string_bytes words.now) }
+    ensures unasked { AskNothing (map string_bytes words.now)
         → ((result.0 ≡ Status.Usage) ⊎ (result.0 ≡ Status.NoMemory))
         × (input.new ≡ input.old) × (out.new ≡ out.old)
         × (result.1 ≡ rows) × (result.2 ≡ index) }

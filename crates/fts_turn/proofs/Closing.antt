@@ -7,7 +7,7 @@ use mathlib.Core.Option.{some, some-injective}
 use lib.ListN.{get_elem?}
 use Rattle.atomic_table.specs.Table.{State, Joins}
 use Rattle.fts_turn.specs.declared.seat.Seat.{Seat}
-use Rattle.fts_turn.specs.declared.turn.Turn.{Turn}
+use Rattle.fts_turn.specs.declared.turn.Turns.{Turns}
 use Rattle.fts_turn.specs.declared.view.Account.{Account}
 use Rattle.fts_turn.specs.declared.view.Stage.{Stage}
 use Rattle.fts_turn.specs.declared.view.Stage.TheVariants.{Rests, Waits, HasTurn}
@@ -22,7 +22,7 @@ use Rattle.fts_turn.proofs.Parts.{joins}
 use Rattle.fts_turn.proofs.Seats.{Numbered-at}
 
 -- of the seats in their order, those behind were taken in by one seat, and those in front were not
-pub record IsGathering {T E : Type 0} (turn : Turn T E) (seats front : List (Seat T E)) (all : Seat T E) : Type 0 where
+pub record IsGathering {T E : Type 0} (turn : Turns T E) (seats front : List (Seat T E)) (all : Seat T E) : Type 0 where
   pub behind : List (Seat T E)
   pub parts : seats ≡ front ++ behind
   pub some_behind : 0 < length behind
@@ -32,7 +32,7 @@ pub record IsGathering {T E : Type 0} (turn : Turn T E) (seats front : List (Sea
   pub accounts : AreAccountsOf (length front) all.inside.me.0.accounts behind
   pub made : all.inside.me.0.next_number ≡ seats_of turn
 
-module _ {T E : Type 0} (turn : Turn T E) (seats : List (Seat T E)) (count : length seats ≡ seats_of turn) (numbered : Numbered (IsSeat turn) 0 seats) where
+module _ {T E : Type 0} (turn : Turns T E) (seats : List (Seat T E)) (count : length seats ≡ seats_of turn) (numbered : Numbered (IsSeat turn) 0 seats) where
   -- one seat's account, in front of others
   accounts_with : (k : ℕ) (seat : Seat T E) (accounts : List (Account T E)) (behind : List (Seat T E)) → IsSeat turn k seat → AreAccountsOf (suc k) accounts behind → AreAccountsOf k (seat.inside.me.0.accounts ++ accounts) (seat ∷ behind)
   accounts_with k seat accounts behind is told =
@@ -126,7 +126,7 @@ module _ {T E : Type 0} (by : E → ℕ) (start : T) (history : List E) (made : 
       let own = (subst (AreTrueAccounts by start history made holder j) fit.one true_).0 in
       (fit.account.number, own.number, own.held)
 
-module _ {T E : Type 0} (stands_for : T → T → List E → Type 0) (at_first : T → ℕ) (by : E → ℕ) (turn : Turn T E) (seats : List (Seat T E)) (all : Seat T E) (count : length seats ≡ seats_of turn) (some_seats : 0 < seats_of turn) (g : IsGathered turn seats all) where
+module _ {T E : Type 0} (stands_for : T → T → List E → Type 0) (at_first : T → ℕ) (by : E → ℕ) (turn : Turns T E) (seats : List (Seat T E)) (all : Seat T E) (count : length seats ≡ seats_of turn) (some_seats : 0 < seats_of turn) (g : IsGathered turn seats all) where
   -- at the end the value is at home, and stands for the whole history
   pub ends : (s : State (Option T) (View T E)) → keeps_rule stands_for at_first by (opening_of turn) s → get_elem? s.views all.inside.id ≡ some all.inside.me.0 → (value : T) × (get_elem? s.homes 0 ≡ some (some (Some value))) × HasWholeHistory stands_for by turn seats value
   ends s r at =

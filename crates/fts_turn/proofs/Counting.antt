@@ -4,7 +4,7 @@ use Rattle.std.proofs.lemmas.List.Sums.{sum_by-cons}
 use mathlib.Core.Logic.{dite}
 use native.Mathlib.Decide.{ℕ_discrete, dec_lt}
 use Rattle.fts_turn.specs.declared.seat.Seat.{Seat}
-use Rattle.fts_turn.specs.declared.turn.Turn.{Turn}
+use Rattle.fts_turn.specs.declared.turn.Turns.{Turns}
 use Rattle.fts_turn.specs.Histories.{entries_by, NoneFrom}
 use Rattle.fts_turn.specs.Promises.{seat_gave, seats_of, IsToldBy, Numbered, HasWholeHistory}
 
@@ -66,7 +66,7 @@ module _ {E : Type 0} (by : E → ℕ) where
       let rest = counted_by_seats history (suc k) seats told.1 in
       omega (arith, sum_by-cons (λ (s : Seat T E). length (seat_gave s)) seat seats)
 
-pub length-of_whole : {T E : Type 0} (stands_for : T → T → List E → Type 0) (by : E → ℕ) (turn : Turn T E) (seats : List (Seat T E)) (value : T) → length seats ≡ seats_of turn → (whole : HasWholeHistory stands_for by turn seats value) → length whole.history ≡ sum_by (λ (seat : Seat T E). length (seat_gave seat)) seats
+pub length-of_whole : {T E : Type 0} (stands_for : T → T → List E → Type 0) (by : E → ℕ) (turn : Turns T E) (seats : List (Seat T E)) (value : T) → length seats ≡ seats_of turn → (whole : HasWholeHistory stands_for by turn seats value) → length whole.history ≡ sum_by (λ (seat : Seat T E). length (seat_gave seat)) seats
 length-of_whole stands_for by turn seats value count whole =
     counted_all by (seats_of turn) whole.history whole.no_others
     ∙ ap (λ n. count_from by 0 n whole.history) (sym count)

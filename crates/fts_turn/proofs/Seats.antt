@@ -5,7 +5,7 @@ use lib.ListN.{get_elem?}
 use Rattle.atomic_table.specs.Table.{Splits, opening}
 use Rattle.fts_turn.specs.declared.TheConstants.{MOST_SEATS}
 use Rattle.fts_turn.specs.declared.seat.Seat.{Seat}
-use Rattle.fts_turn.specs.declared.turn.Turn.{Turn}
+use Rattle.fts_turn.specs.declared.turn.Turns.{Turns}
 use Rattle.fts_turn.specs.declared.view.View.{View}
 use Rattle.fts_turn.specs.Rule.{Fits}
 use Rattle.fts_turn.specs.Steps.{Seated}
@@ -30,7 +30,7 @@ Numbered-front P k [] ys all = tt
 Numbered-front P k (x ∷ xs) ys all = (all.0, Numbered-front P (suc k) xs ys all.1)
 
 -- a seat that was used and rests again is at its place
-pub same_place : {T E : Type 0} (turn : Turn T E) (number : ℕ) (old new : Seat T E) → IsSeat turn number old → IsAtRest turn new → IsSameSeat old new → IsSeat turn number new
+pub same_place : {T E : Type 0} (turn : Turns T E) (number : ℕ) (old new : Seat T E) → IsSeat turn number old → IsAtRest turn new → IsSameSeat old new → IsSeat turn number new
 same_place turn number old new is rest same = record { rest = rest; number_is = same.number ∙ is.number_is; last = λ e. same.makes ∙ is.last e; others = λ e. same.makes ∙ is.others e }
 
 module _ {T E : Type 0} (stands_for : T → T → List E → Type 0) (at_first : T → ℕ) (by : E → ℕ) (start : T) where
@@ -59,7 +59,7 @@ module _ {T E : Type 0} (stands_for : T → T → List E → Type 0) (at_first :
           record { accounts = (record { origin = refl; held = refl; number = omega arith; seen = ([], refl); gave = refl }, tt); stage = tt; makes = λ _. (refl, refl) }
       each (suc j) v at = absurd (some-ne-none v (sym at))
 
-module _ {T E : Type 0} (turn : Turn T E) (number : ℕ) (seat : Seat T E) (maker : IsMaker turn number seat) where
+module _ {T E : Type 0} (turn : Turns T E) (number : ℕ) (seat : Seat T E) (maker : IsMaker turn number seat) where
   pub may_split : (stands_for : T → T → List E → Type 0) (at_first : T → ℕ) (by : E → ℕ) → suc number < seats_of turn → seats_of turn ≤ MOST_SEATS → Splits (keeps_rule stands_for at_first by (opening_of turn)) seat.inside.id seat.inside.me.0 (kept_part seat.inside.me.0) (new_part seat.inside.me.0)
   may_split stands_for at_first by more limit =
       let next = maker.next in
@@ -119,7 +119,7 @@ pub opens_as : {T E : Type 0} (stands_for : T → T → List E → Type 0) (at_f
 opens_as stands_for at_first by start value count slots same is counted few begins = subst (λ s. keeps_rule stands_for at_first by s (opening (0 ∷ 0 ∷ count ∷ []) slots (first_view s))) (sym same) (opens stands_for at_first by value count slots is counted few begins)
 
 -- the first seat is to make the others
-pub first_is_maker : {T E : Type 0} (turn : Turn T E) (seat : Seat T E) (start : T) → seat.inside.table_id ≡ turn.table.shared.table_id → seat.inside.me ≡ (first_view start, []) → start ≡ opening_of turn → IsMaker turn 0 seat
+pub first_is_maker : {T E : Type 0} (turn : Turns T E) (seat : Seat T E) (start : T) → seat.inside.table_id ≡ turn.table.shared.table_id → seat.inside.me ≡ (first_view start, []) → start ≡ opening_of turn → IsMaker turn 0 seat
 first_is_maker {T} {E} turn seat start table is same =
     let accounts = ap (λ (x : Seated T E). x.0.accounts) is in
     let next = ap (λ (x : Seated T E). x.0.next_number) is in

@@ -2,7 +2,7 @@
 use Rattle.std.proofs.Common.{◌≡◌, ℕ, ◌+◌, ◌^◌, ◌%◌, ◌<◌, List, [], ◌∷◌, ◌++◌, length, Option, Some, None, sym, ap, ◌∙◌, subst}
 use Rattle.atomic_table.specs.Table.{Allows, rest}
 use Rattle.fts_turn.specs.declared.seat.Seat.{Seat}
-use Rattle.fts_turn.specs.declared.turn.Turn.{Turn}
+use Rattle.fts_turn.specs.declared.turn.Turns.{Turns}
 use Rattle.fts_turn.specs.declared.view.Account.{Account}
 use Rattle.fts_turn.specs.Histories.{AllBy}
 use Rattle.fts_turn.specs.Views.{waiting, adding}
@@ -17,7 +17,7 @@ put_in {T} {E} a added value m m1 m2 one holds raised put =
     let there : m1 ≡ (adding m.0 a added, (0, None) ∷ []) = e ∙ ap (λ (cs : List (ℕ × Option T)). (adding m.0 a added, cs)) holds in
     put ∙ ap (λ (x : Seated T E). (x.0, (0, Some value) ∷ rest x.1)) there
 
-module _ {T E : Type 0} (stands_for : T → T → List E → Type 0) (at_first : T → ℕ) (by : E → ℕ) (turn : Turn T E) (seat : Seat T E) where
+module _ {T E : Type 0} (stands_for : T → T → List E → Type 0) (at_first : T → ℕ) (by : E → ℕ) (turn : Turns T E) (seat : Seat T E) where
   pub may_raise : (slots n : ℕ) (value : T) (added : List E) → HasItsTurn turn seat → length added ≡ n → AllBy by (seat_number seat) added → at_first (opening_of turn) + length (seat_seen seat ++ added) < 2 ^ 63 → Allows (keeps_rule stands_for at_first by (opening_of turn)) slots seat.inside.id seat.inside.me 2 (λ k. (k + n) % 2 ^ 64) (λ _. Raises added seat.inside.me)
   may_raise slots n value added has many all few =
       let at = has.at in
@@ -78,7 +78,7 @@ module _ {T E : Type 0} (stands_for : T → T → List E → Type 0) (at_first :
 pub taken_first : {T : Type 0} (cs ds : List (ℕ × Option T)) (y : ℕ × Option T) → cs ≡ y ∷ ds → cs ≡ y ∷ rest cs
 taken_first {T} cs ds y e = e ∙ sym (ap (λ (l : List (ℕ × Option T)). y ∷ rest l) e)
 
-module _ {T E : Type 0} (stands_for : T → T → List E → Type 0) (by : E → ℕ) (turn : Turn T E) (old drawn served new : Seat T E) (ticket : ℕ) where
+module _ {T E : Type 0} (stands_for : T → T → List E → Type 0) (by : E → ℕ) (turn : Turns T E) (old drawn served new : Seat T E) (ticket : ℕ) where
   -- a seat that rested drew a ticket, was served, and has the turn once the value is out of the slot
   pub has_turn_after : IsAtRest turn old → Draws old.inside.me ticket drawn.inside.me → (at : IsServedAt stands_for by ticket drawn served) → new.inside.table_id ≡ turn.table.shared.table_id → new.inside.me ≡ (served.inside.me.0, (0, None) ∷ rest served.inside.me.1) → HasItsTurn turn new
   has_turn_after resting_ drew at table out =

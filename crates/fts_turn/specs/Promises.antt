@@ -2,7 +2,7 @@
 use Rattle.std.specs.Prelude.{◌≡◌, ℕ, suc, ◌+◌, ◌^◌, ◌<◌, List, [], ◌∷◌, None}
 use Rattle.fts_turn.specs.declared.seat.Seat.{Seat}
 use Rattle.fts_turn.specs.declared.TheConstants.{MOST_SEATS}
-use Rattle.fts_turn.specs.declared.turn.Turn.{Turn}
+use Rattle.fts_turn.specs.declared.turn.Turns.{Turns}
 use Rattle.fts_turn.specs.declared.view.Account.{Account}
 use Rattle.fts_turn.specs.declared.view.Stage.TheVariants.{Rests, Waits, HasTurn}
 use Rattle.fts_turn.specs.Histories.{Begins, entries_by, NoneFrom}
@@ -38,28 +38,28 @@ module _ {T E : Type 0} where
   seat_turns seat = seat.inside.me.0.turns
 
   -- how many seats a turn has
-  abbrev pub seats_of : Turn T E → ℕ
+  abbrev pub seats_of : Turns T E → ℕ
   seats_of turn = turn.seats
 
   -- the value that a turn was made with
-  abbrev pub opening_of : Turn T E → T
+  abbrev pub opening_of : Turns T E → T
   opening_of turn = turn.table.shared.key.value
 
   -- a seat at this turn, which stands for itself alone
-  pub record IsSeatAt (turn : Turn T E) (seat : Seat T E) : Type 0 where
+  pub record IsSeatAt (turn : Turns T E) (seat : Seat T E) : Type 0 where
     pub table : seat.inside.table_id ≡ turn.table.shared.table_id
     pub account : Account T E
     pub one : seat.inside.me.0.accounts ≡ account ∷ []
     pub origin : account.origin ≡ opening_of turn
 
   -- it has no ticket and doesn't hold the value
-  pub record IsAtRest (turn : Turn T E) (seat : Seat T E) : Type 0 where
+  pub record IsAtRest (turn : Turns T E) (seat : Seat T E) : Type 0 where
     pub at : IsSeatAt turn seat
     pub rests : seat.inside.me.0.stage ≡ Rests
     pub holds_nothing : seat.inside.me.1 ≡ []
 
   -- it has the turn, and the value was handed out
-  pub record HasItsTurn (turn : Turn T E) (seat : Seat T E) : Type 0 where
+  pub record HasItsTurn (turn : Turns T E) (seat : Seat T E) : Type 0 where
     pub at : IsSeatAt turn seat
     pub ticket : ℕ
     pub has : seat.inside.me.0.stage ≡ HasTurn ticket
@@ -78,14 +78,14 @@ module _ {T E : Type 0} where
     pub turns : seat_turns seat ≡ 0
 
   -- the seat with this number at the turn, at rest
-  pub record IsSeat (turn : Turn T E) (number : ℕ) (seat : Seat T E) : Type 0 where
+  pub record IsSeat (turn : Turns T E) (number : ℕ) (seat : Seat T E) : Type 0 where
     pub rest : IsAtRest turn seat
     pub number_is : seat_number seat ≡ number
     pub last : suc number ≡ seats_of turn → seat.inside.me.0.next_number ≡ seats_of turn
     pub others : suc number < seats_of turn → seat.inside.me.0.next_number ≡ 0
 
   -- the seat with this number, never used, which is to make those after it
-  pub record IsMaker (turn : Turn T E) (number : ℕ) (seat : Seat T E) : Type 0 where
+  pub record IsMaker (turn : Turns T E) (number : ℕ) (seat : Seat T E) : Type 0 where
     pub rest : IsAtRest turn seat
     pub number_is : seat_number seat ≡ number
     pub next : seat.inside.me.0.next_number ≡ suc number
@@ -93,7 +93,7 @@ module _ {T E : Type 0} where
     pub unused : IsUnused seat
 
   -- it waits with this ticket
-  pub record IsWaiting (turn : Turn T E) (ticket : ℕ) (seat : Seat T E) : Type 0 where
+  pub record IsWaiting (turn : Turns T E) (ticket : ℕ) (seat : Seat T E) : Type 0 where
     pub at : IsSeatAt turn seat
     pub waits : seat.inside.me.0.stage ≡ Waits ticket
     pub holds_nothing : seat.inside.me.1 ≡ []
@@ -126,7 +126,7 @@ AreAccountsOf k (a ∷ accounts) (seat ∷ seats) = (a.number ≡ k) × (a.seen 
     × AreAccountsOf (suc k) accounts seats
 
 -- one seat, at rest, with the accounts of all
-pub record IsGathered {T E : Type 0} (turn : Turn T E) (seats : List (Seat T E)) (all : Seat T E) : Type 0 where
+pub record IsGathered {T E : Type 0} (turn : Turns T E) (seats : List (Seat T E)) (all : Seat T E) : Type 0 where
   pub table : all.inside.table_id ≡ turn.table.shared.table_id
   pub rests : all.inside.me.0.stage ≡ Rests
   pub holds_nothing : all.inside.me.1 ≡ []
@@ -134,7 +134,7 @@ pub record IsGathered {T E : Type 0} (turn : Turn T E) (seats : List (Seat T E))
   pub made : all.inside.me.0.next_number ≡ seats_of turn
 
 -- the value at the end stands for one history, which has the entries of these seats and no others
-pub record HasWholeHistory {T E : Type 0} (stands_for : T → T → List E → Type 0) (by : E → ℕ) (turn : Turn T E)
+pub record HasWholeHistory {T E : Type 0} (stands_for : T → T → List E → Type 0) (by : E → ℕ) (turn : Turns T E)
     (seats : List (Seat T E)) (value : T) : Type 0 where
   pub history : List E
   pub stands : stands_for (opening_of turn) value history

@@ -48,7 +48,7 @@ impl Historied for Counter {
 }
 
 // Raises the counter by one, unless it is full.
-fn raise_once<R: Wait>(rt: &R, turn: &Turn<Counter>, seat: &mut Seat<Counter>)
+fn raise_once<R: Wait>(rt: &R, turn: &Turns<Counter>, seat: &mut Seat<Counter>)
     requires { IsAtRest turn.now seat.old }
     ensures rest { IsAtRest turn.now seat.new }
     ensures same { IsSameSeat seat.old seat.new }
@@ -66,7 +66,7 @@ fn raise_once<R: Wait>(rt: &R, turn: &Turn<Counter>, seat: &mut Seat<Counter>)
 // The same, many times.
 fn raise_often<R: Wait>(
     rt: &R,
-    turn: &Turn<Counter>,
+    turn: &Turns<Counter>,
     mut seat: Seat<Counter>,
     times: u32,
 ) -> Seat<Counter>
@@ -84,7 +84,7 @@ fn raise_often<R: Wait>(
 // All seats raise it at once, each in a thread of its own.
 fn raise_together<R: Threads + Wait + Sync>(
     rt: &R,
-    turn: &Turn<Counter>,
+    turn: &Turns<Counter>,
     mut seats: Vec<Seat<Counter>>,
     times: u32,
 ) -> Vec<Seat<Counter>>
@@ -117,7 +117,7 @@ fn raise_together<R: Threads + Wait + Sync>(
 // it sees.
 fn raise_elsewhere<R: Threads + Wait + Sync>(
     rt: &R,
-    turn: &Turn<Counter>,
+    turn: &Turns<Counter>,
     mut seat: Seat<Counter>,
 ) -> Seat<Counter>
     requires { IsAtRest turn.now seat }
@@ -140,7 +140,7 @@ fn raise_elsewhere<R: Threads + Wait + Sync>(
 }
 
 // The count at the end is the count at first and all raises that the seats gave.
-fn total(turn: Turn<Counter>, seats: Vec<Seat<Counter>>) -> u64
+fn total(turn: Turns<Counter>, seats: Vec<Seat<Counter>>) -> u64
     requires count { length seats.items ≡ seats_of turn }
     requires seats { Numbered (IsSeat turn) 0 seats.items }
     ensures { result ≡ (opening_of turn).count + sum_by (λ seat. length (seat_gave seat))
@@ -160,14 +160,14 @@ fn counted<R: Threads + Wait + Sync>(
     requires { (first < 2 ^ 62) × (0 < threads) × (threads ≤ 18) }
     ensures { IfSome result (λ n. first ≤ n) }
 {
-    let (turn, seats) = Turn::make(alloc, Counter { count: first }, threads).ok()?;
+    let (turn, seats) = Turns::make(alloc, Counter { count: first }, threads).ok()?;
     let seats = raise_together(rt, &turn, seats, times);
     Some(total(turn, seats))
 }
 
 // One seat raises it three times, once of them in another thread.
 fn counted_elsewhere<R: Threads + Wait + Sync>(rt: &R, alloc: Global) -> Option<u64> {
-    let (turn, mut seats) = Turn::make(alloc, Counter { count: 0 }, 1).ok()?;
+    let (turn, mut seats) = Turns::make(alloc, Counter { count: 0 }, 1).ok()?;
     let seat = seats.pop()?;
     let seat = raise_elsewhere(rt, &turn, seat);
     append(&mut seats, seat);

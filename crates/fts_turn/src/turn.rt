@@ -30,7 +30,7 @@ const LAST_TICKET: u64 = 1 << 63;
 ///
 /// Contracts see how many seats it has, and the value that it was made with.
 #[derive(Drop)]
-pub struct Turn<T: Historied> {
+pub struct Turns<T: Historied> {
     table: Table<Option<T>, View<T, T::Entry>, Snapshot<T>, InTurn, Global>,
     seats: usize,
     ghost some: { 0 < seats },
@@ -38,7 +38,7 @@ pub struct Turn<T: Historied> {
     ghost slots: { table.shared.table_id.slots ≡ 1 },
 }
 
-impl<T: Historied> Turn<T> {
+impl<T: Historied> Turns<T> {
     ghost use Rattle.fts_turn.specs.Histories.{Begins, entries_by, AllBy};
     ghost use Rattle.fts_turn.specs.Promises.{seat_number, seat_gave, seat_seen, seat_turns};
     ghost use Rattle.fts_turn.specs.Promises.{seats_of, opening_of, IsAtRest, HasItsTurn};
@@ -49,7 +49,7 @@ impl<T: Historied> Turn<T> {
     /// 18 seats.
     ///
     /// At `Err` there was no memory, and the value comes back.
-    pub fn make(alloc: Global, value: T, seats: usize) -> Result<(Turn<T>, Vec<Seat<T>>), T>
+    pub fn make(alloc: Global, value: T, seats: usize) -> Result<(Turns<T>, Vec<Seat<T>>), T>
         requires seats { (0 < seats) × (seats ≤ MOST_SEATS) }
         requires begins { T.stands_for value value [] }
 
@@ -64,13 +64,13 @@ impl<T: Historied> Turn<T> {
         let Ok(row) = Vec::with_capacity(alloc, seats) else {
             return Err(value);
         };
-        let (turn, first) = Turn::alone(alloc, value, seats)?;
+        let (turn, first) = Turns::alone(alloc, value, seats)?;
         let all = turn.deal(first, row);
         Ok((turn, all))
     }
 
     // The turn with its first seat, which is to make the others.
-    fn alone(alloc: Global, value: T, seats: usize) -> Result<(Turn<T>, Seat<T>), T>
+    fn alone(alloc: Global, value: T, seats: usize) -> Result<(Turns<T>, Seat<T>), T>
         requires seats { 0 < seats }
         requires begins { T.stands_for value value [] }
         ensures turn { IfOk result (λ r. (seats_of r.0 ≡ seats) × (opening_of r.0 ≡ value)) }
@@ -81,7 +81,7 @@ impl<T: Historied> Turn<T> {
         let count = value.count_at_first();
         let slots = slot_of(alloc, value)?;
         match Table::new(alloc, &[0, 0, count], slots, &about) {
-            Ok((table, inside)) => Ok((Turn { table, seats }, Seat { inside })),
+            Ok((table, inside)) => Ok((Turns { table, seats }, Seat { inside })),
             Err(Refused { slots }) => Err(value_of(slots)),
         }
     }
@@ -188,7 +188,7 @@ impl<T: Historied> Turn<T> {
         ensures { HasWholeHistory T.stands_for T.by self seats.items result }
     {
         let all = self.gather(seats);
-        let Turn { table, seats: _ } = self;
+        let Turns { table, seats: _ } = self;
         let mut closed = table.close_with(all.inside);
         let value = closed.take(VALUE);
         closed.free();

@@ -1,7 +1,8 @@
 //! What the words of a text are: raw words, indexed words, and where they stand in a row.
 //!
 //! The definitions are in `specs/`: in `it's 'ok'` the raw words are `it's` and `ok`. This crate
-//! has the types that they are about, [`Span`] and [`PlacedWord`], and the laws that hold of them.
+//! has the types that they are about, [`Span`] and [`PlacedWord`], and the laws that hold of them,
+//! which a caller cites as `raw_words_are_exact();` and which cost nothing.
 #![tactic(auto)]
 
 mod laws;

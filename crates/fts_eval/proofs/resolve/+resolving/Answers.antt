@@ -5,7 +5,7 @@ use Rattle.fts_query.specs.declared.query.Term.{Term}
 use Rattle.fts_query.specs.View.{operand_view, term_view, terms_view}
 use Rattle.fts_query.specs.Seen.{postings_seen}
 use Rattle.fts_query.proofs.Views.{term_view-Group}
-use Rattle.fts_eval.specs.Means.{Means, Stands}
+use Rattle.fts_eval.specs.Means.{Means, PostingsBegin}
 use Rattle.fts_eval.proofs.Building.{building_at, building_all, leaf_step, group_means}
 use Rattle.fts_eval.proofs.resolve.+resolving.Goals as goal
 
@@ -22,7 +22,7 @@ part_of-returns-in_ok-parts-in-Group t c =
     let terms = c.as_slice.result.now in
     let parts = c.in_ok-parts-in-Group.parts in
     let is : term_view c.args.term.now ≡ tree.group sign (terms_view terms) = ap term_view c.in-Group.is ∙ term_view-Group sign c.in-Group.terms ∙ ap (λ (ts : List Term). tree.group sign (terms_view ts)) (sym c.as_slice.ensures.value) in
-    let r = c.in_ok-parts-in-Group.ensures rules rows before after texts (subst (λ (u : tree.Term). Stands rules rows before (map (leaf_of rules) (operands_of u)) after texts (map postings_seen c.args.postings.now)) is s) in
+    let r = c.in_ok-parts-in-Group.ensures rules rows before after texts (subst (λ (u : tree.Term). PostingsBegin rules rows before (map (leaf_of rules) (operands_of u)) after texts (map postings_seen c.args.postings.now)) is s) in
     (subst (λ (u : tree.Term). Means rules rows texts u c.into_group.result) (sym is) (group_means rules rows texts sign (terms_view terms) parts c.into_group.result r.0 c.into_group.ensures), r.1)
 
 pub parts_of-loop-term-preserved : goal.parts_of-loop-term-preserved

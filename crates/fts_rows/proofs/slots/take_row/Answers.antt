@@ -1,7 +1,7 @@
 use Rattle.std.proofs.Common.{ℕ, Option, option_map, nat_eq, sym, ap, subst, ◌∙◌}
 use Rattle.std.specs.Map.{set_value}
 use Rattle.indexmap.specs.IndexMap.{IndexMap}
-use Rattle.fts_types.specs.declared.row.Row.{Row as Kept}
+use Rattle.fts_types.specs.declared.row.Row.{Row as HeldRow}
 use Rattle.fts_types.specs.Row.{row_of}
 use Rattle.fts_rows.specs.Slots.{Slots, AreSlots, rows_in}
 use Rattle.fts_rows.proofs.Ids.{none_out}
@@ -9,7 +9,7 @@ use Rattle.fts_rows.proofs.Slotted.{row_found, located, slots-emptied, rows-empt
 use Rattle.fts_rows.proofs.slots.take_row.Goals as goal
 
 abbrev SlotMap : Type 0 → Type 0
-SlotMap S = IndexMap ℕ (Option Kept) S
+SlotMap S = IndexMap ℕ (Option HeldRow) S
 
 pub returns-in-Some-clause-row : goal.returns-in-Some-clause-row
 returns-in-Some-clause-row c = λ high are. ap (option_map row_of) c.take.ensures.value ∙ ap row_found c.in-Some.ensures.value ∙ located 0 high c.args.doc c.args.slots.now.entries are

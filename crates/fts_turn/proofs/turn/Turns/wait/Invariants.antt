@@ -1,5 +1,5 @@
 use Rattle.std.proofs.Common.{◌≡◌}
-use Rattle.fts_turn.proofs.turn.Turn.wait.Given as goal
+use Rattle.fts_turn.proofs.turn.Turns.wait.Given as goal
 
 abbrev pub invariant-loop : goal.invariant-loop
 invariant-loop g l = record {

@@ -1,6 +1,6 @@
 use Rattle.std.proofs.Common.{◌∙◌, rules}
 use Rattle.fts_turn.proofs.Words.{put_in, may_raise, may_leave, rests_after}
-use Rattle.fts_turn.proofs.turn.Turn.give.Goals as goal
+use Rattle.fts_turn.proofs.turn.Turns.give.Goals as goal
 
 pub fetch_add-requires : goal.fetch_add-requires
 fetch_add-requires g c =

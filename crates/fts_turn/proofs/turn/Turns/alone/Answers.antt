@@ -1,6 +1,6 @@
 use Rattle.std.proofs.Common.{sym, ap}
 use Rattle.fts_turn.proofs.Seats.{opens_as, first_is_maker}
-use Rattle.fts_turn.proofs.turn.Turn.alone.Goals as goal
+use Rattle.fts_turn.proofs.turn.Turns.alone.Goals as goal
 
 pub new-requires : goal.new-requires
 new-requires g c =

@@ -1,7 +1,7 @@
 use Rattle.std.proofs.Common.{◌∙◌, ap, rules, Some}
 use Rattle.fts_turn.specs.Steps.{Seated}
 use Rattle.fts_turn.proofs.Words.{may_draw, waits_after, taken_first, has_turn_after}
-use Rattle.fts_turn.proofs.turn.Turn.take.Goals as goal
+use Rattle.fts_turn.proofs.turn.Turns.take.Goals as goal
 
 pub fetch_add-ticket-requires : goal.fetch_add-ticket-requires
 fetch_add-ticket-requires g c =

@@ -1,7 +1,7 @@
 use Rattle.std.proofs.Common.{◌≡◌, ◌∙◌, ◌<◌, suc, length, length-append, sym, ap, subst, rules, arith}
 use Rattle.fts_turn.specs.Promises.{seats_of, IsUnused, IsSeat, IsMaker, Numbered}
 use Rattle.fts_turn.proofs.Seats.{Numbered-push, may_split, seat_after, unused_after, maker_after, last_is_seat}
-use Rattle.fts_turn.proofs.turn.Turn.deal.Goals as goal
+use Rattle.fts_turn.proofs.turn.Turns.deal.Goals as goal
 
 pub split_seat-inside-requires : goal.split_seat-inside-requires
 split_seat-inside-requires g c =

@@ -1,7 +1,7 @@
 use Rattle.std.proofs.Common.{◌≡◌, ◌∙◌, Some, None, sym, subst}
 use Rattle.fts_turn.specs.Promises.{HasWholeHistory}
 use Rattle.fts_turn.proofs.Closing.{ends, same_at}
-use Rattle.fts_turn.proofs.turn.Turn.close.Goals as goal
+use Rattle.fts_turn.proofs.turn.Turns.close.Goals as goal
 
 pub unreachable-requires : goal.unreachable-requires
 unreachable-requires g c =

@@ -1,6 +1,6 @@
 use Rattle.std.proofs.Common.{◌≡◌, ◌+◌, ◌≤◌, length, vec_capacity}
 use Rattle.fts_turn.specs.Promises.{seats_of, IsUnused, IsSeat, IsMaker, Numbered}
-use Rattle.fts_turn.proofs.turn.Turn.deal.Given as goal
+use Rattle.fts_turn.proofs.turn.Turns.deal.Given as goal
 
 abbrev pub invariant-loop : goal.invariant-loop
 invariant-loop g l = record {

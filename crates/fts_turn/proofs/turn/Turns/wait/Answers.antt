@@ -1,7 +1,7 @@
 use Rattle.std.proofs.Common.{◌≡◌, ◌<◌, ◌^◌, ◌∙◌, rules, arith}
 use Rattle.fts_turn.proofs.Words.{may_look, served_after, waits_still}
-use Rattle.fts_turn.proofs.turn.Turn.wait.Goals.{else-serving-ticket-via-then-serving-ticket+else-ticket-lt-LAST_TICKET, else-serving-ticket-via-else-serving-ticket}
-use Rattle.fts_turn.proofs.turn.Turn.wait.Goals as goal
+use Rattle.fts_turn.proofs.turn.Turns.wait.Goals.{else-serving-ticket-via-then-serving-ticket+else-ticket-lt-LAST_TICKET, else-serving-ticket-via-else-serving-ticket}
+use Rattle.fts_turn.proofs.turn.Turns.wait.Goals as goal
 
 pub load-serving-requires : goal.load-serving-requires
 load-serving-requires g c =

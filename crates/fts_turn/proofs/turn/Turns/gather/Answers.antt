@@ -1,6 +1,6 @@
 use Rattle.std.proofs.Common.{rules}
 use Rattle.fts_turn.proofs.Closing.{gathers_last, seat_is, may_join, gathers_next}
-use Rattle.fts_turn.proofs.turn.Turn.gather.Goals as goal
+use Rattle.fts_turn.proofs.turn.Turns.gather.Goals as goal
 
 pub loop-seat-init : goal.loop-seat-init
 loop-seat-init g c = gathers_last c.args.self.now c.args.seats.items c.requires.count c.requires.seats _ _ c.in-Some.ensures.items
