@@ -1,3 +1,6 @@
+mod faults;
+mod large;
+mod passing;
 mod random;
 
 use super::*;
@@ -74,6 +77,8 @@ enum Do {
     Open,
     OpenAbove,
     Insert(Key, &'static str),
+    /// An INSERT and a DELETE of its row, within one commit.
+    InsertDelete(Key, &'static str),
     InsertTwo(Key, &'static str),
     Update(Key, &'static str),
     Delete(Key),
@@ -118,6 +123,14 @@ fn commit_of(alloc: Global, change: Option<Change>) -> Option<Event<MemDisk, Mem
     Some(Event::Commit { changes })
 }
 
+/// A commit of an INSERT, and of a DELETE of its row.
+fn insert_delete(alloc: Global, key: Key, text: &str) -> Option<Event<MemDisk, MemDisk>> {
+    let inserted = insert(alloc, key, text, 1)?;
+    let deleted = Change::Delete { key };
+    let changes = Changes::from_vec(vec![in alloc; inserted, deleted].ok()?);
+    Some(Event::Commit { changes })
+}
+
 /// The event of what is done.
 fn event(alloc: Global, what: Do) -> Option<Event<MemDisk, MemDisk>> {
     match what {
@@ -130,6 +143,7 @@ fn event(alloc: Global, what: Do) -> Option<Event<MemDisk, MemDisk>> {
             Some(Event::Opening { limits })
         }
         Do::Insert(key, text) => commit_of(alloc, insert(alloc, key, text, 1)),
+        Do::InsertDelete(key, text) => insert_delete(alloc, key, text),
         Do::InsertTwo(key, text) => commit_of(alloc, insert(alloc, key, text, 2)),
         Do::Update(key, text) => commit_of(alloc, update(alloc, key, text)),
         Do::Delete(key) => commit_of(alloc, Some(Change::Delete { key })),
@@ -205,6 +219,25 @@ fn outcomes_of(
                 drop(world);
                 Some(outcomes)
             }
+            Err((world, events)) => {
+                drop(world);
+                drop(events);
+                None
+            }
+        },
+    }
+}
+
+/// The world behind events on a new database, and what came of them.
+fn world_behind(
+    alloc: Global,
+    fails: Fails,
+    events: Vec<Event<MemDisk, MemDisk>>,
+) -> Option<(World<MemDisk, MemDisk>, Vec<Outcome>)> {
+    match created(alloc, fails) {
+        None => None,
+        Some(world) => match steps(alloc, world, events) {
+            Ok((world, outcomes)) => Some((world, outcomes)),
             Err((world, events)) => {
                 drop(world);
                 drop(events);

@@ -1,3 +1,5 @@
+mod searches;
+
 use super::*;
 use fts_ids::{IdList, union};
 use fts_meaning::Sign;
@@ -9,12 +11,27 @@ use std::process::Abort;
 use std::sync::Arc;
 use std::test::Fail;
 
-fn settings(alloc: Global) -> Settings {
+/// Which words are indexed: the bounds of their lengths, and whether stopwords are left out.
+#[derive(Clone, Copy)]
+struct Indexed {
+    min: u8,
+    max: u8,
+    stopword: bool,
+}
+
+/// Those of a database that is made without options.
+const STANDARD: Indexed = Indexed {
+    min: 3,
+    max: 84,
+    stopword: true,
+};
+
+fn settings(alloc: Global, indexed: Indexed) -> Settings {
     Settings {
         columns: Names::new(alloc),
-        min: 3,
-        max: 84,
-        stopword: true,
+        min: indexed.min,
+        max: indexed.max,
+        stopword: indexed.stopword,
         optimize_words: 2_000,
         cache_bytes: 8_000_000,
         batch_docs: 1_000,
@@ -43,22 +60,28 @@ fn with_id(alloc: Global, ids: IdList, id: DocId) -> Result<IdList, AllocError> 
 }
 
 /// Whether a query finds a row by the scan.
-fn is_found(alloc: Global, row: Row, query: &Query) -> Result<bool, Fail> {
+fn is_found(alloc: Global, indexed: Indexed, row: Row, query: &Query) -> Result<bool, Fail> {
     if !row.texts.is_row() {
         return Ok(false);
     }
     let rows = [row];
-    let ids = scan(alloc, &settings(alloc), &rows, query)?;
+    let ids = scan(alloc, &settings(alloc, indexed), &rows, query)?;
     Ok(!ids.as_slice().is_empty())
 }
 
 type Line<'a> = (u64, &'a str, &'a str);
 
 /// The ids of the rows that a query finds by the scan.
-fn scanned(alloc: Global, rows: &[Line<'_>], query: &Query) -> Result<IdList, Fail> {
+fn scanned(
+    alloc: Global,
+    indexed: Indexed,
+    rows: &[Line<'_>],
+    query: &Query,
+) -> Result<IdList, Fail> {
     let mut ids = IdList::new(Vec::new(alloc));
     for (id, first, second) in rows {
-        if is_found(alloc, row(alloc, *id, first, second)?, query)? {
+        let row = row(alloc, *id, first, second)?;
+        if is_found(alloc, indexed, row, query)? {
             ids = with_id(alloc, ids, *id)?;
         }
     }
@@ -121,10 +144,10 @@ fn candidates(
 }
 
 /// The view of rows for the leaves of a query, made by scans.
-fn view(alloc: Global, rows: &[Line<'_>], query: &Query) -> Result<View, Fail> {
+fn view(alloc: Global, indexed: Indexed, rows: &[Line<'_>], query: &Query) -> Result<View, Fail> {
     let mut postings = Vec::new(alloc);
-    for leaf in leaves(alloc, &settings(alloc), query)? {
-        let ids = scanned(alloc, rows, &leaf_query(alloc, &leaf)?)?;
+    for leaf in leaves(alloc, &settings(alloc, indexed), query)? {
+        let ids = scanned(alloc, indexed, rows, &leaf_query(alloc, &leaf)?)?;
         postings.push(Postings { leaf, ids })?;
     }
     let texts = candidates(alloc, rows, postings.as_slice())?;
@@ -136,8 +159,13 @@ fn view(alloc: Global, rows: &[Line<'_>], query: &Query) -> Result<View, Fail> {
 }
 
 /// The ids that are the answer to a query.
-fn answered(alloc: Global, rows: &[Line<'_>], query: &Query) -> Result<Vec<DocId>, Fail> {
-    let view = view(alloc, rows, query)?;
+fn answered(
+    alloc: Global,
+    indexed: Indexed,
+    rows: &[Line<'_>],
+    query: &Query,
+) -> Result<Vec<DocId>, Fail> {
+    let view = view(alloc, indexed, rows, query)?;
     let ids = answer(alloc, &view, query)?;
     Ok(ids.as_slice().to_vec(alloc)?)
 }
@@ -196,6 +224,23 @@ const PHRASE_SEARCHES: [(&str, &[u64]); 12] = [
     ("\"the pie\"", &[7, 8]),
 ];
 
+/// A search and a scan find these rows.
+fn finds(
+    rt: &impl Abort,
+    alloc: Global,
+    indexed: Indexed,
+    rows: &[Line<'_>],
+    text: &str,
+    want: &[DocId],
+) -> Result<(), Fail> {
+    let query = parse(alloc, text.as_bytes())?;
+    let ids = answered(alloc, indexed, rows, &query)?;
+    assert_eq!(rt; ids.as_slice(), want, "{text}");
+    let ids = scanned(alloc, indexed, rows, &query)?;
+    assert_eq!(rt; ids.as_slice(), want, "a scan for {text}");
+    Ok(())
+}
+
 fn try_searches(
     rt: &impl Abort,
     alloc: Global,
@@ -203,9 +248,7 @@ fn try_searches(
     searches: &[(&str, &[u64])],
 ) -> Result<(), Fail> {
     for (text, want) in searches {
-        let query = parse(alloc, text.as_bytes())?;
-        let ids = answered(alloc, rows, &query)?;
-        assert_eq!(rt; ids.as_slice(), *want, "{text}");
+        finds(rt, alloc, STANDARD, rows, text, want)?;
     }
     Ok(())
 }
@@ -318,8 +361,8 @@ fn is_scan(rt: &impl Abort, alloc: Global, seed: u64) -> Result<(), Fail> {
     let text = random_query(alloc, seed)?;
     let query = parse(alloc, &text)?;
     let rows = random_rows(alloc, next(seed))?;
-    let ids = answered(alloc, &rows, &query)?;
-    let want = scanned(alloc, &rows, &query)?;
+    let ids = answered(alloc, STANDARD, &rows, &query)?;
+    let want = scanned(alloc, STANDARD, &rows, &query)?;
     assert_eq!(rt; ids.as_slice(), want.as_slice(), "{text:?} with {seed}");
     Ok(())
 }

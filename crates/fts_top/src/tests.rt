@@ -9,6 +9,7 @@ mod generated;
 mod index;
 mod large;
 mod limits;
+mod mixed;
 mod optimize;
 mod queries;
 mod runs;

@@ -1,5 +1,5 @@
 use super::calling::{CREATE, INDEX, answers, call, disk_of, empty_disk, line_by_line};
-use std::alloc::AllocError;
+use std::alloc::{AllocError, Global};
 use std::test::Fail;
 
 /// A row that gets another text and another id; its first document is in the tables.
@@ -58,6 +58,79 @@ WORD|FIRST_DOC_ID|LAST_DOC_ID|DOC_COUNT|DOC_ID|POSITION
 OK 0 rows as of 2
 DOC_ID
 OK 0 rows as of 2
+";
+
+/// A row that dies with a document in the tables and another in the cache, which a batch leaves
+/// out; a pass takes the first one out.
+const DIES_TWICE: &str = "INSERT INTO docs (id, body) VALUES (1, 'apple')
+SYNC
+UPDATE docs SET body = 'apple pear' WHERE id = 1
+SELECT FTS_DOC_ID FROM docs WHERE MATCH (body) AGAINST ('apple' IN BOOLEAN MODE)
+SELECT * FROM INFORMATION_SCHEMA.INNODB_FT_DELETED
+SELECT * FROM INFORMATION_SCHEMA.INNODB_FT_INDEX_CACHE
+DELETE FROM docs WHERE id = 1
+SELECT FTS_DOC_ID FROM docs WHERE MATCH (body) AGAINST ('apple pear' IN BOOLEAN MODE)
+SELECT * FROM INFORMATION_SCHEMA.INNODB_FT_DELETED
+SELECT * FROM INFORMATION_SCHEMA.INNODB_FT_INDEX_CACHE
+SELECT * FROM INFORMATION_SCHEMA.INNODB_FT_INDEX_TABLE
+OPTIMIZE TABLE docs
+SYNC
+SELECT FTS_DOC_ID FROM docs WHERE MATCH (body) AGAINST ('apple pear' IN BOOLEAN MODE)
+SELECT * FROM INFORMATION_SCHEMA.INNODB_FT_DELETED
+SELECT * FROM INFORMATION_SCHEMA.INNODB_FT_INDEX_CACHE
+SELECT * FROM INFORMATION_SCHEMA.INNODB_FT_INDEX_TABLE
+OPTIMIZE TABLE docs
+SELECT FTS_DOC_ID FROM docs WHERE MATCH (body) AGAINST ('apple pear' IN BOOLEAN MODE)
+SELECT * FROM INFORMATION_SCHEMA.INNODB_FT_DELETED
+SELECT * FROM INFORMATION_SCHEMA.INNODB_FT_INDEX_CACHE
+SELECT * FROM INFORMATION_SCHEMA.INNODB_FT_INDEX_TABLE
+OPTIMIZE TABLE docs
+";
+
+const OF_DIES_TWICE: &str = "OK commit 1
+OK sync as of 1
+OK commit 2
+OK as of 2: 2
+DOC_ID
+1
+OK 1 rows as of 2
+WORD|FIRST_DOC_ID|LAST_DOC_ID|DOC_COUNT|DOC_ID|POSITION
+apple|2|2|1|2|0
+pear|2|2|1|2|6
+OK 2 rows as of 2
+OK commit 3
+OK as of 3: none
+DOC_ID
+1
+2
+OK 2 rows as of 3
+WORD|FIRST_DOC_ID|LAST_DOC_ID|DOC_COUNT|DOC_ID|POSITION
+apple|2|2|1|2|0
+pear|2|2|1|2|6
+OK 2 rows as of 3
+WORD|FIRST_DOC_ID|LAST_DOC_ID|DOC_COUNT|DOC_ID|POSITION
+apple|1|1|1|1|0
+OK 1 rows as of 3
+OK optimize nothing
+OK sync as of 3
+OK as of 3: none
+DOC_ID
+1
+OK 1 rows as of 3
+WORD|FIRST_DOC_ID|LAST_DOC_ID|DOC_COUNT|DOC_ID|POSITION
+OK 0 rows as of 3
+WORD|FIRST_DOC_ID|LAST_DOC_ID|DOC_COUNT|DOC_ID|POSITION
+apple|1|1|1|1|0
+OK 1 rows as of 3
+OK optimize 1 words, pass finished
+OK as of 3: none
+DOC_ID
+OK 0 rows as of 3
+WORD|FIRST_DOC_ID|LAST_DOC_ID|DOC_COUNT|DOC_ID|POSITION
+OK 0 rows as of 3
+WORD|FIRST_DOC_ID|LAST_DOC_ID|DOC_COUNT|DOC_ID|POSITION
+OK 0 rows as of 3
+OK optimize nothing
 ";
 
 /// Ids that are given, and the next one behind them.
@@ -141,9 +214,10 @@ OK 1 rows as of 3
 ";
 
 /// How a database is made, a script, and what it is answered.
-const SCRIPTS: [(&str, &str, &str); 6] = [
+const SCRIPTS: [(&str, &str, &str); 7] = [
     (CREATE, REPLACED, OF_REPLACED),
     (CREATE, NEVER_FLUSHED, OF_NEVER_FLUSHED),
+    (CREATE, DIES_TWICE, OF_DIES_TWICE),
     (CREATE, GIVEN, OF_GIVEN),
     (CREATE, ABSENT, OF_ABSENT),
     (CREATE, REFUSED, OF_REFUSED),
@@ -173,35 +247,52 @@ fn changes_outlive_their_run(rt: HostRuntime) -> Result<(), Fail> {
 }
 
 /// A statement that ends with a text of so many bytes and what follows it.
-fn push_long(
-    script: &mut Vec<u8>,
-    front: &[u8],
-    count: usize,
-    end: &[u8],
-) -> Result<(), AllocError> {
-    script.extend_from_slice(front)?;
+fn push_long(script: &mut String, front: &str, count: usize, end: &str) -> Result<(), AllocError> {
+    script.push_str(front)?;
     for _ in 0..count {
-        script.push(b'x')?;
+        script.push('x')?;
     }
-    script.extend_from_slice(end)
+    script.push_str(end)
 }
+
+/// A row of 40,001 bytes, and UPDATEs of one text of it and of no row.
+fn long_texts(alloc: Global) -> Result<String, AllocError> {
+    let mut script = String::new(alloc);
+    let insert = "INSERT INTO docs (id, title, body) VALUES (1, 'a', '";
+    push_long(&mut script, insert, 40_000, "')\n")?;
+    let update = "UPDATE docs SET title = '";
+    push_long(&mut script, update, 25_536, "' WHERE id = 1\n")?;
+    push_long(&mut script, update, 25_535, "' WHERE id = 1\n")?;
+    push_long(&mut script, update, 65_536, "' WHERE id = 2\n")?;
+    push_long(&mut script, update, 65_535, "' WHERE id = 2\n")?;
+    Ok(script)
+}
+
+const OF_LONG_TEXTS: &str = "OK commit 1
+ERROR text too long 65536 in change 1
+OK commit 2
+ERROR text too long 65536 in change 1
+OK commit 3
+";
+
+const TITLED: &str = "shop create --columns title,body";
 
 /// The texts that a row would have count together, kept and set; without a row, those that are set.
 #[test]
 fn texts_count_together(rt: HostRuntime) -> Result<(), Fail> {
     let alloc = rt.alloc();
-    let line = "shop create --columns title,body";
-    let rows = call(alloc, line, b"", empty_disk(alloc)?)?.rows;
-    let mut script = Vec::new(alloc);
-    let insert = b"INSERT INTO docs (id, title, body) VALUES (1, 'a', '";
-    push_long(&mut script, insert, 40_000, b"')\n")?;
-    let update = b"UPDATE docs SET title = '";
-    push_long(&mut script, update, 25_536, b"' WHERE id = 1\n")?;
-    push_long(&mut script, update, 25_535, b"' WHERE id = 1\n")?;
-    push_long(&mut script, update, 65_536, b"' WHERE id = 2\n")?;
-    push_long(&mut script, update, 65_535, b"' WHERE id = 2\n")?;
-    let text = "OK commit 1\nERROR text too long 65536 in change 1\nOK commit 2\n\
-        ERROR text too long 65536 in change 1\nOK commit 3\n";
-    let _ = answers(&rt, alloc, rows, &script, text)?;
+    let rows = call(alloc, TITLED, b"", empty_disk(alloc)?)?.rows;
+    let script = long_texts(alloc)?;
+    let _ = answers(&rt, alloc, rows, script.as_bytes(), OF_LONG_TEXTS)?;
+    Ok(())
+}
+
+#[test]
+fn long_texts_outlive_their_run(rt: HostRuntime) -> Result<(), Fail> {
+    let alloc = rt.alloc();
+    let rows = call(alloc, TITLED, b"", empty_disk(alloc)?)?.rows;
+    let script = long_texts(alloc)?;
+    let told = line_by_line(alloc, &script, rows, disk_of(alloc, INDEX)?)?;
+    assert_eq!(rt; told.as_slice(), OF_LONG_TEXTS.as_bytes());
     Ok(())
 }

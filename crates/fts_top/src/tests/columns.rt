@@ -138,30 +138,38 @@ const INTO_ONE: &str = "INSERT INTO docs (id, body) VALUES (1";
 
 const INTO_TWO: &str = "INSERT INTO docs (id, title, body) VALUES (1";
 
-/// Commands, the fronts of INSERTs into their databases, the lengths of the texts, and the replies.
-const LENGTHS: [(&str, &str, &[usize], &str); 4] = [
-    (CREATE, INTO_ONE, &[65_535], "OK commit 1\n"),
+/// What a further run answers the same line and a SYNC, where the line was taken.
+const TAKEN: &str = "ERROR duplicate key 1 in change 1\nOK sync as of 1\n";
+
+/// Commands, the fronts of INSERTs into their databases, the lengths of the texts, the replies, and
+/// those of a further run.
+const LENGTHS: [(&str, &str, &[usize], &str, &str); 4] = [
+    (CREATE, INTO_ONE, &[65_535], "OK commit 1\n", TAKEN),
     (
         CREATE,
         INTO_ONE,
         &[65_536],
         "ERROR text too long 65536 in change 1\n",
+        "ERROR text too long 65536 in change 1\nOK sync as of 0\n",
     ),
-    (TITLED, INTO_TWO, &[40_000, 25_535], "OK commit 1\n"),
+    (TITLED, INTO_TWO, &[40_000, 25_535], "OK commit 1\n", TAKEN),
     (
         TITLED,
         INTO_TWO,
         &[40_000, 30_000],
         "ERROR text too long 70000 in change 1\n",
+        "ERROR text too long 70000 in change 1\nOK sync as of 0\n",
     ),
 ];
 
 #[test]
 fn the_texts_of_a_row_have_a_length_together(rt: HostRuntime) -> Result<(), Fail> {
-    for (line, front, lengths, reply) in LENGTHS {
+    for (line, front, lengths, reply, further) in LENGTHS {
         let made = call(rt.alloc(), line, b"", empty_disk(rt.alloc())?)?.rows;
-        let insert = insert_of(rt.alloc(), front, lengths)?;
-        let _ = answers(&rt, rt.alloc(), made, &insert, reply)?;
+        let mut insert = insert_of(rt.alloc(), front, lengths)?;
+        let rows = answers(&rt, rt.alloc(), made, &insert, reply)?;
+        insert.extend_from_slice(b"\nSYNC\n")?;
+        let _ = answers(&rt, rt.alloc(), rows, &insert, further)?;
     }
     Ok(())
 }

@@ -1,5 +1,6 @@
 use super::calling::{
-    BATCH, INDEX, INSERT, RUN, answers, call, call_on, created, empty_disk, ended, failing,
+    BATCH, INDEX, INSERT, RUN, answers, call, call_on, created, disk_of, empty_disk, ended,
+    failing, line_by_line,
 };
 use crate::Status;
 use fts_disk::Kind;
@@ -116,6 +117,17 @@ fn words_go_from_the_cache_to_the_tables(rt: HostRuntime) -> Result<(), Fail> {
     Ok(())
 }
 
+/// Each line in a run of its own, which tells what the last writer had.
+#[test]
+fn words_outlive_their_run(rt: HostRuntime) -> Result<(), Fail> {
+    let alloc = rt.alloc();
+    for (script, text) in SCRIPTS {
+        let told = line_by_line(alloc, script, created(alloc)?, disk_of(alloc, INDEX)?)?;
+        assert_eq!(rt; told.as_slice(), text.as_bytes(), "of {script}");
+    }
+    Ok(())
+}
+
 /// A database whose batches have a document each.
 const ONE_A_BATCH: &str = "shop create --columns body --batch-docs 1";
 
@@ -147,19 +159,28 @@ fn each_batch_has_nodes_of_its_own(rt: HostRuntime) -> Result<(), Fail> {
     Ok(())
 }
 
+#[test]
+fn nodes_outlive_their_run(rt: HostRuntime) -> Result<(), Fail> {
+    let alloc = rt.alloc();
+    let rows = call(alloc, ONE_A_BATCH, b"", empty_disk(alloc)?)?.rows;
+    let told = line_by_line(alloc, TWO_NODES, rows, disk_of(alloc, INDEX)?)?;
+    assert_eq!(rt; told.as_slice(), OF_TWO_NODES.as_bytes());
+    Ok(())
+}
+
 /// The same, and a cache that is too large above 1,000 bytes.
 const SMALL_CACHE: &str = "shop create --columns body --batch-docs 1 --cache-bytes 1000";
 
 /// An INSERT of so many words of four letters, each of which counts 12 in the cache, beside 16 for
 /// the row.
-fn pears(script: &mut Vec<u8>, key: u8, count: usize) -> Result<(), AllocError> {
-    script.extend_from_slice(b"INSERT INTO docs (id, body) VALUES (")?;
+fn pears(script: &mut String, key: char, count: usize) -> Result<(), AllocError> {
+    script.push_str("INSERT INTO docs (id, body) VALUES (")?;
     script.push(key)?;
-    script.extend_from_slice(b", '")?;
+    script.push_str(", '")?;
     for _ in 0..count {
-        script.extend_from_slice(b"pear ")?;
+        script.push_str("pear ")?;
     }
-    script.extend_from_slice(b"')\nSELECT * FROM INFORMATION_SCHEMA.INNODB_FT_CONFIG\n")
+    script.push_str("')\nSELECT * FROM INFORMATION_SCHEMA.INNODB_FT_CONFIG\n")
 }
 
 /// The first row's size is 1,000, which is not too large; a word more is, so the first commit is
@@ -188,10 +209,13 @@ OK 6 rows as of 2
 fn a_batch_follows_a_commit_while_the_cache_is_too_large(rt: HostRuntime) -> Result<(), Fail> {
     let alloc = rt.alloc();
     let rows = call(alloc, SMALL_CACHE, b"", empty_disk(alloc)?)?.rows;
-    let mut script = Vec::new(alloc);
-    pears(&mut script, b'1', 82)?;
-    pears(&mut script, b'2', 1)?;
-    let _ = answers(&rt, alloc, rows, &script, OF_PEARS)?;
+    let mut script = String::new(alloc);
+    pears(&mut script, '1', 82)?;
+    pears(&mut script, '2', 1)?;
+    let made = disk_of(alloc, rows.file(0))?;
+    let _ = answers(&rt, alloc, rows, script.as_bytes(), OF_PEARS)?;
+    let told = line_by_line(alloc, &script, made, disk_of(alloc, INDEX)?)?;
+    assert_eq!(rt; told.as_slice(), OF_PEARS.as_bytes());
     Ok(())
 }
 
@@ -215,11 +239,11 @@ fn a_fault_in_a_batch_behind_a_commit_is_the_status_of_the_run(
 ) -> Result<(), Fail> {
     let alloc = rt.alloc();
     let rows = call(alloc, SMALL_CACHE, b"", empty_disk(alloc)?)?.rows;
-    let mut script = Vec::new(alloc);
-    pears(&mut script, b'1', 83)?;
-    script.extend_from_slice(INSERT.as_bytes())?;
+    let mut script = String::new(alloc);
+    pears(&mut script, '1', 83)?;
+    script.push_str(INSERT)?;
     let index = failing(alloc, INDEX, (Kind::Write, 1))?;
-    let run = call_on(alloc, RUN, &script, rows, index)?;
+    let run = call_on(alloc, RUN, script.as_bytes(), rows, index)?;
     ended(&rt, &run, &Status::DiskFault, OF_FAULT, "a batch");
     Ok(())
 }

@@ -1,8 +1,10 @@
 //! Scripts and logs that are large but fair: want of memory is no answer to them.
-use super::calling::{RUN, call, created, disk_of, ended};
+use super::calling::{RUN, call, call_on, created, disk_of, ended};
 use crate::{Device, Status};
+use fts_disk::MemDisk;
 use std::alloc::{AllocError, Global};
 use std::fmt::Write;
+use std::process::Abort;
 use std::test::Fail;
 
 /// The INSERTs of a thousand rows, a commit each, and what they are answered.
@@ -54,4 +56,81 @@ fn a_bad_payload_behind_a_thousand_has_its_place(rt: HostRuntime) -> Result<(), 
     let opened = call(alloc, RUN, SEARCH, disk_of(alloc, &bytes)?)?;
     ended(&rt, &opened, &damaged, "", "a bad payload");
     Ok(())
+}
+
+/// An INSERT whose text has 65,535 bytes: the numbers of five digits from 10,000 on, and a word.
+fn many_words(alloc: Global) -> Result<String, AllocError> {
+    let mut script = String::from_str(alloc, "INSERT INTO docs (id, body) VALUES (1, '")?;
+    for number in 10_000..20_922 {
+        script.push_str(&format!(in alloc; "{number} ")?)?;
+    }
+    script.push_str("end')\n")?;
+    Ok(script)
+}
+
+/// Searches for a word of a row of many words at its front, near the middle and at its end.
+const ENDS: &str = "SELECT FTS_DOC_ID FROM docs WHERE MATCH (body) AGAINST ('10000' IN BOOLEAN MODE)
+SELECT FTS_DOC_ID FROM docs WHERE MATCH (body) AGAINST ('\"15000 15001\"' IN BOOLEAN MODE)
+SELECT FTS_DOC_ID FROM docs WHERE MATCH (body) AGAINST ('+20921 +end' IN BOOLEAN MODE)
+SELECT FTS_DOC_ID FROM docs WHERE MATCH (body) AGAINST ('20922' IN BOOLEAN MODE)
+";
+
+const OF_ENDS: &str = "OK as of 1: 1\nOK as of 1: 1\nOK as of 1: 1\nOK as of 1: none\n";
+
+/// The listing of the words of that row.
+fn words_listed(alloc: Global) -> Result<String, AllocError> {
+    let header = "WORD|FIRST_DOC_ID|LAST_DOC_ID|DOC_COUNT|DOC_ID|POSITION\n";
+    let mut text = String::from_str(alloc, header)?;
+    for place in 0_u64..10_922 {
+        let number = 10_000 + place;
+        let at = place.wrapping_mul(6);
+        text.push_str(&format!(in alloc; "{number}|1|1|1|1|{at}\n")?)?;
+    }
+    text.push_str("end|1|1|1|1|65532\nOK 10923 rows as of 1\n")?;
+    Ok(text)
+}
+
+/// The searches and a view of the words, on both devices, have these replies.
+fn finds_many(
+    rt: &impl Abort,
+    alloc: Global,
+    view: &str,
+    rows: MemDisk,
+    index: MemDisk,
+) -> Result<(), Fail> {
+    let script = format!(in alloc; "{ENDS}SELECT * FROM INFORMATION_SCHEMA.{view}\n")?;
+    let listed = words_listed(alloc)?;
+    let text = format!(in alloc; "{OF_ENDS}{listed}")?;
+    let run = call_on(alloc, RUN, script.as_bytes(), rows, index)?;
+    ended(rt, &run, &Status::Done, &text, view);
+    Ok(())
+}
+
+/// The commit's payload has 65,550 bytes, behind the 34 bytes of a new log.
+#[test]
+fn a_row_of_65535_bytes_is_opened(rt: HostRuntime) -> Result<(), Fail> {
+    let alloc = rt.alloc();
+    let script = many_words(alloc)?;
+    let run = call(alloc, RUN, script.as_bytes(), created(alloc)?)?;
+    ended(&rt, &run, &Status::Done, "OK commit 1\n", "a long row");
+    assert_eq!(rt; run.rows.file(0).len(), 34 + 65_555);
+    finds_many(&rt, alloc, "INNODB_FT_INDEX_CACHE", run.rows, run.index)
+}
+
+/// The batch's payload has 161,111 bytes, behind the 9 bytes of a new log.
+#[test]
+fn a_batch_of_many_words_is_opened(rt: HostRuntime) -> Result<(), Fail> {
+    let alloc = rt.alloc();
+    let mut script = many_words(alloc)?;
+    script.push_str("SYNC\n")?;
+    let run = call(alloc, RUN, script.as_bytes(), created(alloc)?)?;
+    ended(
+        &rt,
+        &run,
+        &Status::Done,
+        "OK commit 1\nOK sync as of 1\n",
+        "a batch",
+    );
+    assert_eq!(rt; run.index.file(0).len(), 9 + 161_116);
+    finds_many(&rt, alloc, "INNODB_FT_INDEX_TABLE", run.rows, run.index)
 }

@@ -20,7 +20,8 @@ const ONE: &str = "INSERT INTO docs (id, body) VALUES (1, 'apple pie')
 SELECT FTS_DOC_ID FROM docs WHERE MATCH (body) AGAINST ('pie' IN BOOLEAN MODE)
 ";
 
-/// A run with these limits on a new database is done and wrote this.
+/// A run with these limits on a new database is done and wrote this, and runs of a line each wrote
+/// it too.
 fn limited(
     rt: &impl Abort,
     alloc: Global,
@@ -37,7 +38,33 @@ fn limited(
     let (end, _, _) = run_script(alloc, &mut input, &mut out, rows, index, limits, &OpenGate);
     assert_eq!(rt; end, Ok(RunEnd::Done), "{text}");
     assert_eq!(rt; out.bytes(), text.as_bytes(), "{text}");
+    let told = limited_by_line(rt, alloc, limits, script)?;
+    assert_eq!(rt; told.as_slice(), text.as_bytes(), "{text}");
     Ok(())
+}
+
+/// What the lines of a script are answered with these limits, each in a run of its own.
+fn limited_by_line(
+    rt: &impl Abort,
+    alloc: Global,
+    limits: Limits,
+    script: &str,
+) -> Result<Vec<u8>, Fail>
+    requires { AreWithin standard_limits limits }
+{
+    let mut out = MemSink::new(alloc, Vec::new(alloc));
+    let mut rows = created(alloc)?;
+    let mut index = disk_of(alloc, INDEX)?;
+    for line in script.lines() {
+        let mut input = source_of(alloc, line.as_bytes())?;
+        let (end, rows_left, index_left) = run_script(
+            alloc, &mut input, &mut out, rows, index, limits, &OpenGate,
+        );
+        assert_eq!(rt; end, Ok(RunEnd::Done), "at {line}");
+        rows = rows_left;
+        index = index_left;
+    }
+    Ok(Vec::from_slice(alloc, out.bytes())?)
 }
 
 #[test]
@@ -92,6 +119,27 @@ fn a_commit_may_fill_the_log(rt: HostRuntime) -> Result<(), Fail> {
         ..Limits::standard()
     };
     limited(&rt, rt.alloc(), limits, ONE, "OK commit 1\nOK as of 1: 1\n")
+}
+
+/// Two rows, of which the first one's commit ends the rows log at 59, and the second's would at 84.
+const APPLES: &str = "INSERT INTO docs (id, body) VALUES (1, 'apple')
+INSERT INTO docs (id, body) VALUES (2, 'apple')
+SELECT FTS_DOC_ID FROM docs WHERE MATCH (body) AGAINST ('apple' IN BOOLEAN MODE)
+";
+
+#[test]
+fn a_log_that_a_commit_filled_refuses_the_next(rt: HostRuntime) -> Result<(), Fail> {
+    let limits = Limits {
+        log_bytes: 59,
+        ..Limits::standard()
+    };
+    limited(
+        &rt,
+        rt.alloc(),
+        limits,
+        APPLES,
+        "OK commit 1\nERROR log full at 84\nOK as of 1: 1\n",
+    )
 }
 
 /// The row's commit ends the rows log at 66, and its batch the index log at 69.
