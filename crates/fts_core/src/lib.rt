@@ -32,6 +32,3 @@ pub use event::{Event, Outcome};
 pub use run::{step, steps};
 pub use script::runs_make_steps;
 pub use world::{Last, Place, World};
-
-#[cfg(test)]
-mod tests;

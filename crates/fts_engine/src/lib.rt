@@ -31,6 +31,3 @@ pub use engine::Engine;
 pub use error::{Device, OpenError};
 pub use laws::one_database;
 pub use open::open_engine;
-
-#[cfg(test)]
-mod tests;

@@ -31,6 +31,3 @@ pub use index::{CommitPlan, Index};
 pub use passing::PassPlan;
 pub use restore::{Covered, RestoreError};
 pub use sync::SyncPlan;
-
-#[cfg(test)]
-mod tests;

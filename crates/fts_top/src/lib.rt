@@ -22,9 +22,6 @@ pub use ends::{CreateEnd, RunEnd};
 pub use fts_args::{Command, command_of};
 pub use fts_engine::Device;
 pub use laws::{one_text, sight_rises};
-pub use once::fts_once;
+pub use once::{fts_once, run_script};
 pub use script::run;
 pub use status::Status;
-
-#[cfg(test)]
-mod tests;

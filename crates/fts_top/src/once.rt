@@ -25,8 +25,8 @@ use fts_sessions::Direct;
 use fts_types::{Limits, Settings};
 use std::alloc::{AllocError, Global};
 
-// Opens the database and executes the script. `limits` are those of its commits.
-pub(crate) fn run_script<I: Source, O: Sink, D: Disk, E: Disk, G: Gate>(
+/// Opens the database and executes the script. `limits` are those of its commits.
+pub fn run_script<I: Source, O: Sink, D: Disk, E: Disk, G: Gate>(
     alloc: Global,
     input: &mut I,
     out: &mut O,

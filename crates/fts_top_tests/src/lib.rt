@@ -1,0 +1,8 @@
+//! Tests of the program over forms in memory: scripts with the replies that they get, byte by byte,
+//! and what faults, stops and damage leave of a database and of a run.
+//!
+//! They stand apart so that the crate is proved once less.
+#![tactic(auto)]
+
+#[cfg(test)]
+mod tests;
