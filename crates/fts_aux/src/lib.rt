@@ -17,6 +17,3 @@ mod table;
 mod tables;
 
 pub use tables::Tables;
-
-#[cfg(test)]
-mod tests;

@@ -16,6 +16,3 @@ mod words;
 
 pub use cache::Cache;
 pub use document::DocWords;
-
-#[cfg(test)]
-mod tests;

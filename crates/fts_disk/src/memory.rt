@@ -322,6 +322,3 @@ impl Disk for MemDisk {
 
     ghost only_now = { λ disk c told. left_only_now disk c };
 }
-
-#[cfg(test)]
-mod tests;

@@ -1,5 +1,5 @@
-//! Tests of the engine over devices in memory: commits, batches, passes, listings and openings, each
-//! with what it answers, what the devices hold behind it, and what a fault in each call leaves.
+//! Tests of the engine over devices in memory: commits, batches, passes, listings and openings,
+//! each with what it answers, what the devices hold then, and what a fault in each call leaves.
 //!
 //! They stand apart so that the engine is proved once less.
 #![tactic(auto)]

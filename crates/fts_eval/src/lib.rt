@@ -13,8 +13,6 @@ mod leaf;
 mod part;
 mod resolve;
 mod search;
-#[cfg(test)]
-mod tests;
 mod tried;
 
 pub use leaf::leaves;

@@ -30,6 +30,3 @@ pub use number::{Bad, NUMBER_ROOM, numbers_have_one_spelling, put_number, take_n
 pub use packing::{NODE_LIMIT, Packing, loose_nodes_are_told_by_their_ends, pack};
 pub use queue::PostingQueue;
 pub use reading::{LAST_ID, LAST_POSITION};
-
-#[cfg(test)]
-mod tests;

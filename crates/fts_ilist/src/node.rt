@@ -327,24 +327,3 @@ impl<'a> WordNodes<'a> {
 
 /// Nodes of many words: each word once, in byte order, with its nodes.
 pub type Nodes<'a> = Vec<WordNodes<'a>>;
-
-#[cfg(test)]
-mod tests {
-    use super::*;
-    use std::test::Fail;
-
-    // A node's list, its first and last id, its number of documents, and the bytes of the first one
-    // behind its id.
-    #[test]
-    fn a_node_agrees_with_its_list(rt: HostRuntime) -> Result<(), Fail> {
-        let alloc = rt.alloc();
-        let mut list = Ilist::new(alloc);
-        list.push(300, &[7, 300])?;
-        list.push(306, &[7])?;
-        let node = Node::new(list);
-        assert_eq!(rt; (node.first(), node.last(), node.count()), (300, 306, 2));
-        assert_eq!(rt; (node.head(), node.bytes().len()), (4, 9));
-        assert_eq!(rt; node.cursor().count(), 2);
-        Ok(())
-    }
-}

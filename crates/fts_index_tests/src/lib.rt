@@ -1,8 +1,25 @@
-//! Tests of the index, by the calls that stand open to all crates: what commits, batches, passes and
-//! openings leave of rows that were worked out by hand.
+//! Tests of the index and of what it stands on, by the calls that are open to all: position lists,
+//! cache, delete lists, tables, batches and passes, and what commits leave of rows that were worked
+//! out by hand.
 //!
-//! They stand apart so that the index is proved once less.
+//! They stand apart so that what they test is proved once less.
 #![tactic(auto)]
 
 #[cfg(test)]
-mod tests;
+mod aux;
+#[cfg(test)]
+mod cache;
+#[cfg(test)]
+mod ilist;
+#[cfg(test)]
+mod index;
+#[cfg(test)]
+mod ixcodec;
+#[cfg(test)]
+mod lists;
+#[cfg(test)]
+mod nodes;
+#[cfg(test)]
+mod optimize;
+#[cfg(test)]
+mod sync;

@@ -15,8 +15,6 @@ mod lines;
 mod memory;
 mod sink;
 mod source;
-#[cfg(test)]
-mod tests;
 mod write;
 
 pub use buffer::READ_SIZE;

@@ -27,6 +27,3 @@ pub use entry::Entry;
 pub use error::DecodeError;
 pub use laws::batches_are_entries;
 pub use measure::{entry_size, sealed_size, worked_size};
-
-#[cfg(test)]
-mod tests;

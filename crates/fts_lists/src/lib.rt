@@ -18,6 +18,3 @@ mod sorted;
 
 pub use fts_ids::IdWalk;
 pub use lists::{DeleteList, Lists};
-
-#[cfg(test)]
-mod tests;

@@ -31,6 +31,3 @@ pub use laws::{not_damaged, one_list, one_place};
 pub use log::Log;
 pub use opening::{open_log, read_records};
 pub use records::Records;
-
-#[cfg(test)]
-mod tests;

@@ -11,6 +11,3 @@
 mod reworking;
 
 pub use reworking::rework;
-
-#[cfg(test)]
-mod tests;

@@ -12,8 +12,6 @@
 
 mod distance;
 mod phrase;
-#[cfg(test)]
-mod tests;
 mod word;
 
 pub use distance::distance_holds;

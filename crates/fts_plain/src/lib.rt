@@ -8,8 +8,6 @@
 mod operand;
 mod rows;
 mod terms;
-#[cfg(test)]
-mod tests;
 mod verdict;
 mod words;
 

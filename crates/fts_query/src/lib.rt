@@ -15,8 +15,6 @@ mod parser;
 mod plain;
 mod query;
 mod quotes;
-#[cfg(test)]
-mod tests;
 mod view;
 mod words;
 

@@ -20,6 +20,3 @@ pub use encode::{encode_commit, encode_commit_into, encode_settings, encode_sett
 pub use error::DecodeError;
 pub use measure::{commit_size, settings_size};
 pub use settings::decode_settings;
-
-#[cfg(test)]
-mod tests;

@@ -24,5 +24,3 @@ pub use rows::Rows;
 
 #[cfg(test)]
 mod changing;
-#[cfg(test)]
-mod tests;

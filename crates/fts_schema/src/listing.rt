@@ -155,6 +155,3 @@ fn put_texts(rows: &mut RowLines, texts: &[&str]) -> Result<(), AllocError>
     }
     Ok(())
 }
-
-#[cfg(test)]
-mod tests;

@@ -260,6 +260,3 @@ fn put_found_text(text: &mut Vec<u8>, number: u64, docs: &[u64]) -> Result<(), A
     text.push(b'\n')?;
     Ok(())
 }
-
-#[cfg(test)]
-mod tests;

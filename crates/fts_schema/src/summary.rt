@@ -151,6 +151,3 @@ fn told(alloc: Global, summary: &Summary) -> Result<String, AllocError>
         "gen {statements} statements, commits {commits}, rows {rows}, largest {largest}, {sums}\n"
     )
 }
-
-#[cfg(test)]
-mod tests;

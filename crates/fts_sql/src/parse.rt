@@ -86,6 +86,3 @@ fn read_tokens(alloc: Global, tokens: &[Placed], ending: Ending) -> Result<Said,
         },
     }
 }
-
-#[cfg(test)]
-mod tests;

@@ -61,6 +61,3 @@ fn session_number(digits: &[u8]) -> Option<u32>
     }
     Some(number as u32)
 }
-
-#[cfg(test)]
-mod tests;

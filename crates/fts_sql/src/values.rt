@@ -46,18 +46,3 @@ impl Values {
         self.values.len()
     }
 }
-
-#[cfg(test)]
-mod tests {
-    use super::*;
-    use std::test::Fail;
-
-    #[test]
-    fn values_are_kept(rt: HostRuntime) -> Result<(), Fail> {
-        let values = Values::from_vec(vec![in rt.alloc(); Value::Number(7)]?);
-        assert_eq!(rt; values.len(), 1);
-        assert!(rt; matches!(values.as_slice(), [Value::Number(7)]));
-        assert_eq!(rt; values.into_vec().len(), 1);
-        Ok(())
-    }
-}

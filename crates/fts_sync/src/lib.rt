@@ -11,6 +11,3 @@
 mod sealing;
 
 pub use sealing::batch;
-
-#[cfg(test)]
-mod tests;

@@ -1,6 +1,0 @@
-use Rattle.std.proofs.Common.{drop}
-use Rattle.fts_cache.specs.Cache.{HasRoom}
-use Rattle.fts_cache.proofs.tests.add_all.Given as goal
-
-abbrev pub invariant-loop-document : goal.invariant-loop-document
-invariant-loop-document g l = HasRoom l.cache (drop l.document-index l.documents)

@@ -1,0 +1,14 @@
+//! Tests of queries: texts with their trees or faults, words and phrases in rows, and answers
+//! beside the scan.
+//!
+//! They stand apart so that what they test is proved once less.
+#![tactic(auto)]
+
+#[cfg(test)]
+mod eval;
+#[cfg(test)]
+mod phrase;
+#[cfg(test)]
+mod plain;
+#[cfg(test)]
+mod query;

@@ -1,0 +1,53 @@
+ghost use Rattle.std.specs.Prelude.{IfOk};
+ghost use Rattle.fts_ids.specs.Ids.{Ascend};
+ghost use Rattle.fts_ilist.specs.Node.{NodesAfter};
+
+use fts_ilist::{Ilist, Node, NodeList};
+use fts_optimize::rework;
+use fts_types::DocId;
+use std::alloc::{AllocError, Global};
+use std::process::Abort;
+use std::test::Fail;
+
+// A node of two documents, and one of a third, each at the place 7.
+fn two_nodes(alloc: Global) -> Result<NodeList, AllocError>
+    ensures { IfOk result (λ list. NodesAfter 0 list.nodes) }
+{
+    let mut first = Ilist::new(alloc);
+    first.push(3, &[7])?;
+    first.push(5, &[7])?;
+    let mut second = Ilist::new(alloc);
+    second.push(9, &[7])?;
+    NodeList::of(alloc, &[Node::new(first), Node::new(second)])
+}
+
+// What is left of these nodes: one node of documents with these ids.
+fn is_left(rt: &impl Abort, alloc: Global, being: &[DocId], ids: &[DocId]) -> Result<(), Fail>
+    requires { Ascend being.now }
+{
+    let nodes = two_nodes(alloc)?;
+    let new = rework(alloc, nodes.as_slice(), being)?;
+    assert_eq!(rt; new.as_slice().len(), 1);
+    for node in new.as_slice() {
+        assert_eq!(rt; node.count(), ids.len());
+        for (document, id) in node.cursor().zip(ids) {
+            assert_eq!(rt; document.id(), *id);
+        }
+    }
+    Ok(())
+}
+
+#[test]
+fn what_is_left_of_a_word_is_packed(rt: HostRuntime) -> Result<(), Fail> {
+    is_left(&rt, rt.alloc(), &[], &[3, 5, 9])?;
+    is_left(&rt, rt.alloc(), &[1, 5, 7], &[3, 9])?;
+    is_left(&rt, rt.alloc(), &[3, 9], &[5])
+}
+
+#[test]
+fn a_word_can_lose_all_its_nodes(rt: HostRuntime) -> Result<(), Fail> {
+    let nodes = two_nodes(rt.alloc())?;
+    let new = rework(rt.alloc(), nodes.as_slice(), &[3, 5, 9, 12])?;
+    assert!(rt; new.is_empty());
+    Ok(())
+}

@@ -1,0 +1,12 @@
+//! Tests of lines and pieces, of the device in memory, and of logs: bytes with what they hold or
+//! where they are at fault, and what a stop in each call leaves.
+//!
+//! They stand apart so that what they test is proved once less.
+#![tactic(auto)]
+
+#[cfg(test)]
+mod disk;
+#[cfg(test)]
+mod io;
+#[cfg(test)]
+mod log;

@@ -1,0 +1,10 @@
+//! Tests of the rows and of their payloads: commits with the rows that they leave or the refusal
+//! that they get, and payloads byte by byte.
+//!
+//! They stand apart so that what they test is proved once less.
+#![tactic(auto)]
+
+#[cfg(test)]
+mod rowcodec;
+#[cfg(test)]
+mod rows;

@@ -1,0 +1,16 @@
+//! Tests of statements and replies: lines with what they are read as or where they are at fault,
+//! and replies, listings and sums byte by byte.
+//!
+//! They stand apart so that what they test is proved once less.
+#![tactic(auto)]
+
+#[cfg(test)]
+mod listing;
+#[cfg(test)]
+mod parse;
+#[cfg(test)]
+mod reply;
+#[cfg(test)]
+mod session;
+#[cfg(test)]
+mod summary;
