@@ -21,6 +21,3 @@ mod updating;
 pub use error::PlanError;
 pub use plan::Plan;
 pub use rows::Rows;
-
-#[cfg(test)]
-mod changing;

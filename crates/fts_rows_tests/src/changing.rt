@@ -1,6 +1,6 @@
 //! Tests of what lists of changes do to three rows.
-use crate::{PlanError, Rows};
 use fts_commits::{Change, NewTexts, Refusal};
+use fts_rows::{PlanError, Rows};
 use fts_types::{DocId, Key, Limits, RowTexts, SharedTexts};
 use std::alloc::{AllocError, Global};
 use std::test::*;
