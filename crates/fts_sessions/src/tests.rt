@@ -467,46 +467,6 @@ fn views_are_called_by_two_names(rt: HostRuntime) {
     }
 }
 
-const CONFIG: &str = "KEY|VALUE
-max_token_size|84
-min_token_size|3
-optimize_word|
-synced_commit|0
-synced_doc_id|0
-use_stopword|1
-OK 6 rows as of 0
-";
-
-const INDEX_REPLIES: [(&str, &str); 9] = [
-    ("SYNC", "OK sync as of 0\n"),
-    ("sync ;", "OK sync as of 0\n"),
-    ("OPTIMIZE TABLE docs", "OK optimize nothing\n"),
-    ("optimize table Docs ;", "OK optimize nothing\n"),
-    ("OPTIMIZE TABLE Books", "ERROR no such table Books\n"),
-    ("SELECT * FROM INFORMATION_SCHEMA.INNODB_FT_CONFIG", CONFIG),
-    (
-        "select * from information_schema . innodb_ft_index_table;",
-        "WORD|FIRST_DOC_ID|LAST_DOC_ID|DOC_COUNT|DOC_ID|POSITION\nOK 0 rows as of 0\n",
-    ),
-    (
-        "SELECT * FROM information_schema . Nope",
-        "ERROR no such table information_schema.Nope\n",
-    ),
-    (
-        "SELECT * FROM docs.INNODB_FT_CONFIG",
-        "ERROR no such table docs.INNODB_FT_CONFIG\n",
-    ),
-];
-
-#[test]
-fn each_line_of_the_index_has_its_reply(rt: HostRuntime) -> Result<(), Fail> {
-    for (line, want) in INDEX_REPLIES {
-        let reply = reply_of(rt.alloc(), line)?;
-        assert_eq!(rt; reply.as_slice(), want.as_bytes(), "of {line}");
-    }
-    Ok(())
-}
-
 /// Executes a line, and gives its reply.
 fn executed(alloc: Global, steps: &mut Direct<MemDisk, MemDisk>, line: &str) -> Reply {
     Session::new(alloc, 1).execute(steps, &OpenGate, line.as_bytes())
@@ -543,64 +503,6 @@ fn told_by(
 ) -> Result<Vec<u8>, AllocError> {
     let reply = executed(alloc, steps, line);
     reply_text(alloc, &reply)
-}
-
-/// The text of the reply to a line behind these rows.
-fn told_behind(alloc: Global, line: &str) -> Result<Vec<u8>, AllocError> {
-    let mut steps = filled(alloc)?;
-    told_by(alloc, &mut steps, line)
-}
-
-/// The text of the reply to a search of these rows.
-fn found_by(alloc: Global, query: &str) -> Result<Vec<u8>, Fail> {
-    let line = format!(in alloc;
-        "SELECT FTS_DOC_ID FROM docs WHERE MATCH (title, body) AGAINST ('{query}' IN BOOLEAN MODE)"
-    )?;
-    Ok(told_behind(alloc, &line)?)
-}
-
-const CACHE: &str = "POSITION
-apple|1|2|2|1|0
-apple|1|2|2|1|6
-apple|1|2|2|2|7
-pie|1|3|3|1|19
-pie|1|3|3|2|13
-pie|1|3|3|3|0
-theory|2|3|2|2|0
-theory|2|3|2|3|8
-OK 8 rows as of 3
-";
-
-/// Lines behind three INSERTs, and how their replies end.
-const FLUSHING: [(&str, &str); 6] = [
-    (
-        "SELECT * FROM INFORMATION_SCHEMA.INNODB_FT_INDEX_CACHE",
-        CACHE,
-    ),
-    ("SYNC", "OK sync as of 3\n"),
-    (
-        "SELECT * FROM INFORMATION_SCHEMA.INNODB_FT_INDEX_CACHE",
-        "POSITION\nOK 0 rows as of 3\n",
-    ),
-    (
-        "SELECT * FROM INFORMATION_SCHEMA.INNODB_FT_INDEX_TABLE",
-        "\nOK 8 rows as of 3\n",
-    ),
-    (
-        "SELECT * FROM INFORMATION_SCHEMA.INNODB_FT_CONFIG",
-        "\nsynced_commit|3\nsynced_doc_id|3\nuse_stopword|1\nOK 6 rows as of 3\n",
-    ),
-    ("SYNC", "OK sync as of 3\n"),
-];
-
-#[test]
-fn a_sync_flushes_what_is_cached(rt: HostRuntime) -> Result<(), Fail> {
-    let mut steps = filled(rt.alloc())?;
-    for (line, want) in FLUSHING {
-        let reply = told_by(rt.alloc(), &mut steps, line)?;
-        assert!(rt; reply.as_slice().ends_with(want.as_bytes()), "of {line}");
-    }
-    Ok(())
 }
 
 /// An INSERT behind which the rows log ends at 79, and its batch the index log at 81.
@@ -754,28 +656,6 @@ fn a_fault_in_a_pass_stops_the_engine(rt: HostRuntime) -> Result<(), Fail> {
     Ok(())
 }
 
-const QUERIES: [(&str, &str); 10] = [
-    ("apple", "OK as of 3: 1 2\n"),
-    ("apple theory", "OK as of 3: 1 2 3\n"),
-    ("+apple +theory", "OK as of 3: 2\n"),
-    ("-apple pie", "OK as of 3: 3\n"),
-    ("theo*", "OK as of 3: 2 3\n"),
-    ("\"apple pie\"", "OK as of 3: 2\n"),
-    ("\"apple pie\" @3", "OK as of 3: 1 2\n"),
-    ("+(theory -apple) +pie", "OK as of 3: 3\n"),
-    ("the", "OK as of 3: none\n"),
-    ("apple)", "ERROR query syntax at 6\n"),
-];
-
-#[test]
-fn each_query_finds_its_rows(rt: HostRuntime) -> Result<(), Fail> {
-    for (query, want) in QUERIES {
-        let reply = found_by(rt.alloc(), query)?;
-        assert_eq!(rt; reply.as_slice(), want.as_bytes(), "of {query}");
-    }
-    Ok(())
-}
-
 /// The text of the reply that refuses a query; none for one that is taken.
 fn refusal_of(alloc: Global, query: &str) -> Result<Vec<u8>, Fail> {
     match query_of(alloc, query.as_bytes())? {
@@ -804,22 +684,5 @@ fn a_query_is_read_or_refused(rt: HostRuntime) -> Result<(), Fail> {
         let reply = refusal_of(rt.alloc(), query)?;
         assert_eq!(rt; reply.as_slice(), want.as_bytes(), "of {query}");
     }
-    Ok(())
-}
-
-#[test]
-fn a_query_has_at_most_4096_bytes(rt: HostRuntime) -> Result<(), Fail> {
-    let mut query = String::new(rt.alloc());
-    for _ in 0..4_096 {
-        query.push('x')?;
-    }
-    let taken = refusal_of(rt.alloc(), query.as_str())?;
-    query.push('x')?;
-    let refused = refusal_of(rt.alloc(), query.as_str())?;
-    assert_eq!(rt; taken.as_slice(), b"".as_slice());
-    assert_eq!(rt;
-        refused.as_slice(),
-        b"ERROR query too long 4097\n".as_slice()
-    );
     Ok(())
 }
