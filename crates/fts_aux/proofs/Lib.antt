@@ -9,7 +9,6 @@ mod Places
 mod Nexts
 mod Batches
 mod Rooms
-mod Ascending
 mod Walks
 mod Counts
 mod LooseIn

@@ -4,7 +4,7 @@ use Rattle.std.specs.Map.{keys_of}
 use Rattle.std.proofs.lemmas.List.{take_rest}
 use Rattle.fts_words.specs.Order.{byte_order}
 use Rattle.fts_ilist.specs.Node.{Docs}
-use Rattle.fts_aux.proofs.Ascending.{StandsBefore, ascend_none, ascend_more}
+use Rattle.fts_index_tests.proofs.Ascending.{StandsBefore, ascend_none, ascend_more}
 use Rattle.fts_index_tests.proofs.aux.checks.+ascend.Goals as goal
 
 pub returns-in-empty : goal.returns-in-empty
