@@ -9,6 +9,4 @@ mod eval;
 #[cfg(test)]
 mod phrase;
 #[cfg(test)]
-mod plain;
-#[cfg(test)]
 mod query;
