@@ -1,5 +1,9 @@
 //! The program: makes both devices of the folder that the first word names, and does what the words
 //! ask for.
+//!
+//! `fts shop run` answers the script on its standard input from the database in the folder `shop`.
+//! It makes one call of `fts_once`, and costs what that costs: an opening, the lines, and one write
+//! for each reply.
 #![tactic(auto)]
 
 use fts_host::{HostDisk, OpenStreams, Refusal, StdSink, StdSource};

@@ -2,6 +2,7 @@
 //! beside the scan.
 //!
 //! They stand apart so that what they test is proved once less.
+//! `rt test` in this crate's folder runs them.
 #![tactic(auto)]
 
 #[cfg(test)]

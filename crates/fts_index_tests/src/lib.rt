@@ -3,6 +3,7 @@
 //! out by hand.
 //!
 //! They stand apart so that what they test is proved once less.
+//! `rt test` in this crate's folder runs them.
 #![tactic(auto)]
 
 #[cfg(test)]

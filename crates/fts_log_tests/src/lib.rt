@@ -2,6 +2,7 @@
 //! where they are at fault, and what a stop in each call leaves.
 //!
 //! They stand apart so that what they test is proved once less.
+//! `rt test` in this crate's folder runs them.
 #![tactic(auto)]
 
 #[cfg(test)]

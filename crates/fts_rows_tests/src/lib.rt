@@ -2,6 +2,7 @@
 //! that they get, and payloads byte by byte.
 //!
 //! They stand apart so that what they test is proved once less.
+//! `rt test` in this crate's folder runs them.
 #![tactic(auto)]
 
 #[cfg(test)]

@@ -2,6 +2,7 @@
 //! and replies, listings and sums byte by byte.
 //!
 //! They stand apart so that what they test is proved once less.
+//! `rt test` in this crate's folder runs them.
 #![tactic(auto)]
 
 #[cfg(test)]

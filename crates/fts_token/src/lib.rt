@@ -4,6 +4,9 @@
 //! those of a row that are indexed, each with its column and position, in order. They are iterators
 //! that borrow what they read and take no memory.
 //!
+//! `raw_words(b"it's 'ok'")` gives the places of `it's` and of `ok`, and
+//! `indexed_words(&settings, &texts)` the words that an index keeps of a row.
+//!
 //! A text is read once, 64 bytes at a time.
 #![tactic(auto)]
 
