@@ -5,11 +5,10 @@ use Rattle.std.specs.Str.{bytes_eq}
 use Rattle.std.proofs.lemmas.List.{drop_more, drop_all}
 use Rattle.fts_words.specs.declared.span.Span.{Span}
 use Rattle.fts_words.specs.Byte.{lowered}
-use Rattle.fts_words.specs.RawWords.{raw_words, bytes_of}
-use Rattle.fts_meaning.specs.Token.{words_in}
-use Rattle.fts_meaning.specs.Holds.{starts_with_words, from_some_place, stands_in}
+use Rattle.fts_words.specs.RawWords.{bytes_of}
+use Rattle.fts_meaning.specs.Holds.{starts_with_words, from_some_place}
 use Rattle.fts_phrase.specs.Words.{lowered_words, LieIn}
-use Rattle.fts_phrase.proofs.Given.{lie_all, lie_rest, all_words}
+use Rattle.fts_phrase.proofs.Given.{lie_rest}
 
 -- ---- from some place on
 
@@ -76,33 +75,3 @@ module _ (text : List ℕ) (words : List (List ℕ)) where
 
 abbrev pub begins_phrase : List (List ℕ) → List (List ℕ) → Bool
 begins_phrase words rest = starts_with_words rest words
-
--- the words that are left have the phrase where all have it
-pub record IsSeeking (text : List ℕ) (words : List (List ℕ)) (left : List Span) (all : List (List ℕ)) : Type 0 where
-  pub same : some_end (begins_phrase words) (lowered_words text left) ≡ some_end (begins_phrase words) all
-  pub lie : LieIn text left
-
-module _ (text : List ℕ) (words : List (List ℕ)) where
-  abbrev Seeks : List Span → Type 0
-  Seeks left = IsSeeking text words left (words_in text)
-
-  pub seeks_first : (left : List Span) → left ≡ raw_words text → Seeks left
-  seeks_first left all = record { same = ap (some_end (begins_phrase words)) (all_words text left all); lie = lie_all text left all }
-
-  here : (left rest : List Span) (span : Span) → left ≡ span ∷ rest → Seeks left
-      → (starts_with_words (lowered_words text (span ∷ rest)) words || some_end (begins_phrase words) (lowered_words text rest)) ≡ some_end (begins_phrase words) (words_in text)
-  here left rest span split s = sym (ap (λ (spans : List Span). some_end (begins_phrase words) (lowered_words text spans)) split) ∙ s.same
-
-  pub seeks_found : (left rest : List Span) (span : Span) → left ≡ span ∷ rest → starts_with_words (lowered_words text (span ∷ rest)) words ≡ true → Seeks left → true ≡ stands_in words text
-  seeks_found left rest span split stands s =
-      sym (ap (λ (b : Bool). b || some_end (begins_phrase words) (lowered_words text rest)) stands) ∙ here left rest span split s ∙ sym (some_end_is (begins_phrase words) (words_in text))
-
-  pub seeks_more : (left rest : List Span) (span : Span) → left ≡ span ∷ rest → starts_with_words (lowered_words text (span ∷ rest)) words ≡ false → Seeks left → Seeks rest
-  seeks_more left rest span split fails s = record {
-    same = sym (ap (λ (b : Bool). b || some_end (begins_phrase words) (lowered_words text rest)) fails) ∙ here left rest span split s;
-    lie = lie_rest text left rest span split s.lie;
-  }
-
-  pub seeks_none : (left : List Span) → left ≡ [] → Seeks left → false ≡ stands_in words text
-  seeks_none left none s =
-      sym (ap (λ (spans : List Span). some_end (begins_phrase words) (lowered_words text spans)) none) ∙ s.same ∙ sym (some_end_is (begins_phrase words) (words_in text))

@@ -70,13 +70,6 @@ not_alike found word k within differ =
     at (x ∷ xs) zero lt = refl
     at (x ∷ xs) (suc k) lt = at xs k (omega (arith, lt))
 
-pub not_as_long : (found word : List ℕ) → (length found ≡ length word → ⊥) → bytes_eq (lowered found) word ≡ false
-not_as_long found word differ =
-    ⊎_elim
-    (λ (same : bytes_eq (lowered found) word ≡ true). absurd (differ (sym (length-map found to_ascii_lowercase) ∙ ap length ((bytes_eq-Decides (lowered found) word).0 same))))
-    (λ differs. differs)
-    (cases_Bool (bytes_eq (lowered found) word))
-
 pub all_alike : (found word : List ℕ) → length found ≡ length word → AreAlike found word (length found) → bytes_eq (lowered found) word ≡ true
 all_alike found word long alike = (bytes_eq-Decides (lowered found) word).1 (same found word long alike)
   where

@@ -5,13 +5,15 @@
 //! their letters lowered, and are compared with the raw words of each column, those included that
 //! are not indexed.
 //!
-//! Each column is read once, in place, and no memory is taken. A phrase costs its first word at
-//! each raw word, and more only where that one is met: `a a .. b` costs most in a text of many
-//! `a`. A distance costs a comparison with each of its words at each raw word.
+//! Each column is read once, in place, and no memory is taken. A phrase looks at 64 places at once
+//! whether its first word may begin there, and at more only where that word stands: `a a .. b`
+//! costs most in a text of many `a`. A distance costs a comparison with each of its words at each
+//! raw word.
 #![tactic(auto)]
 
 mod distance;
 mod phrase;
+mod seek;
 mod word;
 
 pub use distance::distance_holds;

@@ -6,7 +6,7 @@ ghost use Rattle.fts_words.specs.RawWords.{bytes_of};
 use fts_words::Span;
 
 /// Whether the bytes are this word once their letters are lowered.
-fn is_lowered(found: &[u8], word: &[u8]) -> bool
+pub(crate) fn is_lowered(found: &[u8], word: &[u8]) -> bool
     ensures { result ≡ bytes_eq (lowered found.now) word.now }
 {
     if found.len() != word.len() {

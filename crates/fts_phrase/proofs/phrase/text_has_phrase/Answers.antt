@@ -1,18 +1,27 @@
-use Rattle.std.proofs.Common.{sym, ◌∙◌}
-use Rattle.fts_phrase.proofs.Following.{seeks_first, seeks_found, seeks_more}
-use Rattle.fts_phrase.proofs.Given.{lie_rest}
+use Rattle.std.proofs.Common.{List, ℕ, length, subst}
+use Rattle.fts_phrase.specs.Words.{StandsAtNone}
+use Rattle.fts_phrase.proofs.Places.{from_start, found_here, go_on, found_nowhere}
 use Rattle.fts_phrase.proofs.phrase.text_has_phrase.Goals as goal
 
-pub loop-first-init : goal.loop-first-init
-loop-first-init c = seeks_first c.args.text.now c.args.words.now _ c.raw_words-rest.ensures
+pub loop-place-init : goal.loop-place-init
+loop-place-init c = from_start c.args.text.now c.args.words.now
 
-pub stand_from-requires-clause-behind : goal.stand_from-requires-clause-behind
-stand_from-requires-clause-behind c = lie_rest c.args.text.now _ _ c.in-Some.first c.in-Some.ensures.steps c.loop-first.invariant.lie
+pub returns-then-stand_at : goal.returns-then-stand_at
+returns-then-stand_at c =
+    let found = c.in-Some.ensures.some in
+    let text = c.args.text.now in
+    found_here text c.args.words.now c.loop-place.at c.in-Some.place _ found.0 found.1
+    (subst (λ (word : List ℕ). StandsAtNone text word c.loop-place.at c.in-Some.place) c.first_of-first.ensures found.2) c.stand_at.ensures c.if-stand_at.true c.loop-place.invariant
 
-pub returns-then-stand_from : goal.returns-then-stand_from
-returns-then-stand_from c =
-    seeks_found c.args.text.now c.args.words.now _ _ c.in-Some.first c.in-Some.ensures.steps (sym c.stand_from.ensures ∙ c.if-stand_from.true) c.loop-first.invariant
+pub loop-place-preserved : goal.loop-place-preserved
+loop-place-preserved c =
+    let found = c.in-Some.ensures.some in
+    let text = c.args.text.now in
+    go_on text c.args.words.now c.loop-place.at c.in-Some.place _ found.0 found.1
+    (subst (λ (word : List ℕ). StandsAtNone text word c.loop-place.at c.in-Some.place) c.first_of-first.ensures found.2) c.stand_at.ensures c.if-stand_at.false c.loop-place.invariant
 
-pub loop-first-preserved : goal.loop-first-preserved
-loop-first-preserved c =
-    seeks_more c.args.text.now c.args.words.now _ _ c.in-Some.first c.in-Some.ensures.steps (sym c.stand_from.ensures ∙ c.if-stand_from.false) c.loop-first.invariant
+pub returns : goal.returns
+returns c =
+    let text = c.args.text.now in
+    found_nowhere text c.args.words.now c.loop-place.at
+    (subst (λ (word : List ℕ). StandsAtNone text word c.loop-place.at (length text)) c.first_of-first.ensures c.in_default.ensures.none) c.loop-place.invariant

@@ -1,11 +1,9 @@
-use Rattle.std.proofs.Common.{length}
-use Rattle.fts_meaning.specs.Token.{words_in}
-use Rattle.fts_token.specs.Left.{raw_words_left}
-use Rattle.fts_phrase.proofs.Following.{IsSeeking}
+use Rattle.std.proofs.Common.{◌-◌, length}
+use Rattle.fts_phrase.proofs.Places.{IsSeekingFrom}
 use Rattle.fts_phrase.proofs.phrase.text_has_phrase.Given as goal
 
-abbrev pub invariant-loop-first : goal.invariant-loop-first
-invariant-loop-first l = IsSeeking l.text l.words (raw_words_left l.rest) (words_in l.text)
+abbrev pub invariant-loop-place : goal.invariant-loop-place
+invariant-loop-place l = IsSeekingFrom l.text l.words l.at
 
-abbrev pub decreases-loop-first : goal.decreases-loop-first
-decreases-loop-first l = length (raw_words_left l.rest)
+abbrev pub decreases-loop-place : goal.decreases-loop-place
+decreases-loop-place l = length l.text - l.at
