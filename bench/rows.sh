@@ -26,7 +26,8 @@ choose_parts() {
     fi
 }
 
-# The test, whose last line fails and tells the times. It stands in place of the crate's own tests. $1 takes a row out.
+# The test, whose last line fails and tells the times. It stands in place of the crate's own tests, where it has
+# some. $1 takes a row out.
 timed_test() {
     cat <<TEST
 ghost use Rattle.std.specs.Prelude.{◌<◌, All, IfOk};
@@ -269,6 +270,7 @@ print(resource.getrusage(resource.RUSAGE_CHILDREN).ru_maxrss * 1024 // 1000000, 
 build() {
     cd "$1/crates/fts_rows" || exit 1
     choose_parts "$1"
+    grep -q '^mod tests;' src/lib.rt || printf '\n#[cfg(test)]\nmod tests;\n' >>src/lib.rt
     if grep -q 'pub fn remove(' src/rows.rt; then
         timed_test 'let _row = rows.remove(key);' >src/tests.rt
     else

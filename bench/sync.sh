@@ -9,7 +9,7 @@ top=$(CDPATH='' cd -- "$(dirname -- "$0")/.." && pwd) || exit 1
 folder=$(mktemp -d) || exit 1
 trap 'rm -rf "$folder"' EXIT
 
-# The test, whose last line fails and tells the times. It stands in place of the crate's own tests.
+# The test, whose last line fails and tells the times. It stands in place of the crate's own tests, where it has some.
 timed_test() {
     cat <<'TEST'
 ghost use Rattle.std.specs.Prelude.{◌<◌};
@@ -139,6 +139,7 @@ TEST
 # Builds the test of the tree in this folder.
 build() {
     cd "$1/crates/fts_sync" || exit 1
+    grep -q '^mod tests;' src/lib.rt || printf '\n#[cfg(test)]\nmod tests;\n' >>src/lib.rt
     timed_test >src/tests.rt
     rt test 2>&1 | grep -E 'error|no proof|not proved' | head -20
 }

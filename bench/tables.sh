@@ -171,10 +171,16 @@ fn times(rt: HostRuntime) -> Result<(), Fail> {
 TEST
 }
 
-# Times the tree in this folder.
+# Times the tree in this folder. What an install asks is tested by a module that stands in the crate or, since its tests stand apart,
+# with those of its layer.
 run() {
     cd "$1/crates/fts_aux" || exit 1
-    if grep -q '^mod checks;' src/tests.rt; then
+    if [ ! -f src/tests.rt ]; then
+        mkdir -p src/tests
+        printf '\n#[cfg(test)]\nmod tests;\n' >>src/lib.rt
+        sed 's/^use fts_aux::/use crate::/' ../fts_index_tests/src/aux/checks.rt >src/tests/checks.rt
+    fi
+    if [ -f src/tests/checks.rt ]; then
         head_of_test >src/tests.rt
     fi
     if grep -q 'install_batch(&mut self, batch: &' src/tables.rt; then
