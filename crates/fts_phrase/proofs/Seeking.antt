@@ -1,6 +1,6 @@
 -- The places at which a word may stand, by marks.
 use Rattle.std.proofs.Common.{min, replicate, ◌≡◌, ℕ, ◌+◌, ◌-◌, ◌%◌, ◌^◌, ◌<◌, ◌≤◌, Bool, true, false, eqb, List, map, length, get_or, cond, w64, refl, sym, ap, ap₂, ◌∙◌, subst, ⊎_elim, arith}
-use Rattle.std.specs.Prelude.{Option, Some, None, IfSome, IfNone}
+use Rattle.std.specs.Prelude.{Option, Some, None}
 use Rattle.std.specs.Int.{bit_at, trailing_zeros}
 use Rattle.std.specs.Int.Bits.{bit_or, bit_and}
 use Rattle.std.specs.Char.{to_ascii_lowercase}
@@ -9,7 +9,7 @@ use Rattle.std.proofs.lemmas.Bool.{agree_below_at, cases_lt}
 use Rattle.std.proofs.lemmas.List.{length-map, get_or-map}
 use lib.Lanes.{chunk, mask_l, top, zip2}
 use Rattle.std.proofs.lemmas.Nat.Bits.{bit_at_and, bit_at-zero, bit_at-trailing_zeros}
-use Rattle.fts_phrase.specs.Words.{StandsAt, StandsAtNone}
+use Rattle.fts_phrase.specs.Words.{StandsAt, StandsAtNone, MayStandFirst}
 
 -- ---- a bit of a mask
 
@@ -85,15 +85,9 @@ before_both text word at from to none more place low high stands =
 
 -- what is found from a place on is found from one before it, if the word stands at none between them
 pub found_before : (text word : List ℕ) (at from : ℕ) → at ≤ from → StandsAtNone text word at from → (found : Option ℕ)
-    → IfSome found (λ place. (from ≤ place) × (place < length text) × StandsAtNone text word from place)
-    → IfSome found (λ place. (at ≤ place) × (place < length text) × StandsAtNone text word at place)
+    → MayStandFirst text word from found → MayStandFirst text word at found
 found_before text word at from order none (Some place) h = (omega (arith, order, h.0), h.1, before_both text word at from place none h.2)
-found_before text word at from order none None h = h
-
-pub none_before : (text word : List ℕ) (at from : ℕ) → StandsAtNone text word at from → (found : Option ℕ)
-    → IfNone found (StandsAtNone text word from (length text)) → IfNone found (StandsAtNone text word at (length text))
-none_before text word at from none (Some place) h = h
-none_before text word at from none None h = before_both text word at from (length text) none h
+found_before text word at from order none None h = before_both text word at from (length text) none h
 
 -- a bit of both marks
 pub both_bits : (a b j : ℕ) → bit_at a j ≡ 1 → bit_at b j ≡ 1 → bit_at (bit_and a b) j ≡ 1

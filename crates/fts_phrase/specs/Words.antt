@@ -1,4 +1,4 @@
-use Rattle.std.specs.Prelude.{◌≡◌, ℕ, ◌+◌, ◌-◌, ◌<◌, ◌≤◌, max, Bool, false, List, [], ◌∷◌, length, map, slice_index, All}
+use Rattle.std.specs.Prelude.{Option, Some, None, ◌≡◌, ℕ, ◌+◌, ◌-◌, ◌<◌, ◌≤◌, max, Bool, false, List, [], ◌∷◌, length, map, slice_index, All}
 use Rattle.std.specs.Char.{to_ascii_lowercase}
 use Rattle.fts_words.specs.declared.span.Span.{Span}
 use Rattle.fts_words.specs.Byte.{lowered}
@@ -26,6 +26,11 @@ pub record StandsAt (text word : List ℕ) (place : ℕ) : Type 0 where
 -- at none of the places from one up to another does the word stand
 abbrev pub StandsAtNone : List ℕ → List ℕ → ℕ → ℕ → Type 0
 StandsAtNone text word from to = (place : ℕ) → from ≤ place → place < to → StandsAt text word place → ⊥
+
+-- a place from one on at which the word may stand: it stands at none before it, and where no place is told, at none at all
+abbrev pub MayStandFirst : List ℕ → List ℕ → ℕ → Option ℕ → Type 0
+MayStandFirst text word at (Some place) = (at ≤ place) × (place < length text) × StandsAtNone text word at place
+MayStandFirst text word at None = StandsAtNone text word at (length text)
 
 -- the least number, from 1, of a word that a window can begin with whose last word has this number
 abbrev pub window_start : ℕ → ℕ → ℕ

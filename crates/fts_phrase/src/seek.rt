@@ -1,9 +1,8 @@
 //! The places of a text at which a word may stand, 64 of them at once.
-ghost use Rattle.std.specs.Prelude.{◌≡◌, ℕ, ◌+◌, ◌<◌, ◌≤◌, length, slice_index, IfSome, IfNone};
-ghost use Rattle.std.specs.Prelude.{IsTrue, true};
+ghost use Rattle.std.specs.Prelude.{◌≡◌, ℕ, ◌+◌, ◌<◌, ◌≤◌, length, slice_index, IsTrue, true};
 ghost use Rattle.std.specs.Char.{to_ascii_lowercase};
 ghost use Rattle.std.specs.Int.{bit_at};
-ghost use Rattle.fts_phrase.specs.Words.{StandsAt, StandsAtNone};
+ghost use Rattle.fts_phrase.specs.Words.{StandsAt, MayStandFirst};
 
 use crate::word::is_lowered;
 use std::simd::prelude::*;
@@ -47,12 +46,10 @@ fn may_stand(text: &[u8], place: usize, word: &[u8]) -> bool
     }
 }
 
-/// The first place from one on, near the text's end, at which a word may stand.
+/// A place from one on at which a word may stand first, by the first bytes of what is left.
 fn next_at_end(text: &[u8], at: usize, word: &[u8]) -> Option<usize>
     requires { at ≤ length text.now }
-    ensures some { IfSome result (λ place. (at ≤ place) × (place < length text.now)
-        × StandsAtNone text.now word.now at place) }
-    ensures none { IfNone result (StandsAtNone text.now word.now at (length text.now)) }
+    ensures { MayStandFirst text.now word.now at result }
 {
     for place in at..text.len() {
         if may_stand(text, place, word) {
@@ -62,12 +59,10 @@ fn next_at_end(text: &[u8], at: usize, word: &[u8]) -> Option<usize>
     None
 }
 
-/// The first place from one on at which a word may stand, its letters in either case.
+/// A place from one on at which a word may stand first, its letters in either case.
 fn next_place(text: &[u8], at: usize, word: &[u8]) -> Option<usize>
     requires { at ≤ length text.now }
-    ensures some { IfSome result (λ place. (at ≤ place) × (place < length text.now)
-        × StandsAtNone text.now word.now at place) }
-    ensures none { IfNone result (StandsAtNone text.now word.now at (length text.now)) }
+    ensures { MayStandFirst text.now word.now at result }
 {
     if word.is_empty() {
         return next_at_end(text, at, word);
@@ -94,12 +89,10 @@ fn stands(text: &[u8], place: usize, word: &[u8]) -> bool
     is_lowered(&text[place..place + word.len()], word)
 }
 
-/// The first place from one on at which a word stands, whatever the case of its letters.
+/// The first place from one on at which a word stands, its letters in either case.
 pub(crate) fn word_place(text: &[u8], at: usize, word: &[u8]) -> Option<usize>
     requires { at ≤ length text.now }
-    ensures some { IfSome result (λ place. (at ≤ place) × (place < length text.now)
-        × StandsAtNone text.now word.now at place) }
-    ensures none { IfNone result (StandsAtNone text.now word.now at (length text.now)) }
+    ensures { MayStandFirst text.now word.now at result }
 {
     let mut from = at;
     while let Some(place) = next_place(text, from, word) {

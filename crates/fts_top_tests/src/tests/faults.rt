@@ -65,7 +65,19 @@ fn a_failing_call_of_the_index_device_ends_create(rt: HostRuntime) -> Result<(),
         ended(&rt, &made, &Status::DiskFault, "", "create");
         assert_eq!(rt; made.index.file(0).len(), left, "{kind:?} {number}");
         assert!(rt; made.rows.file(0).is_empty(), "{kind:?} {number}");
+        let after = call_on(alloc, RUN, SEARCH.as_bytes(), made.rows, made.index)?;
+        ended(&rt, &after, &Status::NotCreated, "", "behind a create");
     }
+    Ok(())
+}
+
+/// Without a fault it makes no call that the tables don't have.
+#[test]
+fn a_create_makes_twelve_calls(rt: HostRuntime) -> Result<(), Fail> {
+    let index = empty_disk(rt.alloc())?;
+    let made = call_on(rt.alloc(), CREATE, b"", empty_disk(rt.alloc())?, index)?;
+    assert!(rt; made.status == Status::Done);
+    assert!(rt; made.rows.calls().len() == 8 && made.index.calls().len() == 4);
     Ok(())
 }
 

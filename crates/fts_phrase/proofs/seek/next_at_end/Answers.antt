@@ -8,5 +8,5 @@ loop-place-preserved c =
     before_next c.args.text.now c.args.word.now c.args.at c.loop-place.place c.loop-place.invariant
     (λ stands. false≢true (sym c.if-may_stand.false ∙ c.may_stand.ensures stands))
 
-pub returns-clause-none : goal.returns-clause-none
-returns-clause-none c place low high stands = c.loop-place.invariant place low (omega arith) stands
+pub returns : goal.returns
+returns c place low high stands = c.loop-place.invariant place low (omega arith) stands

@@ -1,10 +1,10 @@
 use Rattle.std.proofs.Common.{w64, arith}
 use Rattle.std.proofs.lemmas.Nat.Bits.{bit_at-trailing_zeros}
-use Rattle.fts_phrase.proofs.Seeking.{before_mark, before_none, found_before, none_before}
+use Rattle.fts_phrase.proofs.Seeking.{before_mark, before_none, found_before}
 use Rattle.fts_phrase.proofs.seek.next_place.Goals as goal
 
-pub returns-then-marks-ne0-clause-some : goal.returns-then-marks-ne0-clause-some
-returns-then-marks-ne0-clause-some c =
+pub returns-then-marks-ne0 : goal.returns-then-marks-ne0
+returns-then-marks-ne0 c =
     let l = c.loop-from in
     let marks = c.word_marks-marks.result in
     let within = (bit_at-trailing_zeros w64 marks (omega arith) (omega arith)).0 in (
@@ -22,12 +22,7 @@ loop-from-preserved c =
       none = before_none c.args.text.now c.args.word.now c.args.at l.from c.word_marks-marks.result c.if-marks-ne0.false l.invariant.none c.word_marks-marks.ensures;
     }
 
-pub returns-clause-some : goal.returns-clause-some
-returns-clause-some c =
+pub returns : goal.returns
+returns c =
     let l = c.loop-from in
-    found_before c.args.text.now c.args.word.now c.args.at l.from l.invariant.order l.invariant.none _ c.next_at_end-2.ensures.some
-
-pub returns-clause-none : goal.returns-clause-none
-returns-clause-none c =
-    let l = c.loop-from in
-    none_before c.args.text.now c.args.word.now c.args.at l.from l.invariant.none _ c.next_at_end-2.ensures.none
+    found_before c.args.text.now c.args.word.now c.args.at l.from l.invariant.order l.invariant.none _ c.next_at_end-2.ensures
