@@ -46,6 +46,7 @@ def texts_of(rows):
 def kinds_of(texts):
     """For each kind of search its queries, in both languages."""
     draw = random.Random(2)
+    ranks = {word_of(rank): rank for rank in range(1, WORDS + 1)}
 
     def some(low, high):
         return word_of(draw.randrange(low, high))
@@ -62,20 +63,21 @@ def kinds_of(texts):
     def rare():
         return some(5_000, 40_000)
 
-    def together(count):
+    def together(count, least):
+        """Words that stand together in a text, none more common than of this rank."""
         while True:
             text = draw.choice(texts)
             place = draw.randrange(len(text) - count)
             words = text[place : place + count]
-            if len(set(words)) == count:
+            if len(set(words)) == count and all(ranks[word] >= least for word in words):
                 return words
 
     def pair(mine, theirs, *makers):
         made = [make() for make in makers]
         return mine.format(*made), theirs.format(*made)
 
-    def phrase(count, mine, theirs):
-        words = " ".join(together(count))
+    def phrase(count, mine, theirs, least=1):
+        words = " ".join(together(count, least))
         return mine.format(words), theirs.format(words)
 
     return {
@@ -95,6 +97,8 @@ def kinds_of(texts):
         "a phrase of 2 words": lambda: phrase(2, '"{}"', '"{}"'),
         "a phrase of 3 words": lambda: phrase(3, '"{}"', '"{}"'),
         "2 words at a distance of 5": lambda: phrase(2, '"{}" @5', "NEAR({}, 4)"),
+        "a phrase of 2, none of half": lambda: phrase(2, '"{}"', '"{}"', 100),
+        "2 at a distance, none of half": lambda: phrase(2, '"{}" @5', "NEAR({}, 4)", 100),
     }
 
 

@@ -1,4 +1,5 @@
-use Rattle.std.specs.Prelude.{Option, Some, None, ◌≡◌, ℕ, ◌+◌, ◌-◌, ◌<◌, ◌≤◌, max, Bool, false, List, [], ◌∷◌, length, map, slice_index, All}
+use Rattle.std.specs.Prelude.{Option, Some, None, ◌≡◌, ℕ, ◌+◌, ◌-◌, ◌<◌, ◌≤◌, max, Bool, false, List, [], ◌∷◌}
+use Rattle.std.specs.Prelude.{length, map, slice_index, All}
 use Rattle.std.specs.Char.{to_ascii_lowercase}
 use Rattle.fts_words.specs.declared.span.Span.{Span}
 use Rattle.fts_words.specs.Byte.{lowered}
@@ -27,7 +28,7 @@ pub record StandsAt (text word : List ℕ) (place : ℕ) : Type 0 where
 abbrev pub StandsAtNone : List ℕ → List ℕ → ℕ → ℕ → Type 0
 StandsAtNone text word from to = (place : ℕ) → from ≤ place → place < to → StandsAt text word place → ⊥
 
--- a place from one on at which the word may stand: it stands at none before it, and where no place is told, at none at all
+-- a place from one on at which the word may stand first: at none before it, or at none at all, does it stand
 abbrev pub MayStandFirst : List ℕ → List ℕ → ℕ → Option ℕ → Type 0
 MayStandFirst text word at (Some place) = (at ≤ place) × (place < length text) × StandsAtNone text word at place
 MayStandFirst text word at None = StandsAtNone text word at (length text)
