@@ -1,6 +1,5 @@
 -- The next word over several tables.
 use Rattle.std.proofs.Common.{◌≡◌, ◌≢◌, ℕ, ◌+◌, ◌<◌, ◌≤◌, ◌==◌, suc, zero, slice_index, true, false, cond, ◌&&◌, List, [], ◌∷◌, Option, Some, None, length, get_or, drop, nat_eq, refl, sym, ap, subst, ◌∙◌, ⊎_elim, arith}
-use Rattle.std.specs.List.{AllByRecursion}
 use Rattle.std.specs.Option.{IfSome, IfNone}
 use Rattle.std.specs.declared.cmp.Ordering.{Ordering}
 use Rattle.std.specs.declared.cmp.Ordering.TheVariants.{Less, Equal, Greater}
@@ -244,10 +243,3 @@ listing_over p l f g same is =
           (λ none. ap (λ b. cond b (f q) []) none ∙ sym (ap (λ b. cond b (g q) []) none))
           (cases_Bool (begins_with p q));
     }
-
--- ---- no words
-
-pub nothing_in : (k : ℕ) (ts : List Entries) → AllByRecursion (λ t. (w : List ℕ) → nodes_in t w ≡ []) ts → (w : List ℕ) → nodes_from k ts w ≡ []
-nothing_in k [] h w = refl
-nothing_in k (t ∷ ts) h w =
-    elim (table_of w == k) as (λ b. cond b (nodes_in t w) (nodes_from (suc k) ts w) ≡ []) [ true ↦ h.0 w | false ↦ nothing_in (suc k) ts h.1 w ]

@@ -1,5 +1,5 @@
 -- Six tables, each with its own words.
-use Rattle.std.proofs.Common.{◌≡◌, ◌≢◌, ℕ, ◌+◌, ◌<◌, ◌≤◌, ◌==◌, suc, zero, length-set, false, cond, List, [], ◌∷◌, ◌++◌, length, get_or, set, refl, sym, ap, subst, ◌∙◌, arith}
+use Rattle.std.proofs.Common.{◌≡◌, ◌≢◌, ℕ, ◌+◌, ◌<◌, ◌==◌, suc, zero, length-set, false, cond, List, [], ◌∷◌, ◌++◌, length, get_or, set, refl, sym, ap, subst, ◌∙◌, arith}
 use Rattle.std.proofs.lemmas.Bool.{ne_eqb, eq-eqb}
 use Rattle.fts_types.specs.Table.{table_of}
 use Rattle.fts_ilist.specs.Node.{Docs, NodesAfter, last_of}
@@ -101,10 +101,3 @@ module _ (ts : List Entries) (held : Held) (seen : ts ≡ held) (are : AreTables
 
   pub own_after : (w : List ℕ) → i + 1 ≡ table_of w → NodesAfter 0 (nodes_in (get_or ts i d) w)
   own_after w place = subst (NodesAfter 0) (at_place nodes_in [] 1 i ts d w within (omega (arith, place))) (are.ascending w)
-
--- a word that has no table among these
-pub past_all : {A : Type 0} (has : Entries → List ℕ → A) (none : A) (k : ℕ) (ts : List Entries) (w : List ℕ) → k + length ts ≤ table_of w → from_table has none k ts w ≡ none
-past_all has none k [] w le = refl
-past_all has none k (t ∷ ts) w le =
-    ap (λ b. cond b (has t w) (from_table has none (suc k) ts w)) (ne_eqb (table_of w) k (λ e. omega (arith, e, le)))
-    ∙ past_all has none (suc k) ts w (omega (arith, le))

@@ -9,7 +9,6 @@ pub mod Rooms
 pub mod Promises
 pub mod Shown
 pub mod Numbers
-pub mod Holding
 pub mod Rows
 mod Used
 mod Listed

@@ -138,20 +138,6 @@ listed_are es order doc t listed w = (
     by some (Some n) e = passes_in (is_leaving_as es.slots doc) w n order.entries (listed w n e)
         (alone w (leaving_word doc (slot_in es.slots n)) (left_to es doc (n ∷ []) w n t e (or_left (nat_eq n n) false (same n)) some))
 
--- what a look at an entry gives
-
-pub as_word : (slots : Slots) (doc n : ℕ) (w v : List ℕ) → Some v ≡ leaving_word doc (slot_in slots n) → bytes_eq w v ≡ true → Some v ≡ cond (is_leaving_as slots doc (w, n)) (Some w) None
-as_word slots doc n w v e h =
-    ap Some (sym (same_word w v h))
-    ∙ sym (ap (λ (o : Option (List ℕ)). cond (option_map_or (bytes_eq w) o false) (Some w) None) (sym e) ∙ ap (λ (b : Bool). cond b (Some w) None) h)
-
-pub as_other : (slots : Slots) (doc n : ℕ) (w v : List ℕ) → Some v ≡ leaving_word doc (slot_in slots n) → bytes_eq w v ≡ false → None ≡ cond (is_leaving_as slots doc (w, n)) (Some w) None
-as_other slots doc n w v e h =
-    sym (ap (λ (o : Option (List ℕ)). cond (option_map_or (bytes_eq w) o false) (Some w) None) (sym e) ∙ ap (λ (b : Bool). cond b (Some w) None) h)
-
-pub as_none : (slots : Slots) (doc n : ℕ) (w : List ℕ) → None ≡ leaving_word doc (slot_in slots n) → None ≡ cond (is_leaving_as slots doc (w, n)) (Some w) None
-as_none slots doc n w e = sym (ap (λ (o : Option (List ℕ)). cond (option_map_or (bytes_eq w) o false) (Some w) None) (sym e))
-
 -- ---- a step of the walk
 
 pub listed_step : (slots : Slots) (doc : ℕ) (x : List ℕ × ℕ) (before after : Listed) → before ≡ x ∷ after

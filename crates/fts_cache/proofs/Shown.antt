@@ -23,7 +23,7 @@ use Rattle.fts_ilist.specs.Spelling.{Posting, ArePostings, PostingsAfter, HasFir
 use Rattle.fts_ilist.specs.Queue.{Queue}
 use Rattle.fts_cache.specs.declared.words.CachedWord.{CachedWord}
 use Rattle.fts_cache.specs.Words.{Entries, Slots, slot_in, number_in, queue_in, IsTable, has_number, postings_until, leaves, leaving_word, leaving_words, IsLent}
-use Rattle.fts_cache.specs.Sorted.{AscendByBytes, lent_words}
+use Rattle.fts_cache.specs.Sorted.{lent_words}
 use Rattle.fts_cache.proofs.Queues.{which_word, is_same}
 use Rattle.fts_cache.proofs.Table.{which_number, some_is, none_is_not, queue_of_number}
 
@@ -79,19 +79,6 @@ less_from x y low differs = by (byte_order x y) refl
         let t : true ≡ false = ap is_lt (sym turned) ∙ low in
         cc)
 
-head_strict : (x : List ℕ) (ws : List (Bor (List ℕ))) → ((j : ℕ) (d : Bor (List ℕ)) → j < length ws → is_lt (byte_order (get_or ws j d).now x) ≡ false)
-    → AllByRecursion (λ (y : List ℕ). bytes_eq x y ≡ false) (map (λ (w : Bor (List ℕ)). w.now) ws) → AllByRecursion (λ (y : List ℕ). byte_order x y ≡ Less) (map (λ (w : Bor (List ℕ)). w.now) ws)
-head_strict x [] far differ = tt
-head_strict x (w ∷ ws) far differ =
-    (less_from x w.now (far 0 w (omega arith)) differ.0, head_strict x ws (λ j d lt. far (suc j) d (omega (arith, lt))) differ.1)
-
-all_strict : (ws : List (Bor (List ℕ))) → ((i j : ℕ) (d : Bor (List ℕ)) → i ≤ j → j < length ws → is_lt (byte_order (get_or ws j d).now (get_or ws i d).now) ≡ false)
-    → IsDistinct bytes_eq (map (λ (w : Bor (List ℕ)). w.now) ws) → IsStrictlySortedBy byte_order (map (λ (w : Bor (List ℕ)). w.now) ws)
-unfolding IsDistinct IsStrictlySortedBy
-all_strict [] far u = tt
-all_strict (w ∷ ws) far u =
-    (head_strict w.now ws (λ j d lt. far 0 (suc j) d (omega arith) (omega (arith, lt))) u.0, all_strict ws (λ i j d le lt. far (suc i) (suc j) d (omega (arith, le)) (omega (arith, lt))) u.1)
-
 pub flips : (x y : List ℕ) → bytes_eq x y ≡ bytes_eq y x
 flips x y =
     ⊎_elim
@@ -103,20 +90,7 @@ flips x y =
     (which_word y x))
     (which_word x y)
 
-pub sorted_words : (found sorted : List (Bor (List ℕ))) → IsDistinct bytes_eq (map (λ (w : Bor (List ℕ)). w.now) found)
-    → IsPermutation found sorted → IsSortedBy (λ (x y : Bor (List ℕ)). is_lt (byte_order x.now y.now)) sorted → AscendByBytes sorted
-sorted_words found sorted differ moved up =
-    let word : Bor (List ℕ) → List ℕ = λ w. w.now in
-    all_strict sorted
-    (λ i j d le lt. sorted_far (λ (x y : Bor (List ℕ)). is_lt (byte_order x.now y.now)) (ranks_by nat_list_cmp_total word) sorted up i j d le lt)
-    (IsDistinct-IsPermutation bytes_eq flips (map word found) (map word sorted) (IsPermutation-map word found sorted moved) differ)
-
-among_sorted : (found sorted : List (Bor (List ℕ))) → IsPermutation found sorted → (w : List ℕ) → list_any (bytes_eq w) (map (λ (x : Bor (List ℕ)). x.now) sorted) ≡ list_any (bytes_eq w) (map (λ (x : Bor (List ℕ)). x.now) found)
-among_sorted found sorted moved w =
-    let word : Bor (List ℕ) → List ℕ = λ x. x.now in
-    sym (list_any-IsPermutation (bytes_eq w) (map word found) (map word sorted) (IsPermutation-map word found sorted moved))
-
--- ---- the same of words with their documents
+-- ---- words with their documents
 
 abbrev Entry : Type 0
 Entry = Bor (List ℕ) × List Posting

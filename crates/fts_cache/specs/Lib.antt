@@ -4,4 +4,3 @@ pub mod Words
 pub mod Cache
 pub mod Kept
 pub mod Sorted
-pub mod Holds

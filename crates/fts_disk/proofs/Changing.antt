@@ -22,11 +22,6 @@ not_written file at noted done old new undone same =
     let Step : Bool → Type 0 = λ done. new ≡ step_seen (Write file at noted done) old in
     subst Step (sym undone) same
 
-pub not_cut : (file len : ℕ) (done : Bool) (old new : Files) → done ≡ false → new ≡ old → new ≡ step_seen (Cut file len done) old
-not_cut file len done old new undone same =
-    let Step : Bool → Type 0 = λ done. new ≡ step_seen (Cut file len done) old in
-    subst Step (sym undone) same
-
 -- the call was put into the record and the files took it, or neither happened
 abbrev pub Changed : (Call → Type 0) → List Call → List Call → Files → Files → Type 0
 Changed Kind old new files files' = ((call : Call) × Kind call × (new ≡ old ++ call ∷ []) × (files' ≡ step_seen call files)) ⊎ ((new ≡ old) × (files' ≡ files))

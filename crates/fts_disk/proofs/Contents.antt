@@ -1,6 +1,6 @@
 -- What a write to one file of a list makes of what the files hold.
-use Rattle.std.proofs.Common.{◌≡◌, ◌≢◌, ℕ, zero, suc, ◌+◌, ◌<◌, ◌≤◌, List, [], ◌∷◌, ◌++◌, map, length, take, slice_index_or, slice_set, Vec, refl, ap, sym, ◌∙◌, subst}
-use Rattle.std.proofs.lemmas.List.{map-set, map-append, get_or-map, get_or-set_same, get_or-set_other, length-map, take_all}
+use Rattle.std.proofs.Common.{◌≡◌, ◌≢◌, ℕ, zero, suc, ◌+◌, ◌<◌, List, [], ◌∷◌, ◌++◌, map, length, slice_index_or, slice_set, Vec, refl, ap, sym, ◌∙◌, subst}
+use Rattle.std.proofs.lemmas.List.{map-set, map-append, get_or-map, get_or-set_same, get_or-set_other, length-map}
 use Rattle.std.proofs.Math.Seq.{map-set_same}
 use Rattle.std.specs.declared.alloc.Global.{Global}
 use Rattle.fts_disk.specs.Device.{Files, OnFile}
@@ -59,6 +59,3 @@ empty_more files new empty =
     let more : map items_of (files ++ new ∷ []) ≡ map items_of files ++ [] ∷ [] =
     map-append items_of files (new ∷ []) ∙ ap (λ (bytes : List ℕ). map items_of files ++ bytes ∷ []) empty in
     ap from_all more ∙ (λ i file. more_absent (map items_of files) file i)
-
-pub copied_all : (copy files : List (Vec ℕ Global)) (i : ℕ) → length files ≤ i → map items_of copy ≡ map items_of (take i files) → contents copy ≡ contents files
-copied_all copy files i all so_far = ap from_all (so_far ∙ ap (map items_of) (take_all i files all))

@@ -1,6 +1,6 @@
 -- Walks over ascending ids.
 use Rattle.std.proofs.Common.{◌≡◌, ◌++◌, filter, cond, append-nil, suc, zero, length, take, drop, get_or, ℕ, ◌+◌, ◌<◌, ◌≤◌, Bool, true, false, ◌||◌, List, [], ◌∷◌, nat_eq, refl, sym, ap, subst, ◌∙◌, add-one, arith, Result, Ok, Err}
-use Rattle.std.proofs.lemmas.Bool.{false≢true, ne_eqb}
+use Rattle.std.proofs.lemmas.Bool.{false≢true}
 use Rattle.std.specs.List.Sorted.{IsBinarySearchResult}
 use Rattle.std.specs.Ordering.{nat_cmp}
 use Rattle.std.specs.Result.{MatchResult}
@@ -10,7 +10,7 @@ use Rattle.std.proofs.lemmas.List.{take-append-drop, get_or-take, get_or-drop, l
 use Rattle.std.proofs.lemmas.List.Folds.{list_any-append}
 use Rattle.std.proofs.lemmas.List.Elements.{filter_more}
 use Rattle.fts_ids.specs.Ids.{has, AscendFrom, PassesBelow}
-use Rattle.fts_ids.proofs.Ascending.{has_below, AscendFrom-sooner, at_least, below_at, at_most, AscendFrom-take}
+use Rattle.fts_ids.proofs.Ascending.{has_below, at_least, below_at, at_most, AscendFrom-take}
 
 AscendFrom-drop : (n : ℕ) (xs : List ℕ) (k : ℕ) → AscendFrom n xs → AscendFrom 0 (drop k xs)
 AscendFrom-drop n [] zero up = tt
@@ -43,9 +43,6 @@ passes_all xs zero id up lt less = passes xs zero id up (λ q h. absurd (false�
 passes_all xs (suc k) id up lt less =
     passes xs (suc k) id up (λ q h. omega (arith, at_most xs k q up (omega (arith, lt)) (ap (λ n. has (take n xs) q) (add-one k) ∙ h), less k (omega arith)))
 
-pub passes_none : (id : ℕ) (xs : List ℕ) → AscendFrom 0 xs → PassesBelow id xs xs
-passes_none id xs up = record { ascend = up; kept = λ later le. refl }
-
 pub passes_more : (id : ℕ) (xs ys zs : List ℕ) → PassesBelow id xs ys → PassesBelow id ys zs → PassesBelow id xs zs
 passes_more id xs ys zs p q = record { ascend = q.ascend; kept = λ later le. q.kept later le ∙ p.kept later le }
 
@@ -57,12 +54,6 @@ first_tells id x xs up le =
     or_false : (b : Bool) → (b || false) ≡ b
     or_false true = refl
     or_false false = refl
-
-pub passes_first : (id x : ℕ) (xs : List ℕ) → AscendFrom 0 (x ∷ xs) → x < id → PassesBelow id (x ∷ xs) xs
-passes_first id x xs up lt = record {
-  ascend = AscendFrom-sooner (x + 1) 0 xs up.1 (omega arith);
-  kept = λ later le. ap (λ b. b || has xs later) (sym (ne_eqb later x (λ e. omega (arith, e, lt, le))));
-}
 
 -- the same of a list by its first id
 pub tells : (id : ℕ) (ys : List ℕ) → 0 < length ys → AscendFrom 0 ys → id ≤ get_or ys 0 0 → nat_eq (get_or ys 0 0) id ≡ has ys id

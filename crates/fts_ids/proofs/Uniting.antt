@@ -7,16 +7,6 @@ use Rattle.fts_ids.specs.Ids.{has, AscendFrom}
 use Rattle.fts_ids.specs.Union.{IsUniting}
 use Rattle.fts_ids.proofs.Ascending.{AscendFrom-sooner, AscendFrom-push, AscendFrom-join, one_of}
 
-pub uniting_first : (a b : List ℕ) → AscendFrom 0 a → AscendFrom 0 b → IsUniting a b [] a b
-uniting_first a b f g = record {
-  ascend = tt;
-  left_ascends = f;
-  right_ascends = g;
-  left_above = λ id h. absurd (false≢true h);
-  right_above = λ id h. absurd (false≢true h);
-  same = λ id. refl;
-}
-
 head_at_least : (xs : List ℕ) (n : ℕ) → AscendFrom n xs → 0 < length xs → n ≤ get_or xs 0 0
 head_at_least [] n f some = absurd (omega (arith, some))
 head_at_least (x ∷ xs) n f some = f.0
@@ -28,16 +18,6 @@ head_in (x ∷ xs) some = ap (λ (b : Bool). b || has xs x) (eq-eqb x x refl)
 -- an id that is left out where it was the first
 pub behind_first : (x id : ℕ) (xs : List ℕ) → AscendFrom id (x ∷ xs) → x ≡ id → AscendFrom (id + 1) xs
 behind_first x id xs f e = AscendFrom-sooner (x + 1) (id + 1) xs f.1 (omega (arith, e))
-
-pub behind_other : (x id : ℕ) (xs : List ℕ) → AscendFrom id (x ∷ xs) → (x ≡ id → ⊥) → AscendFrom (id + 1) (x ∷ xs)
-behind_other x id xs f ne = (omega (arith, f.0, ne), f.1)
-
-again : (e r : Bool) → (e || r) ≡ (e || (e || r))
-again true r = refl
-again false r = refl
-
-pub behind_same : (x id : ℕ) (xs : List ℕ) → x ≡ id → (q : ℕ) → (nat_eq q id || has xs q) ≡ (nat_eq q id || has (x ∷ xs) q)
-behind_same x id xs e q = again (nat_eq q id) (has xs q) ∙ ap (λ (z : ℕ). nat_eq q id || (nat_eq q z || has xs q)) (sym e)
 
 united : (w e l r l' r' : Bool) → (e || l') ≡ (e || l) → (e || r') ≡ (e || r) → (e ≡ true → (l || r) ≡ true) → ((w || (e || false)) || (l' || r')) ≡ (w || (l || r))
 united true e l r l' r' p q h = refl

@@ -98,16 +98,6 @@ pub takes_none : (node : Docs) (next : Docs) (head : ℕ) → head ≡ head_size
 takes_none node [] head h large = refl
 takes_none node (p ∷ ps) head h large = lt-leb (node_size (node ++ p ∷ [])) 8192 (omega (arith, one_more node p, h, large))
 
-pub sound_one : (docs : Docs) → length docs ≡ 1 → is_sound docs ≡ true
-sound_one [] e = absurd (omega (arith, e))
-sound_one (p ∷ []) e = refl
-sound_one (p ∷ (q ∷ qs)) e = absurd (omega (arith, e))
-
-pub sound_many : (docs : Docs) → docs ≢ [] → length docs ≢ 1 → is_sound docs ≡ nat_le (node_size docs) 8192
-sound_many [] some many = absurd (some refl)
-sound_many (p ∷ []) some many = absurd (many refl)
-sound_many (p ∷ (q ∷ qs)) some many = refl
-
 -- ---- a sound node is packed as it is
 
 packs_front : (b r more : Docs) → node_size (b ++ r) ≤ 8192 → packed_from 8192 b (r ++ more) ≡ packed_from 8192 (b ++ r) more

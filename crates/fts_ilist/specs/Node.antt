@@ -1,10 +1,7 @@
 -- Nodes of a word.
 use Rattle.std.specs.Prelude.{ℕ, ◌+◌, ◌<◌, List, [], ◌∷◌, cond, length}
-use Rattle.std.specs.List.{AllPairs, flat_map}
+use Rattle.std.specs.List.{flat_map}
 use Rattle.std.specs.Str.{bytes_eq}
-use Rattle.std.specs.declared.cmp.Ordering.TheVariants.{Less}
-use Rattle.std.specs.Prelude.{◌≡◌}
-use Rattle.fts_words.specs.Order.{byte_order}
 use Rattle.fts_ilist.specs.Spelling.{Posting, items_bytes, position_items, id_at_end}
 
 -- a node is the documents of its list
@@ -34,10 +31,6 @@ NodesAfter last (n ∷ ns) = BeginsAfter last n × NodesAfter (id_at_end 0 n) ns
 abbrev pub last_of : ℕ → List Docs → ℕ
 last_of before [] = before
 last_of before (n ∷ ns) = last_of (id_at_end 0 n) ns
-
--- words with their nodes, by ascending words
-abbrev pub AscendByWord : List (List ℕ × List Docs) → Type 0
-AscendByWord batch = AllPairs (λ g h. byte_order g.0 h.0 ≡ Less) batch
 
 -- the nodes that a batch has for a word
 abbrev pub nodes_for : List ℕ → List (List ℕ × List Docs) → List Docs

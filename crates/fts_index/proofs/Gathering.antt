@@ -110,9 +110,6 @@ pub record IsReading (all : List Docs) (ids : List ℕ) (rest : List Docs) : Typ
   pub same : ids ++ doc_ids (joined rest) ≡ doc_ids (joined all)
   pub are : AllByRecursion ArePostings rest → AllByRecursion ArePostings all
 
-pub reading_begins : (all : List Docs) (ids : List ℕ) → ids ≡ [] → IsReading all ids all
-reading_begins all ids none = record { same = ap (λ (is : List ℕ). is ++ doc_ids (joined all)) none; are = λ h. h }
-
 pub reading_more : (all : List Docs) (ids : List ℕ) (rest : List Docs) (node : Docs) (left : List Docs) (new : List ℕ) → IsReading all ids rest → rest ≡ node ∷ left → ArePostings node
     → new ≡ ids ++ doc_ids node → IsReading all new left
 reading_more all ids rest node left new reading steps are put = record {

@@ -101,9 +101,6 @@ module _ (rules : Rules) (last : ℕ) (dead : List ℕ) (old new : Index) (made 
       subst (λ (d : List ℕ). IsMade rules largest d new) (append-nil dead)
       (made_more births [] largest are (λ k d less. absurd (omega (arith, less))) (subst (IsDistinct nat_eq) (made.dead_are ∙ sym (append-nil dead)) made.commits.once) stands)
 
-pub no_births : (last : ℕ) → AreBirths last last []
-no_births last = record { ids = omega arith; rows = λ k d less. absurd (omega (arith, less)) }
-
 -- births that are lent
 pub lent : (last largest : ℕ) (rows births : List Kept) → births ≡ rows → AreBirths last largest (map row_of rows) → AreBirths last largest (map row_of births)
 lent last largest rows births e are = subst (λ (rs : List Kept). AreBirths last largest (map row_of rs)) (sym e) are

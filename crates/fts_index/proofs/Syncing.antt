@@ -458,12 +458,6 @@ pub record IsPlanned (limit : ℕ) (old new : Index) (plan : SyncPlan) : Type 0 
 within_of : (r t : Room) → t ≡ r → IsWithin r t
 within_of r t e = subst (IsWithin r) (sym e) (omega arith, omega arith)
 
-pub plans_none : (rules : Rules) (turns : List Turn) (s : IndexState) (index : Index) → StandsFor rules turns s index → length index.pending.items ≡ 0 → length turns ≤ s.flushed
-plans_none rules turns s index stands none =
-    let long = long_as index.pending.items (unflushed turns s) stands.pending in
-    let all = length-drop s.flushed turns in
-    omega (arith, none, long, all)
-
 module _ (rules : Rules) (limit : ℕ) (turns : List Turn) (s : IndexState) (old new : Index) (plan : SyncPlan) (is : IsPlanned limit old new plan)
     (stands : StandsFor rules turns s old) (commits : AreCommits turns) (fits : FitsTurns turns s) where
   abbrev left : List Turn

@@ -94,9 +94,6 @@ module _ (all rest next : List Docs) (docs : Docs) (step : rest ≡ docs ∷ nex
   pub sum_too_long : 2 ^ 32 ≤ size + (4 + length (list_bytes docs)) → 2 ^ 32 ≤ start + length (flat all)
   sum_too_long long = omega (arith, long, s.sum.0, list_length docs, within all rest next docs step s.passes)
 
-pub all_summed : (all : List Docs) (start size : ℕ) → IsSumming all [] start size → IsSum start (flat all) size
-all_summed all start size s = subst (λ (ns : List Docs). IsSum start (flat ns) size) (sym (append-nil s.passes.done) ∙ s.passes.parts) s.sum
-
 -- ---- sums of the pieces of a list
 
 module _ {X : Type 0} (f : X → List ℕ) (xs : List X) (i : ℕ) (d : X) (less : i < length xs) where
