@@ -21,7 +21,7 @@ use Rattle.fts_engine.specs.declared.error.OpenError.{OpenError}
 use Rattle.fts_engine.specs.declared.error.OpenError.TheVariants.{NoMemory, NotCreated, Damaged, DiskFault}
 use Rattle.fts_engine.specs.Opening.{IsNoRows}
 use Rattle.fts_engine.specs.Stands.{Holds, Stands, engine_limits, rows_device, index_device}
-use Rattle.fts_engine.proofs.Single.{one_rows, one_entries}
+use Rattle.fts_engine.proofs.Single.{one_rows, one_index}
 use Rattle.fts_core.specs.declared.world.Last.{Last}
 use Rattle.fts_core.specs.declared.world.Place.TheVariants.{Closed, Open}
 use Rattle.fts_core.specs.declared.world.World.{World}
@@ -31,11 +31,6 @@ use Rattle.fts_core.specs.Core.{Core, MayBe, HasRightIndex, TakesBack, Fits, IsL
 use Rattle.fts_core.specs.Turns.{Opens, Refuses, IsFreeRefusal, Crashes, left_by}
 use Rattle.fts_core.proofs.Right.{sure_right}
 use Rattle.fts_core.proofs.Between.{since_now}
-
--- a file is the index log of one list of entries alone
-one_index : (a b : State) (file : List ℕ) → IsIndex a file → IsIndex b file → a.entries ≡ b.entries
-one_index a b file index index' =
-    one_entries a.entries b.entries index.sound.written index'.sound.written (one_list index_magic (index_payloads a) (index_payloads b) file index.log index'.log)
 
 -- why an opening is refused, if not by the bytes
 pub free_refusal : (error : OpenError) → (error ≡ NotCreated → ⊥) → ((file at : ℕ) → error ≡ Damaged Rows file at → ⊥) → ((file at : ℕ) → error ≡ Damaged Index file at → ⊥)
@@ -77,23 +72,28 @@ module _ {D E : Type 0} {disk : Ghosts D} {disk' : Ghosts E} (stay : (d : D) →
       loose = with_entries core.now.state core.now.loose
 
       by : MayHold core.now.state core.now.doubt (disk.seen (rows_at world.place)) → MayHoldIndex core.now.state core.now.loose (disk'.seen (index_at world.place)) → ⊥
-      by (inl without) (inl index) = not_at_fault state core.now.state at file' (one_rows core.now.state state file without rows).1 index fault
-      by (inl without) (inr index) = not_at_fault state loose at file' (one_rows core.now.state state file without rows).1 index fault
-      by (inr with_it) (inl index) = not_at_fault state (with_commits core.now.state core.now.doubt) at file'
-          (one_rows (with_commits core.now.state core.now.doubt) state file with_it rows).1 (index_stay core.now.state core.now.doubt file' index) fault
-      by (inr with_it) (inr index) = not_at_fault state (with_commits loose core.now.doubt) at file'
-          (one_rows (with_commits core.now.state core.now.doubt) state file with_it rows).1 (index_stay loose core.now.doubt file' index) fault
+      by (inl without) (inl index) = let same = one_rows core.now.state state file without rows in not_at_fault state core.now.state at file' same.0 same.1 index fault
+      by (inl without) (inr index) = let same = one_rows core.now.state state file without rows in not_at_fault state loose at file' same.0 same.1 index fault
+      by (inr with_it) (inl index) =
+          let same = one_rows (with_commits core.now.state core.now.doubt) state file with_it rows in
+          not_at_fault state (with_commits core.now.state core.now.doubt) at file' same.0 same.1 (index_stay core.now.state core.now.doubt file' index) fault
+      by (inr with_it) (inr index) =
+          let same = one_rows (with_commits core.now.state core.now.doubt) state file with_it rows in
+          not_at_fault state (with_commits loose core.now.doubt) at file' same.0 same.1 (index_stay loose core.now.doubt file' index) fault
 
   -- what is found is what stands
   pub finds : (state : State) → IsRows state file → IsIndex state file' → MayBe core.now state
   finds state rows index = record {
-    settings = ⊎_elim (λ without. (one_rows state core.now.state file rows without).0)
-        (λ with_it. (one_rows state (with_commits core.now.state core.now.doubt) file rows with_it).0) reads;
+    settings = settings;
     commits = ⊎_elim (λ without. inl (one_rows state core.now.state file rows without).1)
         (λ with_it. inr (one_rows state (with_commits core.now.state core.now.doubt) file rows with_it).1) reads;
-    entries = ⊎_elim (λ without. inl (one_index state core.now.state file' index without))
-        (λ with_it. inr (one_index state (with_entries core.now.state core.now.loose) file' index with_it)) reads';
+    entries = ⊎_elim (λ without. inl (one_index state core.now.state file' settings index without))
+        (λ with_it. inr (one_index state (with_entries core.now.state core.now.loose) file' settings index with_it)) reads';
   }
+    where
+      settings : state.settings ≡ core.now.state.settings
+      settings = ⊎_elim (λ without. (one_rows state core.now.state file rows without).0)
+          (λ with_it. (one_rows state (with_commits core.now.state core.now.doubt) file rows with_it).0) reads
 
   -- ---- the opening answers Ok
 

@@ -3,7 +3,9 @@ use Rattle.std.proofs.Common.{◌≡◌, ◌≢◌, true, ℕ, ◌+◌, ◌<◌,
 use Rattle.std.proofs.lemmas.List.{take_all, take_more, length-map, map-append}
 use Rattle.std.proofs.lemmas.List.Elements.{All-head, All-tail, All-push}
 use Rattle.std.specs.Prelude.{All, Ok}
+use Rattle.fts_words.specs.Indexed.{Rules}
 use Rattle.fts_types.specs.declared.settings.Settings.{Settings}
+use Rattle.fts_types.specs.Rules.{rules_of}
 use Rattle.fts_types.specs.Limits.{standard_limits}
 use Rattle.fts_commits.specs.Commit.{Commit, no_rows, after_commit, replay}
 use Rattle.fts_commits.specs.Turn.{Turn, turns_from}
@@ -33,25 +35,25 @@ use Rattle.fts_engine.specs.Kept.{kept_settings, kept_rows, kept_limits, IsIndex
 use Rattle.fts_engine.specs.Restoring.{restoring_settings, restoring_rows, restoring_commits, IsCovering}
 use Rattle.fts_engine.specs.Reading.{IsWrongPayload}
 use Rattle.fts_engine.specs.Loading.{BeginsWith, IsRestored, StillRestored, IsLoaded, NoneCanCome, AreSound}
-use Rattle.fts_engine.proofs.Loading.{one_more, front_of}
+use Rattle.fts_engine.proofs.Loading.{one_more, front_of, same_settings}
 use Rattle.fts_engine.proofs.Indexing.{turns_count}
 
 -- a list whose payloads are some and one more is a list and one more
-record IsPushed (whole : List IndexEntry) (front : List IndexEntry) (payload : List ℕ) : Type 0 where
+record IsPushed (rules : Rules) (whole : List IndexEntry) (front : List IndexEntry) (payload : List ℕ) : Type 0 where
   entry : IndexEntry
   is : whole ≡ front ++ entry ∷ []
-  written : IsEntry entry
+  written : IsEntry rules entry
   spelled : entry_payload entry ≡ payload
 
-pushed : (whole front : List IndexEntry) (payload : List ℕ) → All IsEntry whole → All IsEntry front → map entry_payload whole ≡ map entry_payload front ++ payload ∷ []
-    → IsPushed whole front payload
-pushed [] front payload is is' same = absurd (omega (arith, ap length same, length-append (map entry_payload front) (payload ∷ [])))
-pushed (entry ∷ []) [] payload is is' same =
-    record { entry = entry; is = refl; written = All-head IsEntry entry [] is; spelled = ap (λ (l : List (List ℕ)). get_or l 0 []) same }
-pushed (entry ∷ (more ∷ whole)) [] payload is is' same = absurd (let e = same in cc)
-pushed (entry ∷ whole) (other ∷ front) payload is is' same =
-    let tail = pushed whole front payload (All-tail IsEntry entry whole is) (All-tail IsEntry other front is') (ap (drop 1) same) in
-    let head : entry ≡ other = payload_has_one_entry entry other (All-head IsEntry entry whole is) (All-head IsEntry other front is') (ap (λ (l : List (List ℕ)). get_or l 0 []) same) in
+pushed : (rules : Rules) (whole front : List IndexEntry) (payload : List ℕ) → All (IsEntry rules) whole → All (IsEntry rules) front → map entry_payload whole ≡ map entry_payload front ++ payload ∷ []
+    → IsPushed rules whole front payload
+pushed rules [] front payload is is' same = absurd (omega (arith, ap length same, length-append (map entry_payload front) (payload ∷ [])))
+pushed rules (entry ∷ []) [] payload is is' same =
+    record { entry = entry; is = refl; written = All-head (IsEntry rules) entry [] is; spelled = ap (λ (l : List (List ℕ)). get_or l 0 []) same }
+pushed rules (entry ∷ (more ∷ whole)) [] payload is is' same = absurd (let e = same in cc)
+pushed rules (entry ∷ whole) (other ∷ front) payload is is' same =
+    let tail = pushed rules whole front payload (All-tail (IsEntry rules) entry whole is) (All-tail (IsEntry rules) other front is') (ap (drop 1) same) in
+    let head : entry ≡ other = payload_has_one_entry rules entry other (All-head (IsEntry rules) entry whole is) (All-head (IsEntry rules) other front is') (ap (λ (l : List (List ℕ)). get_or l 0 []) same) in
     record {
       entry = tail.entry;
       is = ap (λ (e : IndexEntry). e ∷ whole) head ∙ ap (λ (l : List IndexEntry). other ∷ l) tail.is;
@@ -107,7 +109,7 @@ module _ (all read : List (List ℕ)) (j : ℕ) (old new : Restoring) (was : IsR
 
   -- one entry more was installed
   pub installed_more : (entry : IndexEntry) → restoring_rows new ≡ restoring_rows old → restoring_settings new ≡ restoring_settings old
-      → restoring_commits new ≡ restoring_commits old → IsEntry entry → take (j + 1) read ≡ take j read ++ entry_payload entry ∷ []
+      → restoring_commits new ≡ restoring_commits old → IsEntry (rules_of (restoring_settings old)) entry → take (j + 1) read ≡ take j read ++ entry_payload entry ∷ []
       → CanCome (turns_of state) (index_state state) entry → IsCovering new state.commits (after_entry (turns_of state) (index_state state) entry)
       → IsRestored all read (j + 1) new
   installed_more entry rows settings count written taken come covers = record {
@@ -120,7 +122,7 @@ module _ (all read : List (List ℕ)) (j : ℕ) (old new : Restoring) (was : IsR
       kept = rows ∙ was.of_rows.kept;
     };
     entries = record {
-      written = All-push IsEntry state.entries entry was.entries.written written;
+      written = All-push (IsEntry (rules_of state.settings)) state.entries entry was.entries.written (subst (λ (s : Settings). IsEntry (rules_of s) entry) (sym was.of_rows.same) written);
       come = come_behind (turns_of state) state.entries entry was.entries.come come;
     };
     taken = map-append entry_payload state.entries (entry ∷ []) ∙ ap (λ (front : List (List ℕ)). front ++ entry_payload entry ∷ []) was.taken ∙ sym taken;
@@ -170,19 +172,22 @@ module _ (all read : List (List ℕ)) (j : ℕ) (r : Restoring) (l : IsRestored 
     more : List Turn
     turns : turns_of whole ≡ turns_here ++ more
     left : index_of (turns_of whole) here.entries ≡ index_state here
+    settings : here.settings ≡ whole.settings
     entries : HasEntries (record whole { entries = here.entries })
 
   front_turns : (whole : State) → IsSound whole → payloads whole ≡ all → IsFront whole
   front_turns whole sound is =
       let front = front_of all (restoring_commits r + 1) (restoring_settings r) (restoring_rows r) l.of_rows whole sound is in
       let more = turns_from (replay here.commits) front.0 in
+      let settings : here.settings ≡ whole.settings = same_settings all (restoring_commits r + 1) (restoring_settings r) (restoring_rows r) l.of_rows whole sound is in
       let grown : turns_of whole ≡ turns_here ++ more = ap (turns_from no_rows) front.1 ∙ turns_more no_rows here.commits front.0 in
       record {
         more = more;
         turns = grown;
         left = ap (λ (turns : List Turn). index_of turns here.entries) grown ∙ same_index turns_here more here.entries (entries_through turns_here here.entries l.entries.come);
+        settings = settings;
         entries = record {
-          written = l.entries.written;
+          written = subst (λ (s : Settings). All (IsEntry (rules_of s)) here.entries) settings l.entries.written;
           come = subst (λ (turns : List Turn). AreEntries turns here.entries) (sym grown) (entries_more turns_here more here.entries l.entries.come);
         };
       }
@@ -195,7 +200,7 @@ module _ (all read : List (List ℕ)) (j : ℕ) (r : Restoring) (l : IsRestored 
     -- the next entry of such a database, if it has one there
     record ComesNext (whole : State) : Type 0 where
       entry : IndexEntry
-      written : IsEntry entry
+      written : IsEntry (rules_of (restoring_settings r)) entry
       spelled : entry_payload entry ≡ get_or read j []
       come : CanCome (turns_of whole) (index_state here) entry
 
@@ -204,17 +209,17 @@ module _ (all read : List (List ℕ)) (j : ℕ) (r : Restoring) (l : IsRestored 
         let front = front_turns whole sound is in
         let parted : map entry_payload of_index.index ≡ map entry_payload here.entries ++ get_or read j [] ∷ [] =
         of_index.same ∙ take_more read j [] within ∙ ap (λ (front : List (List ℕ)). front ++ get_or read j [] ∷ []) (sym l.taken) in
-        let last = pushed of_index.index here.entries (get_or read j []) of_index.sound.written l.entries.written parted in
+        let last = pushed (rules_of whole.settings) of_index.index here.entries (get_or read j []) of_index.sound.written front.entries.written parted in
         let come = (come_last (turns_of whole) here.entries last.entry (subst (AreEntries (turns_of whole)) last.is of_index.sound.come)).1 in
         record {
           entry = last.entry;
-          written = last.written;
+          written = subst (λ (s : Settings). IsEntry (rules_of s) last.entry) (sym front.settings ∙ l.of_rows.same) last.written;
           spelled = last.spelled;
           come = subst (λ (s : IndexState). CanCome (turns_of whole) s last.entry) front.left come;
         }
 
     -- a payload that is no entry's that can come
-    pub wrong_payload : ((entry : IndexEntry) → IsEntry entry → get_or read j [] ≡ entry_payload entry → NoneCanCome all (index_state here) entry)
+    pub wrong_payload : ((entry : IndexEntry) → IsEntry (rules_of (restoring_settings r)) entry → get_or read j [] ≡ entry_payload entry → NoneCanCome all (index_state here) entry)
         → IsWrongPayload all read j
     wrong_payload none = record {
       before = before_is;
@@ -224,10 +229,10 @@ module _ (all read : List (List ℕ)) (j : ℕ) (r : Restoring) (l : IsRestored 
     }
 
     -- an entry that can't come
-    pub wrong_entry : (entry : IndexEntry) → IsEntry entry → get_or read j [] ≡ entry_payload entry
+    pub wrong_entry : (entry : IndexEntry) → IsEntry (rules_of (restoring_settings r)) entry → get_or read j [] ≡ entry_payload entry
         → NoneCanCome all (index_state here) entry → IsWrongPayload all read j
     wrong_entry entry written spelled none =
-        wrong_payload (λ other is said. subst (NoneCanCome all (index_state here)) (sym (payload_has_one_entry other entry is written (sym said ∙ spelled))) none)
+        wrong_payload (λ other is said. subst (NoneCanCome all (index_state here)) (sym (payload_has_one_entry (rules_of (restoring_settings r)) other entry is written (sym said ∙ spelled))) none)
 
   -- a batch that flushes no commit more, or more than there are
   pub none_later : (through synced : ℕ) (batch : Batch) → through ≤ (index_state here).flushed → NoneCanCome all (index_state here) (sealed through synced batch)
@@ -299,9 +304,9 @@ all_sound all read j r l whole = record {
 }
 
 -- what of a batch's words is known once they are read
-pub words_read : (through synced : ℕ) (batch : Batch) → IsEntry (sealed through synced batch) → AreRead batch
+pub words_read : (rules : Rules) (through synced : ℕ) (batch : Batch) → IsEntry rules (sealed through synced batch) → AreRead batch
 unfolding is_form_from
-words_read through synced batch written =
+words_read rules through synced batch written =
     let groups = written.3 in
     record {
       ascend = groups.ascend;
@@ -310,7 +315,7 @@ words_read through synced batch written =
       ids = λ k d less. nodes_ids 0 _ (groups.each k d less).nodes.ascend (each_ids _ (groups.each k d less).nodes.each);
     }
   where
-    word_filled : (word : List ℕ) → IsWord word → word ≢ []
+    word_filled : (word : List ℕ) → IsWord rules word → word ≢ []
     word_filled word is none = absurd (let form : is_form [] ≡ true = subst (λ (w : List ℕ). is_form w ≡ true) none is.form in cc)
 
     postings_ids : (low : ℕ) (docs : List Posting) → PostingsAfter low docs → IdsAfter low docs

@@ -83,7 +83,7 @@ module _ (all : List (List ℕ)) (k : ℕ) (settings : Settings) (rows : Rows) (
       rw add-one at split
 
   -- its settings are those that were loaded
-  same_settings : (whole : State) → IsSound whole → payloads whole ≡ all → l.state.settings ≡ whole.settings
+  pub same_settings : (whole : State) → IsSound whole → payloads whole ≡ all → l.state.settings ≡ whole.settings
   same_settings whole sound is =
       payload_has_one_settings l.state.settings whole.settings l.sound.settings sound.settings (ap (λ (entries : List (List ℕ)). get_or entries 0 []) (split_of whole is))
 

@@ -20,6 +20,8 @@ use Rattle.fts_log.specs.Record.{IsLog, log_end}
 use Rattle.fts_log.specs.Crash.{IsBeforeOrAfter}
 use Rattle.fts_log.specs.Log.{magic_of}
 use Rattle.fts_ilist.specs.Node.{Docs, NodesAfter}
+use Rattle.fts_words.specs.Indexed.{Rules}
+use Rattle.fts_types.specs.Rules.{rules_of}
 use Rattle.fts_entries.specs.Entry.{Batch, IndexEntry, IndexState, sealed, begun, worked, finished, after_entry}
 use Rattle.fts_entries.specs.Pass.{IsStep, IsIdle, IsPackedNode, entry_words, next_steps, words_named}
 use Rattle.fts_entries.proofs.Stepping.{one_step, no_step, is_named, named_is}
@@ -66,28 +68,28 @@ module _ (limits : Limits) (running : Running) (going : running.stopped ≡ None
 -- ---- its entry can be written
 
 -- a word of a batch is one that the log can hold
-word_in : (word : List ℕ) (batch : Batch) → All IsGroup batch → is_among (keys_of batch) word ≡ true → payload.IsWord word
-word_in word [] each among = absurd (false≢true among)
-word_in word (g ∷ batch) each among =
-    ⊎_elim (λ (here : bytes_eq g.0 word ≡ true). subst payload.IsWord ((bytes_eq-Decides g.0 word).0 here) (All-head IsGroup g batch each).word)
-    (λ (later : is_among (keys_of batch) word ≡ true). word_in word batch (All-tail IsGroup g batch each) later)
+word_in : (rules : Rules) (word : List ℕ) (batch : Batch) → All (IsGroup rules) batch → is_among (keys_of batch) word ≡ true → payload.IsWord rules word
+word_in rules word [] each among = absurd (false≢true among)
+word_in rules word (g ∷ batch) each among =
+    ⊎_elim (λ (here : bytes_eq g.0 word ≡ true). subst (payload.IsWord rules) ((bytes_eq-Decides g.0 word).0 here) (All-head (IsGroup rules) g batch each).word)
+    (λ (later : is_among (keys_of batch) word ≡ true). word_in rules word batch (All-tail (IsGroup rules) g batch each) later)
     (or_cases (bytes_eq g.0 word) (is_among (keys_of batch) word) among)
 
-word_of_entry : (word : List ℕ) (entry : IndexEntry) → IsEntry entry → is_among (entry_words entry) word ≡ true → payload.IsWord word
-word_of_entry word (sealed through synced batch) written among = word_in word batch written.3.each among
-word_of_entry word begun written among = absurd (false≢true among)
-word_of_entry word (worked other nodes) written among =
-    ⊎_elim (λ (here : bytes_eq other word ≡ true). subst payload.IsWord ((bytes_eq-Decides other word).0 here) written.0)
+word_of_entry : (rules : Rules) (word : List ℕ) (entry : IndexEntry) → IsEntry rules entry → is_among (entry_words entry) word ≡ true → payload.IsWord rules word
+word_of_entry rules word (sealed through synced batch) written among = word_in rules word batch written.3.each among
+word_of_entry rules word begun written among = absurd (false≢true among)
+word_of_entry rules word (worked other nodes) written among =
+    ⊎_elim (λ (here : bytes_eq other word ≡ true). subst (payload.IsWord rules) ((bytes_eq-Decides other word).0 here) written.0)
     (λ (later : false ≡ true). absurd (false≢true later))
     (or_cases (bytes_eq other word) false among)
-word_of_entry word finished written among = absurd (false≢true among)
+word_of_entry rules word finished written among = absurd (false≢true among)
 
 -- and so is one that entries name which the log holds
-word_of_entries : (word : List ℕ) (entries : List IndexEntry) → All IsEntry entries → is_among (flat_map entry_words entries) word ≡ true → payload.IsWord word
-word_of_entries word [] written among = absurd (false≢true among)
-word_of_entries word (entry ∷ entries) written among =
-    ⊎_elim (λ (here : is_among (entry_words entry) word ≡ true). word_of_entry word entry (All-head IsEntry entry entries written) here)
-    (λ (later : is_among (flat_map entry_words entries) word ≡ true). word_of_entries word entries (All-tail IsEntry entry entries written) later)
+word_of_entries : (rules : Rules) (word : List ℕ) (entries : List IndexEntry) → All (IsEntry rules) entries → is_among (flat_map entry_words entries) word ≡ true → payload.IsWord rules word
+word_of_entries rules word [] written among = absurd (false≢true among)
+word_of_entries rules word (entry ∷ entries) written among =
+    ⊎_elim (λ (here : is_among (entry_words entry) word ≡ true). word_of_entry rules word entry (All-head (IsEntry rules) entry entries written) here)
+    (λ (later : is_among (flat_map entry_words entries) word ≡ true). word_of_entries rules word entries (All-tail (IsEntry rules) entry entries written) later)
     (or_cases (is_among (entry_words entry) word) (is_among (flat_map entry_words entries) word)
     (sym (list_any-append (λ other. bytes_eq other word) (entry_words entry) (flat_map entry_words entries)) ∙ among))
 
@@ -107,8 +109,8 @@ module _ (word : List ℕ) (nodes : List Docs) (fits : FitsRecord (worked word n
   node_is : (docs : Docs) → IsPackedNode docs → length (list_payload docs) < 2 ^ 32 → IsNode docs
   node_is docs is short = record { are = is.are; sound = is.sound; fits = omega (arith, short) }
 
-  worked_written : payload.IsWord word → NodesAfter 0 nodes → AllByRecursion IsPackedNode nodes → IsEntry (worked word nodes)
-  worked_written is after packed =
+  worked_written : (rules : Rules) → payload.IsWord rules word → NodesAfter 0 nodes → AllByRecursion IsPackedNode nodes → IsEntry rules (worked word nodes)
+  worked_written rules is after packed =
       let each = All-from_recursion IsPackedNode nodes packed in (
         is,
         omega (arith, lists_short, lists_within nodes),
@@ -116,11 +118,11 @@ module _ (word : List ℕ) (nodes : List Docs) (fits : FitsRecord (worked word n
       )
 
 step_written : (state : State) (index : Index) (plan : PassPlan) → HasEntries state → IsStep (index_state state) (step_entry plan) → FitsStep index plan → HasPackedNodes plan
-    → FitsRecord (step_entry plan) → IsEntry (step_entry plan)
+    → FitsRecord (step_entry plan) → IsEntry (rules_of state.settings) (step_entry plan)
 step_written state index Begin has next room packed fits = tt
 step_written state index (Word word nodes) has next room packed fits =
-    worked_written word nodes.nodes fits
-    (word_of_entries word state.entries has.written (sym (named_is state.entries word) ∙ is_named (turns_of state) state.entries word next.next.inside)) room.2 packed
+    worked_written word nodes.nodes fits (rules_of state.settings)
+    (word_of_entries (rules_of state.settings) word state.entries has.written (sym (named_is state.entries word) ∙ is_named (turns_of state) state.entries word next.next.inside)) room.2 packed
 step_written state index Finish has next room packed fits = tt
 
 -- ---- what it leaves

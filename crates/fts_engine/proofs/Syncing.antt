@@ -39,7 +39,7 @@ use Rattle.fts_engine.specs.Kept.{kept_settings, kept_rows, IsIndexed, IsNextBat
 use Rattle.fts_engine.specs.Stands.{Has, engine_limits}
 use Rattle.fts_engine.proofs.Committing.{left_either}
 use Rattle.fts_engine.proofs.Fitting.{can_index}
-use Rattle.fts_engine.proofs.Indexing.{min_some, max_short, turns_count}
+use Rattle.fts_engine.proofs.Indexing.{min_some, turns_count}
 
 module _ (limits : Limits) (running : Running) (going : running.stopped ≡ None) where
   abbrev outcome : Bool → Bool → Answer
@@ -144,11 +144,11 @@ module _ {D E : Type 0} {disk : Ghosts D} {disk' : Ghosts E} (running : Running)
         (can_index (length (kept_settings kept).columns) (some_columns (kept_settings kept) right) (few_columns (kept_settings kept) right)) (replay state.commits).list own))
         (index_state state) plan.through
 
-    written : IsEntry (batch_of plan)
+    written : IsEntry (rules_of state.settings) (batch_of plan)
     written =
         let turns = turns_of state in
         let s = index_state state in
-        batch_is_entry (rules_of state.settings) (alive_of turns (unflushed_through plan.through turns s)) _ _ (max_short state.settings own_right)
+        batch_is_entry (rules_of state.settings) (alive_of turns (unflushed_through plan.through turns s)) _ _
         (alive_ascend turns s.flushed (plan.through - s.flushed) has.indexed.are.ascend) can
         plan.through plan.synced plan.nodes.items made_left.words made_left.filled made_left.nodes framed.through framed.synced framed.fits
 

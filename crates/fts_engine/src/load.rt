@@ -6,6 +6,7 @@ ghost use Rattle.fts_log.specs.Records.{record_count};
 ghost use Rattle.fts_log.specs.Record.{gate_at};
 ghost use Rattle.fts_rowcodec.specs.Payload.{IsWritten, commit_payload};
 ghost use Rattle.fts_types.specs.Settings.{AreSettings};
+ghost use Rattle.fts_types.specs.Rules.{rules_of};
 ghost use Rattle.fts_ixcodec.specs.Payload.{IsEntry, entry_payload};
 ghost use Rattle.fts_commits.specs.Turn.{Turn};
 ghost use Rattle.fts_entries.specs.Entry.{IndexEntry, IndexState};
@@ -20,7 +21,7 @@ ghost use Rattle.fts_index.specs.Passing.{step_entry};
 ghost use Rattle.fts_engine.specs.ReadEntry.{batch_read, entry_read};
 ghost use Rattle.fts_engine.specs.declared.load.ReadEntry.{ReadEntry};
 ghost use Rattle.fts_engine.specs.Reading.{ReadsOne, ReadsBoth, IsWrongPayload};
-ghost use Rattle.fts_engine.specs.Restoring.{restoring_commits, IsFlushed};
+ghost use Rattle.fts_engine.specs.Restoring.{restoring_settings, restoring_commits, IsFlushed};
 
 use crate::Device;
 use crate::error::{LoadError, ReadError};
@@ -201,7 +202,7 @@ fn restore_entry<D: Disk, E: Disk>(
         Ok(payload) => payload,
         Err(error) => return Err(ReadError::from(error)),
     };
-    match entry_in(alloc, &payload) {
+    match entry_in(alloc, restoring.settings(), &payload) {
         Ok(Some(entry)) => restore_read(alloc, rows, restoring, entry),
         Ok(None) => Ok(false),
         Err(AllocError) => Err(ReadError::NoMemory),
@@ -224,15 +225,20 @@ enum ReadEntry<'a> {
     Step { step: PassPlan },
 }
 
-// The entry that a payload is. Where it is none, no entry of a database has it.
-fn entry_in(alloc: Global, payload: &[u8]) -> Result<Option<ReadEntry<'_>>, AllocError>
-    ensures entry { (entry : ReadEntry) → result ≡ Ok (Some entry) → IsEntry (entry_read entry)
+// The entry that a payload is. Where it is none, no entry of a database with these settings has it.
+fn entry_in<'a>(
+    alloc: Global,
+    settings: &Settings,
+    payload: &'a [u8],
+) -> Result<Option<ReadEntry<'a>>, AllocError>
+    ensures entry { (entry : ReadEntry) → result ≡ Ok (Some entry)
+        → IsEntry (rules_of settings.now) (entry_read entry)
         × (payload.now ≡ entry_payload (entry_read entry)) }
-    ensures none { result ≡ Ok None → (entry : IndexEntry) → IsEntry entry
-        → payload.now ≡ entry_payload entry → (turns : List Turn) (s : IndexState)
-        → CanCome turns s entry → ⊥ }
+    ensures none { result ≡ Ok None → (entry : IndexEntry)
+        → IsEntry (rules_of settings.now) entry → payload.now ≡ entry_payload entry
+        → (turns : List Turn) (s : IndexState) → CanCome turns s entry → ⊥ }
 {
-    match decode(alloc, payload) {
+    match decode(alloc, settings, payload) {
         Ok(entry) => Ok(Some(entry_of(entry))),
         Err(fts_ixcodec::DecodeError::NoMemory) => Err(AllocError),
         Err(fts_ixcodec::DecodeError::Bad { at: _ }) => Ok(None),
@@ -275,7 +281,7 @@ fn restore_read<D: Disk>(
     restoring: &mut Restoring,
     found: ReadEntry<'_>,
 ) -> Result<bool, ReadError>
-    requires written { IsEntry (entry_read found) }
+    requires written { IsEntry (rules_of (restoring_settings restoring.old)) (entry_read found) }
     requires flushed { IsFlushed restoring.old }
     ensures restored { result ≡ Ok true
         → InstallsEntry rows.old (entry_read found.entry) restoring.old restoring.new }
@@ -294,7 +300,7 @@ fn restore_read<D: Disk>(
 
 // Makes a step of OPTIMIZE; or tells that it is not the next one.
 fn restore_step(restoring: &mut Restoring, step: PassPlan) -> Result<bool, ReadError>
-    requires written { IsEntry (step_entry step) }
+    requires written { IsEntry (rules_of (restoring_settings restoring.old)) (step_entry step) }
     requires flushed { IsFlushed restoring.old }
     ensures restored { result ≡ Ok true → (all read : List (List ℕ)) (j : ℕ)
         → IsRestored all read j restoring.old
@@ -321,7 +327,8 @@ fn restore_batch<D: Disk>(
     restoring: &mut Restoring,
     batch: &ReadBatch<'_>,
 ) -> Result<bool, ReadError>
-    requires written { IsEntry (batch_read batch.now) }
+    requires written { IsEntry (rules_of (restoring_settings restoring.old))
+        (batch_read batch.now) }
     requires flushed { IsFlushed restoring.old }
     ensures restored { result ≡ Ok true
         → InstallsEntry rows.old (batch_read batch.now) restoring.old restoring.new }
@@ -357,6 +364,7 @@ fn cover_commits<D: Disk>(
     restoring: &mut Restoring,
 ) -> Result<(), ReadError>
     requires { through < record_count rows.old }
+    ensures settings { restoring_settings restoring.new ≡ restoring_settings restoring.old }
     ensures covered { OnOk result (CoversMore rows.old restoring.old restoring.new) }
     ensures commits { OnOk result (restoring_commits restoring.old ≤ through
         → restoring_commits restoring.new ≡ through) }
@@ -382,6 +390,7 @@ fn cover_commit<D: Disk>(
 ) -> Result<(), ReadError>
     requires within { k < record_count rows.old }
     requires next { k ≡ restoring_commits restoring.old + 1 }
+    ensures settings { restoring_settings restoring.new ≡ restoring_settings restoring.old }
     ensures covered { OnOk result (CoversMore rows.old restoring.old restoring.new) }
     ensures commits { OnOk result (restoring_commits restoring.new
         ≡ restoring_commits restoring.old + 1) }

@@ -590,6 +590,32 @@ fn a_batch_that_is_cut_is_damaged(rt: HostRuntime) -> Result<(), Fail> {
     Ok(())
 }
 
+/// The index log of one batch of a word of two bytes, and that of one of three, the least that the
+/// settings index.
+const WORDS_OF_2_AND_3: [(&[u8], Option<u64>); 2] = [
+    (
+        b"FTSINDX1\x01\x00\x00\x00\x1F\
+        \x01\x00\x00\x00\x00\x00\x00\x00\x01\x00\x00\x00\x00\x00\x00\x00\x01\
+        \x00\x00\x00\x01\x02ap\x00\x00\x00\x03\x81\x81\x00\x00",
+        Some(8),
+    ),
+    (
+        b"FTSINDX1\x01\x00\x00\x00\x20\
+        \x01\x00\x00\x00\x00\x00\x00\x00\x01\x00\x00\x00\x00\x00\x00\x00\x01\
+        \x00\x00\x00\x01\x03app\x00\x00\x00\x03\x81\x81\x00\x00",
+        None,
+    ),
+];
+
+#[test]
+fn a_word_that_is_too_short_is_damaged(rt: HostRuntime) -> Result<(), Fail> {
+    let alloc = rt.alloc();
+    for (log, at) in WORDS_OF_2_AND_3 {
+        assert_eq!(rt; place_at_fault(alloc, log.to_vec(alloc)?)?, at);
+    }
+    Ok(())
+}
+
 /// Which bits of each byte of the log can be others, so that it opens all the same: of the gates,
 /// of the word's letters, and of its place, of which nothing tells whether the rows have them.
 const TAKEN: [u8; 48] = [

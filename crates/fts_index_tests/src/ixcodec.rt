@@ -2,7 +2,7 @@ use fts_ilist::{Ilist, Node, NodeGroup, NodeList, Nodes, WordNodes};
 use fts_ixcodec::{
     DecodeError, Entry, decode, encode, encode_sealed_into, entry_size, sealed_size, worked_size,
 };
-use fts_types::Word;
+use fts_types::{Names, Settings, Word};
 use std::alloc::Global;
 use std::process::Abort;
 use std::test::Fail;
@@ -30,14 +30,27 @@ const WORKED: [u8; 25] = [
     0x81, 0,
 ];
 
+// Settings that index words from `min` to `max` bytes.
+fn settings(alloc: Global, min: u8, max: u8) -> Settings {
+    Settings {
+        columns: Names::new(alloc),
+        min,
+        max,
+        stopword: true,
+        optimize_words: 2_000,
+        cache_bytes: 8_000_000,
+        batch_docs: 1_000,
+    }
+}
+
 // The entry in the bytes, which is encoded as the same bytes; None where there is none, at a place
-// within them.
+// within them. Words have 1 to 84 bytes.
 fn entry_in<'a>(
     rt: &impl Abort,
     alloc: Global,
     bytes: &'a [u8],
 ) -> Result<Option<Entry<'a>>, Fail> {
-    match decode(alloc, bytes) {
+    match decode(alloc, &settings(alloc, 1, 84), bytes) {
         Ok(entry) => {
             assert_eq!(rt; entry_size(&entry), Some(bytes.len()));
             let again = encode(alloc, &entry)?;
@@ -52,9 +65,15 @@ fn entry_in<'a>(
     }
 }
 
-// The place at which the bytes are refused, or None where they are an entry.
+// The place at which the bytes are refused, or None where they are an entry. Words have 1 to 84
+// bytes.
 fn place_of(alloc: Global, bytes: &[u8]) -> Result<Option<usize>, Fail> {
-    match decode(alloc, bytes) {
+    place_with(alloc, &settings(alloc, 1, 84), bytes)
+}
+
+// The same with other settings.
+fn place_with(alloc: Global, settings: &Settings, bytes: &[u8]) -> Result<Option<usize>, Fail> {
+    match decode(alloc, settings, bytes) {
         Ok(_) => Ok(None),
         Err(DecodeError::Bad { at }) => Ok(Some(at)),
         Err(DecodeError::NoMemory) => Err("no memory")?,
@@ -268,11 +287,30 @@ fn long_word(alloc: Global, count: u8) -> Result<Vec<u8>, Fail> {
 }
 
 #[test]
-fn a_word_has_1_to_84_bytes(rt: HostRuntime) -> Result<(), Fail> {
-    for (count, place) in [(0, Some(1)), (1, None), (84, None), (85, Some(1))] {
+fn a_word_has_the_length_of_an_indexed_word(rt: HostRuntime) -> Result<(), Fail> {
+    for (min, max, count, place) in [
+        (1, 84, 0, Some(1)),
+        (1, 84, 1, None),
+        (1, 84, 84, None),
+        (1, 84, 85, Some(1)),
+        (3, 10, 2, Some(1)),
+        (3, 10, 3, None),
+        (3, 10, 10, None),
+        (3, 10, 11, Some(1)),
+    ] {
         let bytes = long_word(rt.alloc(), count)?;
-        assert_eq!(rt; place_of(rt.alloc(), &bytes)?, place);
+        let settings = settings(rt.alloc(), min, max);
+        assert_eq!(rt; place_with(rt.alloc(), &settings, &bytes)?, place);
     }
+    Ok(())
+}
+
+// Where words have at least five bytes, the third node of a batch, of it's, is at fault.
+#[test]
+fn a_short_word_of_a_batch_is_refused_at_its_length(rt: HostRuntime) -> Result<(), Fail> {
+    let settings = settings(rt.alloc(), 5, 10);
+    assert_eq!(rt; place_with(rt.alloc(), &settings, &SEALED)?, None);
+    assert_eq!(rt; place_with(rt.alloc(), &settings, &THREE)?, Some(47));
     Ok(())
 }
 

@@ -1,5 +1,5 @@
 -- The entry of a batch of rows' words can be written.
-use Rattle.std.proofs.Common.{◌≡◌, ◌≢◌, ℕ, ◌-◌, ◌<◌, ◌≤◌, ◌^◌, List, [], ◌++◌, length, length-append, take, sym, ap, subst, ◌∙◌, arith}
+use Rattle.std.proofs.Common.{◌≡◌, ◌≢◌, ℕ, ◌-◌, ◌<◌, ◌^◌, List, [], ◌++◌, length, length-append, take, sym, ap, subst, ◌∙◌, arith}
 use Rattle.std.specs.Prelude.{All, fold}
 use Rattle.std.specs.List.{flat_map}
 use Rattle.std.specs.List.Sorted.{IsStrictlySortedBy}
@@ -42,17 +42,17 @@ nodes_short through synced batch fits =
       length-append (to_be_bytes w32 (node_count batch)) nodes,
     )
 
-module _ (rules : Rules) (rows : List Row) (low high : ℕ) (most : rules.max ≤ 84) (ids : RowsAscend low high rows) (can : All CanIndex rows) where
+module _ (rules : Rules) (rows : List Row) (low high : ℕ) (ids : RowsAscend low high rows) (can : All CanIndex rows) where
   node_is : (word : List ℕ) (docs : Docs) → IsPackedNode docs → length (node_payload word docs) < 2 ^ 32 → IsNode docs
   node_is word docs is short = record { are = is.are; sound = is.sound; fits = omega (arith, short, node_length word docs) }
 
-  group_is : (word : List ℕ) (nodes : List Docs) → nodes ≡ packed (rows_postings rules word rows) → nodes ≢ [] → length (nodes_payload (word, nodes)) < 2 ^ 32 → IsGroup (word, nodes)
+  group_is : (word : List ℕ) (nodes : List Docs) → nodes ≡ packed (rows_postings rules word rows) → nodes ≢ [] → length (nodes_payload (word, nodes)) < 2 ^ 32 → IsGroup rules (word, nodes)
   group_is word nodes is some short =
       let ps = rows_postings rules word rows in
       let each : All IsPackedNode nodes =
       subst (All IsPackedNode) (sym is) (All-from_recursion IsPackedNode (packed ps) (packed_each ps (spelled_lower 0 low ps (omega arith) (rows_spelled rules word low high rows ids can)))) in
       record {
-        word = of_word rules word IsWord (indexed_is_word rules most) rows (λ none. some (is ∙ ap packed none));
+        word = of_word rules word (IsWord rules) (indexed_is_word rules) rows (λ none. some (is ∙ ap packed none));
         some = some;
         nodes = record {
           ascend = subst (NodesAfter 0) (sym is) (nodes_lower 0 low (packed ps) (omega arith) (packed_ascend low ps (rows_after rules word low high rows ids)));
@@ -62,7 +62,7 @@ module _ (rules : Rules) (rows : List Row) (low high : ℕ) (most : rules.max �
 
   pub batch_is_entry : (through synced : ℕ) (batch : Batch) → IsStrictlySortedBy byte_order (keys_of batch) → All (λ g. g.1 ≢ []) batch
       → ((word : List ℕ) → nodes_for word batch ≡ packed (rows_postings rules word rows)) → through < 2 ^ 64 → synced < 2 ^ 64
-      → FitsRecord (sealed through synced batch) → IsEntry (sealed through synced batch)
+      → FitsRecord (sealed through synced batch) → IsEntry rules (sealed through synced batch)
   batch_is_entry through synced batch up filled nodes through_fits synced_fits fits =
       let short = nodes_short through synced batch fits in
       let own = All-from_recursion (λ g. g.1 ≡ packed (rows_postings rules g.0 rows)) batch (own_nodes (λ word ns. ns ≡ packed (rows_postings rules word rows)) batch up nodes) in
@@ -78,11 +78,11 @@ module _ (rules : Rules) (rows : List Row) (low high : ℕ) (most : rules.max �
 
 -- so can that of the next batch of an index, whose rows can be indexed
 pub next_is_entry : (rules : Rules) (limit : ℕ) (turns : List Turn) (s : IndexState) (through synced : ℕ) (batch : Batch) → IsBatch rules limit turns s through synced batch
-    → rules.max ≤ 84 → AreTurns 0 turns → All CanIndex (fold rows_by no_rows turns).list → through < 2 ^ 64 → synced < 2 ^ 64
-    → FitsRecord (sealed through synced batch) → IsEntry (sealed through synced batch)
-next_is_entry rules limit turns s through synced batch is most are can =
+    → AreTurns 0 turns → All CanIndex (fold rows_by no_rows turns).list → through < 2 ^ 64 → synced < 2 ^ 64
+    → FitsRecord (sealed through synced batch) → IsEntry rules (sealed through synced batch)
+next_is_entry rules limit turns s through synced batch is are can =
     let covered = unflushed_through through turns s in
     let low = largest_after 0 (take s.flushed turns) in
-    batch_is_entry rules (alive_of turns covered) low (largest_after low covered) most
+    batch_is_entry rules (alive_of turns covered) low (largest_after low covered)
     (alive_ascend turns s.flushed (through - s.flushed) are) (alive_among turns s.flushed (through - s.flushed) CanIndex can)
     through synced batch is.words is.filled is.nodes

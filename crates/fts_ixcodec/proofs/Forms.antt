@@ -61,12 +61,13 @@ module _ (text : List ℕ) (from to : ℕ) (word : IsRawWord text from to) where
       form_on (to - from) from false (omega arith) (omega (arith, some)) (λ e. absurd (omega (arith, e, some))) (λ e more. word.first)
 
 -- an indexed word is a word of payloads
-pub indexed_is_word : (rules : Rules) → rules.max ≤ 84 → (texts : List (List ℕ)) (found : PlacedWord) → IsIndexedWord rules texts found → IsWord (word_of texts found)
-indexed_is_word rules most texts found indexed =
+pub indexed_is_word : (rules : Rules) (texts : List (List ℕ)) (found : PlacedWord) → IsIndexedWord rules texts found → IsWord rules (word_of texts found)
+indexed_is_word rules texts found indexed =
     let w : List ℕ = word_of texts found in
     let parts = and_parts (nat_le rules.min (length w) && nat_le (length w) rules.max) (not (is_among rules.stopwords w)) indexed.indexable in
-    let long = leb-true (length w) rules.max (and_parts (nat_le rules.min (length w)) (nat_le (length w) rules.max) parts.0).1 in
+    let sizes = and_parts (nat_le rules.min (length w)) (nat_le (length w) rules.max) parts.0 in
     record {
       form = lowered_form (column_text texts found.column) found.span.from found.span.to indexed.placed.raw_word;
-      short = omega (arith, long, most);
+      long = leb-true rules.min (length w) sizes.0;
+      short = leb-true (length w) rules.max sizes.1;
     }

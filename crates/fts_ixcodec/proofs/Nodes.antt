@@ -13,6 +13,7 @@ use Rattle.std.proofs.lemmas.List.Concat.{flat_map-cons, flat_map-append}
 use Rattle.std.proofs.lemmas.List.Sums.{sum_by-cons, sum_by-append}
 use Rattle.std.proofs.lemmas.Map.Text.{is_eq-slice_cmp}
 use Rattle.fts_codec.proofs.Spelled.{IsBytes, Takes, takes_both}
+use Rattle.fts_words.specs.Indexed.{Rules}
 use Rattle.fts_words.specs.Order.{byte_order}
 use Rattle.fts_ilist.specs.Spelling.{last_id, id_at_end}
 use Rattle.fts_ilist.specs.Node.{Docs, BeginsAfter, NodesAfter, last_of}
@@ -163,76 +164,76 @@ keys_push (h ∷ batch) g = ap (λ (ws : List (List ℕ)). h.0 ∷ ws) (keys_pus
 
 -- ---- a batch that is read
 
-pub record IsBuilding (b : Building) : Type 0 where
+pub record IsBuilding (rules : Rules) (b : Building) : Type 0 where
   pub ascend : IsStrictlySortedBy byte_order (keys_of b.closed)
   pub before : AllBefore (keys_of b.closed) b.word
-  pub each : All IsGroup b.closed
-  pub word : b.nodes ≢ [] → IsWord b.word
+  pub each : All (IsGroup rules) b.closed
+  pub word : b.nodes ≢ [] → IsWord rules b.word
   pub last : IsLast b
 
-pub nothing_read : IsBuilding nothing
+pub nothing_read : (rules : Rules) → IsBuilding rules nothing
 unfolding IsStrictlySortedBy
-nothing_read = record {
+nothing_read rules = record {
   ascend = tt;
   before = tt;
-  each = All-nil IsGroup;
+  each = All-nil (IsGroup rules);
   word = λ some. absurd (some refl);
   last = record { nodes = record { ascend = tt; each = All-nil IsNode }; last = refl };
 }
 
 -- words with all their nodes, and one more where it has nodes
-record AreClosed (batch : Batch) (word : List ℕ) : Type 0 where
+record AreClosed (rules : Rules) (batch : Batch) (word : List ℕ) : Type 0 where
   ascend : IsStrictlySortedBy byte_order (keys_of batch)
   before : AllBefore (keys_of batch) word
-  each : All IsGroup batch
+  each : All (IsGroup rules) batch
 
-closed_more : (batch : Batch) (word : List ℕ) (nodes : List Docs) (w : List ℕ) → AreClosed batch word → (nodes ≢ [] → IsWord word) → AreNodes nodes → byte_order word w ≡ Less → AreClosed (batch ++ group_of word nodes) w
-closed_more batch word [] w is named are less =
-    subst (λ (b : Batch). AreClosed b w) (sym (append-nil batch)) (record { ascend = is.ascend; before = before_more (keys_of batch) word w less is.before; each = is.each })
-closed_more batch word (n ∷ ns) w is named are less =
+closed_more : (rules : Rules) (batch : Batch) (word : List ℕ) (nodes : List Docs) (w : List ℕ) → AreClosed rules batch word → (nodes ≢ [] → IsWord rules word) → AreNodes nodes → byte_order word w ≡ Less → AreClosed rules (batch ++ group_of word nodes) w
+closed_more rules batch word [] w is named are less =
+    subst (λ (b : Batch). AreClosed rules b w) (sym (append-nil batch)) (record { ascend = is.ascend; before = before_more (keys_of batch) word w less is.before; each = is.each })
+closed_more rules batch word (n ∷ ns) w is named are less =
     let some : n ∷ ns ≢ [] = λ e. absurd cc in
     let keys = keys_push batch (word, n ∷ ns) in
     record {
       ascend = subst (IsStrictlySortedBy byte_order) (sym keys) (sorted_push (keys_of batch) word is.ascend is.before);
       before = subst (λ (ws : List (List ℕ)). AllBefore ws w) (sym keys) (all_push (λ v. byte_order v w ≡ Less) (keys_of batch) word (before_more (keys_of batch) word w less is.before) less);
-      each = All-push IsGroup batch (word, n ∷ ns) is.each (record { word = named some; some = some; nodes = are });
+      each = All-push (IsGroup rules) batch (word, n ∷ ns) is.each (record { word = named some; some = some; nodes = are });
     }
 
-all_groups : (batch : Batch) (word : List ℕ) (nodes : List Docs) → AreClosed batch word → (nodes ≢ [] → IsWord word) → AreNodes nodes → AreGroups (batch ++ group_of word nodes)
-all_groups batch word [] is named are = subst AreGroups (sym (append-nil batch)) (record { ascend = is.ascend; each = is.each })
-all_groups batch word (n ∷ ns) is named are =
+all_groups : (rules : Rules) (batch : Batch) (word : List ℕ) (nodes : List Docs) → AreClosed rules batch word → (nodes ≢ [] → IsWord rules word) → AreNodes nodes → AreGroups rules (batch ++ group_of word nodes)
+all_groups rules batch word [] is named are = subst (AreGroups rules) (sym (append-nil batch)) (record { ascend = is.ascend; each = is.each })
+all_groups rules batch word (n ∷ ns) is named are =
     let some : n ∷ ns ≢ [] = λ e. absurd cc in
     record {
       ascend = subst (IsStrictlySortedBy byte_order) (sym (keys_push batch (word, n ∷ ns))) (sorted_push (keys_of batch) word is.ascend is.before);
-      each = All-push IsGroup batch (word, n ∷ ns) is.each (record { word = named some; some = some; nodes = are });
+      each = All-push (IsGroup rules) batch (word, n ∷ ns) is.each (record { word = named some; some = some; nodes = are });
     }
 
-closed_of : (b : Building) → IsBuilding b → AreClosed b.closed b.word
-closed_of b is = record { ascend = is.ascend; before = is.before; each = is.each }
+closed_of : (rules : Rules) (b : Building) → IsBuilding rules b → AreClosed rules b.closed b.word
+closed_of rules b is = record { ascend = is.ascend; before = is.before; each = is.each }
 
 -- what was read is a batch
-pub groups_read : (b : Building) → IsBuilding b → AreGroups (batch_of b)
-groups_read b is = all_groups b.closed b.word b.nodes (closed_of b is) is.word is.last.nodes
+pub groups_read : (rules : Rules) (b : Building) → IsBuilding rules b → AreGroups rules (batch_of b)
+groups_read rules b is = all_groups rules b.closed b.word b.nodes (closed_of rules b is) is.word is.last.nodes
 
 -- a word comes
-record Turns (b t : Building) (word : List ℕ) : Type 0 where
-  is : IsBuilding t
+record Turns (rules : Rules) (b t : Building) (word : List ℕ) : Type 0 where
+  is : IsBuilding rules t
   word_is : t.word ≡ word
   batch_is : batch_of t ≡ batch_of b
 
-turns : (b : Building) (word : List ℕ) → IsBuilding b → is_lt (byte_order word b.word) ≡ false → Turns b (turned_to b word) word
-turns b word is follows = ⊎_elim same other (cases_Bool (bytes_eq b.word word))
+turns : (rules : Rules) (b : Building) (word : List ℕ) → IsBuilding rules b → is_lt (byte_order word b.word) ≡ false → Turns rules b (turned_to b word) word
+turns rules b word is follows = ⊎_elim same other (cases_Bool (bytes_eq b.word word))
   where
     other_word : Building
     other_word = record { closed = batch_of b; word = word; nodes = []; last = 0 }
 
-    same : bytes_eq b.word word ≡ true → Turns b (turned_to b word) word
-    same e = subst (λ (c : Bool). Turns b (cond c b (record { closed = batch_of b; word = word; nodes = []; last = 0 })) word) (sym e) (record { is = is; word_is = same_text b.word word e; batch_is = refl })
+    same : bytes_eq b.word word ≡ true → Turns rules b (turned_to b word) word
+    same e = subst (λ (c : Bool). Turns rules b (cond c b (record { closed = batch_of b; word = word; nodes = []; last = 0 })) word) (sym e) (record { is = is; word_is = same_text b.word word e; batch_is = refl })
 
-    other : bytes_eq b.word word ≡ false → Turns b (turned_to b word) word
+    other : bytes_eq b.word word ≡ false → Turns rules b (turned_to b word) word
     other e =
-        let closed = closed_more b.closed b.word b.nodes word (closed_of b is) is.word is.last.nodes (behind b.word word follows e) in
-        subst (λ (c : Bool). Turns b (cond c b (record { closed = batch_of b; word = word; nodes = []; last = 0 })) word) (sym e) (record {
+        let closed = closed_more rules b.closed b.word b.nodes word (closed_of rules b is) is.word is.last.nodes (behind b.word word follows e) in
+        subst (λ (c : Bool). Turns rules b (cond c b (record { closed = batch_of b; word = word; nodes = []; last = 0 })) word) (sym e) (record {
           is = record {
             ascend = closed.ascend;
             before = closed.before;
@@ -279,44 +280,44 @@ count_with b docs =
     )
 
 -- nodes were read
-pub record Adds (b b' : Building) (bytes rest : List ℕ) (count : ℕ) : Type 0 where
-  pub is : IsBuilding b'
+pub record Adds (rules : Rules) (b b' : Building) (bytes rest : List ℕ) (count : ℕ) : Type 0 where
+  pub is : IsBuilding rules b'
   pub text : List ℕ
   pub takes : Takes bytes text rest
   pub spelled : flat_map nodes_payload (batch_of b') ≡ flat_map nodes_payload (batch_of b) ++ text
   pub counted : node_count (batch_of b') ≡ node_count (batch_of b) + count
 
-node_takes : (b : Building) (bytes : List ℕ) (b' : Building) (rest : List ℕ) → IsBytes bytes → IsBuilding b → node_at b bytes ≡ Ok (b', rest) → Adds b b' bytes rest 1
+node_takes : (rules : Rules) (b : Building) (bytes : List ℕ) (b' : Building) (rest : List ℕ) → IsBytes bytes → IsBuilding rules b → node_at rules b bytes ≡ Ok (b', rest) → Adds rules b b' bytes rest 1
 unfolding node_at
-node_takes b bytes b' rest fits is e =
-    let a = bind_ok (word_at b.word bytes) (λ word. more_at (turned_to b word.0) word.1) (b', rest) e in
+node_takes rules b bytes b' rest fits is e =
+    let a = bind_ok (word_at rules b.word bytes) (λ word. more_at (turned_to b word.0) word.1) (b', rest) e in
     let word = a.0.0 in
     let t = turned_to b word in
-    let named = word_takes b.word bytes word a.0.1 fits a.1 in
-    let turn = turns b word is named.1 in
+    let named = word_takes rules b.word bytes word a.0.1 fits a.1 in
+    let turn = turns rules b word is named.1 in
     let one = more_takes t a.0.1 b' rest named.2.1 a.2 in
     let node = with_node t one.docs in
-    let is_node : IsBuilding node = record {
+    let is_node : IsBuilding rules node = record {
       ascend = turn.is.ascend;
       before = turn.is.before;
       each = turn.is.each;
-      word = λ some. subst IsWord (sym turn.word_is) named.0;
+      word = λ some. subst (IsWord rules) (sym turn.word_is) named.0;
       last = last_on t one.docs turn.is.last one.node one.after;
     } in
     let spelled : flat (batch_of node) ≡ flat (batch_of b) ++ node_payload word one.docs = flat_with t one.docs ∙ ap (λ (xs : List ℕ). xs ++ node_payload t.word one.docs) (ap flat turn.batch_is) ∙ ap (λ (w : List ℕ). flat (batch_of b) ++ node_payload w one.docs) turn.word_is in
     let counted : node_count (batch_of node) ≡ node_count (batch_of b) + 1 = count_with t one.docs ∙ ap (λ (batch : Batch). node_count batch + 1) turn.batch_is in
-    subst (λ (n : Building). Adds b n bytes rest 1) (sym one.is)
+    subst (λ (n : Building). Adds rules b n bytes rest 1) (sym one.is)
     (record { is = is_node; text = node_payload word one.docs; takes = takes_both bytes (word_payload word) a.0.1 (list_payload one.docs) rest named.2 one.takes; spelled = spelled; counted = counted })
 
-pub nodes_take : (count : ℕ) (b : Building) (bytes : List ℕ) (b' : Building) (rest : List ℕ) → IsBytes bytes → IsBuilding b → many_at node_at count b bytes ≡ Ok (b', rest) → Adds b b' bytes rest count
+pub nodes_take : (rules : Rules) (count : ℕ) (b : Building) (bytes : List ℕ) (b' : Building) (rest : List ℕ) → IsBytes bytes → IsBuilding rules b → many_at (node_at rules) count b bytes ≡ Ok (b', rest) → Adds rules b b' bytes rest count
 unfolding many_at
-nodes_take zero b bytes b' rest fits is e =
-    subst (λ (p : Building × List ℕ). Adds b p.0 bytes p.1 0) (ok_is (b, bytes) (b', rest) e)
+nodes_take rules zero b bytes b' rest fits is e =
+    subst (λ (p : Building × List ℕ). Adds rules b p.0 bytes p.1 0) (ok_is (b, bytes) (b', rest) e)
     (record { is = is; text = []; takes = (refl, fits); spelled = sym (append-nil (flat (batch_of b))); counted = omega arith })
-nodes_take (suc count) b bytes b' rest fits is e =
-    let a = bind_ok (node_at b bytes) (λ next. many_at node_at count next.0 next.1) (b', rest) e in
-    let one = node_takes b bytes a.0.0 a.0.1 fits is a.1 in
-    let others = nodes_take count a.0.0 a.0.1 b' rest one.takes.1 one.is a.2 in
+nodes_take rules (suc count) b bytes b' rest fits is e =
+    let a = bind_ok (node_at rules b bytes) (λ next. many_at (node_at rules) count next.0 next.1) (b', rest) e in
+    let one = node_takes rules b bytes a.0.0 a.0.1 fits is a.1 in
+    let others = nodes_take rules count a.0.0 a.0.1 b' rest one.takes.1 one.is a.2 in
     record {
       is = others.is;
       text = one.text ++ others.text;
@@ -333,69 +334,69 @@ lists_none = []
 more_counted : (docs : Docs) (ns : List Docs) (k : ℕ) → length (docs ∷ ns) + k ≡ suc (length ns + k)
 more_counted docs ns k = omega arith
 
-run_again : (ns : List Docs) (k : ℕ) (b : Building) (rest : List ℕ) → IsWord b.word → NodesAfter b.last ns → All IsNode ns
-    → many_at node_at (length ns + k) b (flat_map (node_payload b.word) ns ++ rest) ≡ many_at node_at k (grown b ns) rest
+run_again : (rules : Rules) (ns : List Docs) (k : ℕ) (b : Building) (rest : List ℕ) → IsWord rules b.word → NodesAfter b.last ns → All IsNode ns
+    → many_at (node_at rules) (length ns + k) b (flat_map (node_payload b.word) ns ++ rest) ≡ many_at (node_at rules) k (grown b ns) rest
 unfolding many_at node_at more_at
-run_again [] k b rest word after each =
+run_again rules [] k b rest word after each =
     let same : length (lists_none) + k ≡ k = omega arith in
-    ap (λ (n : ℕ). many_at node_at n b rest) same ∙ ap (λ (n : Building). many_at node_at k n rest) (sym (grown_none b))
-run_again (docs ∷ ns) k b rest word after each =
+    ap (λ (n : ℕ). many_at (node_at rules) n b rest) same ∙ ap (λ (n : Building). many_at (node_at rules) k n rest) (sym (grown_none b))
+run_again rules (docs ∷ ns) k b rest word after each =
     let tail = flat_map (node_payload b.word) ns ++ rest in
     let regrouped : flat_map (node_payload b.word) (docs ∷ ns) ++ rest ≡ word_payload b.word ++ (list_payload docs ++ tail) =
     ap (λ (y : List ℕ). y ++ rest) (flat_map-cons (node_payload b.word) docs ns) ∙ append_assoc (node_payload b.word docs) (flat_map (node_payload b.word) ns) rest
     ∙ append_assoc (word_payload b.word) (list_payload docs) tail in
-    let named : word_at b.word (word_payload b.word ++ (list_payload docs ++ tail)) ≡ Ok (b.word, list_payload docs ++ tail) = word_again b.word b.word (list_payload docs ++ tail) word (not_before_itself b.word) in
+    let named : word_at rules b.word (word_payload b.word ++ (list_payload docs ++ tail)) ≡ Ok (b.word, list_payload docs ++ tail) = word_again rules b.word b.word (list_payload docs ++ tail) word (not_before_itself b.word) in
     let one : list_at b.last (list_payload docs ++ tail) ≡ Ok (docs, tail) = list_again b.last docs tail (All-head IsNode docs ns each) after.0 in
-    ap (λ (n : ℕ). many_at node_at n b (flat_map (node_payload b.word) (docs ∷ ns) ++ rest)) (more_counted docs ns k) ∙ ap (many_at node_at (suc (length ns + k)) b) regrouped ∙ rw (named, itself b.word, one) (run_again ns k (with_node b docs) rest word after.1 (All-tail IsNode docs ns each))
-    ∙ ap (λ (n : Building). many_at node_at k n rest) (grown_one b docs ns)
+    ap (λ (n : ℕ). many_at (node_at rules) n b (flat_map (node_payload b.word) (docs ∷ ns) ++ rest)) (more_counted docs ns k) ∙ ap (many_at (node_at rules) (suc (length ns + k)) b) regrouped ∙ rw (named, itself b.word, one) (run_again rules ns k (with_node b docs) rest word after.1 (All-tail IsNode docs ns each))
+    ∙ ap (λ (n : Building). many_at (node_at rules) k n rest) (grown_one b docs ns)
 
 -- behind a word
 abbrev begun_with : Building → List ℕ → Docs → Building
 begun_with b word docs = record { closed = batch_of b; word = word; nodes = docs ∷ []; last = last_id docs }
 
-first_again : (b : Building) (word : List ℕ) (docs : Docs) (k : ℕ) (rest : List ℕ) → byte_order b.word word ≡ Less → IsWord word → IsNode docs → BeginsAfter 0 docs
-    → many_at node_at (suc k) b (node_payload word docs ++ rest) ≡ many_at node_at k (begun_with b word docs) rest
+first_again : (rules : Rules) (b : Building) (word : List ℕ) (docs : Docs) (k : ℕ) (rest : List ℕ) → byte_order b.word word ≡ Less → IsWord rules word → IsNode docs → BeginsAfter 0 docs
+    → many_at (node_at rules) (suc k) b (node_payload word docs ++ rest) ≡ many_at (node_at rules) k (begun_with b word docs) rest
 unfolding many_at node_at more_at
-first_again b word docs k rest less is node after =
+first_again rules b word docs k rest less is node after =
     let regrouped : node_payload word docs ++ rest ≡ word_payload word ++ (list_payload docs ++ rest) = append_assoc (word_payload word) (list_payload docs) rest in
-    let named : word_at b.word (word_payload word ++ (list_payload docs ++ rest)) ≡ Ok (word, list_payload docs ++ rest) = word_again b.word word (list_payload docs ++ rest) is (not_before b.word word less) in
+    let named : word_at rules b.word (word_payload word ++ (list_payload docs ++ rest)) ≡ Ok (word, list_payload docs ++ rest) = word_again rules b.word word (list_payload docs ++ rest) is (not_before b.word word less) in
     let one : list_at 0 (list_payload docs ++ rest) ≡ Ok (docs, rest) = list_again 0 docs rest node after in
-    ap (many_at node_at (suc k) b) regrouped ∙ rw (named, apart b.word word less, one) refl
+    ap (many_at (node_at rules) (suc k) b) regrouped ∙ rw (named, apart b.word word less, one) refl
 
 abbrev after_group : Building → List ℕ × List Docs → Building
 after_group b g = record { closed = batch_of b; word = g.0; nodes = g.1; last = last_of 0 g.1 }
 
-group_again : (b : Building) (word : List ℕ) (nodes : List Docs) (k : ℕ) (rest : List ℕ) → byte_order b.word word ≡ Less → IsGroup (word, nodes)
-    → many_at node_at (length nodes + k) b (nodes_payload (word, nodes) ++ rest) ≡ many_at node_at k (after_group b (word, nodes)) rest
-group_again b word [] k rest less is = absurd (is.some refl)
-group_again b word (docs ∷ ns) k rest less is =
+group_again : (rules : Rules) (b : Building) (word : List ℕ) (nodes : List Docs) (k : ℕ) (rest : List ℕ) → byte_order b.word word ≡ Less → IsGroup rules (word, nodes)
+    → many_at (node_at rules) (length nodes + k) b (nodes_payload (word, nodes) ++ rest) ≡ many_at (node_at rules) k (after_group b (word, nodes)) rest
+group_again rules b word [] k rest less is = absurd (is.some refl)
+group_again rules b word (docs ∷ ns) k rest less is =
     let tail = flat_map (node_payload word) ns ++ rest in
     let regrouped : nodes_payload (word, docs ∷ ns) ++ rest ≡ node_payload word docs ++ tail = ap (λ (y : List ℕ). y ++ rest) (flat_map-cons (node_payload word) docs ns) ∙ append_assoc (node_payload word docs) (flat_map (node_payload word) ns) rest in
-    ap (λ (n : ℕ). many_at node_at n b (nodes_payload (word, docs ∷ ns) ++ rest)) (more_counted docs ns k) ∙ ap (many_at node_at (suc (length ns + k)) b) regrouped
-    ∙ first_again b word docs (length ns + k) tail less is.word (All-head IsNode docs ns is.nodes.each) is.nodes.ascend.0
-    ∙ run_again ns k (begun_with b word docs) rest is.word is.nodes.ascend.1 (All-tail IsNode docs ns is.nodes.each)
+    ap (λ (n : ℕ). many_at (node_at rules) n b (nodes_payload (word, docs ∷ ns) ++ rest)) (more_counted docs ns k) ∙ ap (many_at (node_at rules) (suc (length ns + k)) b) regrouped
+    ∙ first_again rules b word docs (length ns + k) tail less is.word (All-head IsNode docs ns is.nodes.each) is.nodes.ascend.0
+    ∙ run_again rules ns k (begun_with b word docs) rest is.word is.nodes.ascend.1 (All-tail IsNode docs ns is.nodes.each)
 
 -- all words of a batch
-pub record ReadsAll (b : Building) (gs : Batch) (rest : List ℕ) : Type 0 where
+pub record ReadsAll (rules : Rules) (b : Building) (gs : Batch) (rest : List ℕ) : Type 0 where
   pub end : Building
-  pub reads : many_at node_at (node_count gs) b (flat_map nodes_payload gs ++ rest) ≡ Ok (end, rest)
+  pub reads : many_at (node_at rules) (node_count gs) b (flat_map nodes_payload gs ++ rest) ≡ Ok (end, rest)
   pub batch : batch_of end ≡ batch_of b ++ gs
 
 group_is : (word : List ℕ) (nodes : List Docs) → nodes ≢ [] → group_of word nodes ≡ (word, nodes) ∷ []
 group_is word [] some = absurd (some refl)
 group_is word (n ∷ ns) some = refl
 
-pub groups_again : (gs : Batch) (b : Building) (rest : List ℕ) → AllByRecursion (λ w. byte_order b.word w ≡ Less) (keys_of gs) → IsStrictlySortedBy byte_order (keys_of gs) → All IsGroup gs → ReadsAll b gs rest
+pub groups_again : (rules : Rules) (gs : Batch) (b : Building) (rest : List ℕ) → AllByRecursion (λ w. byte_order b.word w ≡ Less) (keys_of gs) → IsStrictlySortedBy byte_order (keys_of gs) → All (IsGroup rules) gs → ReadsAll rules b gs rest
 unfolding many_at IsStrictlySortedBy
-groups_again [] b rest less sorted each = record { end = b; reads = refl; batch = sym (append-nil (batch_of b)) }
-groups_again (g ∷ gs) b rest less sorted each =
-    let group = All-head IsGroup g gs each in
-    let others = groups_again gs (after_group b g) rest sorted.0 sorted.1 (All-tail IsGroup g gs each) in
+groups_again rules [] b rest less sorted each = record { end = b; reads = refl; batch = sym (append-nil (batch_of b)) }
+groups_again rules (g ∷ gs) b rest less sorted each =
+    let group = All-head (IsGroup rules) g gs each in
+    let others = groups_again rules gs (after_group b g) rest sorted.0 sorted.1 (All-tail (IsGroup rules) g gs each) in
     let counted : node_count (g ∷ gs) ≡ length g.1 + node_count gs = sum_by-cons count_of g gs in
     let regrouped : flat (g ∷ gs) ++ rest ≡ nodes_payload g ++ (flat gs ++ rest) = ap (λ (y : List ℕ). y ++ rest) (flat_map-cons nodes_payload g gs) ∙ append_assoc (nodes_payload g) (flat gs) rest in
     record {
       end = others.end;
-      reads = ap (λ (n : ℕ). many_at node_at n b (flat (g ∷ gs) ++ rest)) counted ∙ ap (many_at node_at (length g.1 + node_count gs) b) regrouped
-          ∙ group_again b g.0 g.1 (node_count gs) (flat gs ++ rest) less.0 group ∙ others.reads;
+      reads = ap (λ (n : ℕ). many_at (node_at rules) n b (flat (g ∷ gs) ++ rest)) counted ∙ ap (many_at (node_at rules) (length g.1 + node_count gs) b) regrouped
+          ∙ group_again rules b g.0 g.1 (node_count gs) (flat gs ++ rest) less.0 group ∙ others.reads;
       batch = others.batch ∙ ap (λ (one : Batch). (batch_of b ++ one) ++ gs) (group_is g.0 g.1 group.some) ∙ append_assoc (batch_of b) (g ∷ []) gs;
     }

@@ -1,6 +1,7 @@
 -- Small payloads worked out by hand: what the definitions compute.
-use Rattle.std.proofs.Common.{◌≡◌, ℕ, true, false, [], ◌∷◌, Err, refl}
+use Rattle.std.proofs.Common.{◌≡◌, ℕ, true, false, [], ◌∷◌, Ok, Err, refl}
 use Rattle.std.specs.Prelude.{codes}
+use Rattle.fts_words.specs.Indexed.{Rules}
 use Rattle.fts_ilist.specs.Number.{number_bytes, groups}
 use Rattle.fts_ilist.specs.Node.{Docs}
 use Rattle.fts_entries.specs.Entry.IndexEntry.{sealed, begun, worked, finished}
@@ -53,23 +54,40 @@ no_byte : is_form [] ≡ false
 unfolding is_form_from
 no_byte = refl
 
+-- words of 3 to 10 bytes are indexed
+abbrev few : Rules
+few = record { min = 3; max = 10; stopwords = [] }
+
 -- where reading stops: with nothing, one byte, or all bytes left
-nothing_there : entry_of [] ≡ Err 0
+nothing_there : entry_of few [] ≡ Err 0
 unfolding entry_of entry_at
 nothing_there = refl
 
-unknown_kind : entry_of (5 ∷ []) ≡ Err 1
+unknown_kind : entry_of few (5 ∷ []) ≡ Err 1
 unfolding entry_of entry_at
 unknown_kind = refl
 
-left_over : entry_of (2 ∷ 0 ∷ []) ≡ Err 1
+left_over : entry_of few (2 ∷ 0 ∷ []) ≡ Err 1
 unfolding entry_of entry_at
 left_over = refl
 
-empty_word : entry_of (3 ∷ 0 ∷ 0 ∷ 0 ∷ 0 ∷ 0 ∷ []) ≡ Err 5
+empty_word : entry_of few (3 ∷ 0 ∷ 0 ∷ 0 ∷ 0 ∷ 0 ∷ []) ≡ Err 5
 unfolding entry_of entry_at worked_at word_at
 empty_word = refl
 
-cut_number : entry_of (1 ∷ 0 ∷ 0 ∷ []) ≡ Err 2
+-- a word with one byte less than words have, and one with one byte more
+short_word : entry_of few (3 ∷ 2 ∷ 0x61 ∷ 0x61 ∷ 0 ∷ 0 ∷ 0 ∷ 0 ∷ []) ≡ Err 7
+unfolding entry_of entry_at worked_at word_at
+short_word = refl
+
+long_word : entry_of few (3 ∷ 11 ∷ 0x61 ∷ 0x61 ∷ []) ≡ Err 3
+unfolding entry_of entry_at worked_at word_at
+long_word = refl
+
+least_word : word_at few [] (3 ∷ 0x61 ∷ 0x61 ∷ 0x61 ∷ []) ≡ Ok (0x61 ∷ 0x61 ∷ 0x61 ∷ [], [])
+unfolding word_at is_form_from
+least_word = refl
+
+cut_number : entry_of few (1 ∷ 0 ∷ 0 ∷ []) ≡ Err 2
 unfolding entry_of entry_at sealed_at
 cut_number = refl

@@ -7,6 +7,7 @@ use Rattle.std.specs.Map.{keys_of}
 use Rattle.std.specs.Int.{w32, w64, to_be_bytes}
 use Rattle.std.specs.Char.{is_ascii_uppercase}
 use Rattle.fts_words.specs.Byte.{is_word_byte}
+use Rattle.fts_words.specs.Indexed.{Rules}
 use Rattle.fts_words.specs.Order.{byte_order}
 use Rattle.fts_ilist.specs.Spelling.{ArePostings, list_bytes}
 use Rattle.fts_ilist.specs.Node.{Docs, NodesAfter}
@@ -67,9 +68,11 @@ is_form_from (Some behind_byte) (byte ∷ bytes) = is_form_from (form_step behin
 abbrev pub is_form : List ℕ → Bool
 is_form word = is_form_from (Some false) word
 
-pub record IsWord (word : List ℕ) : Type 0 where
+-- a word that these rules may index, by its form and its length: a stopword too
+pub record IsWord (rules : Rules) (word : List ℕ) : Type 0 where
   pub form : is_form word ≡ true
-  pub short : length word ≤ 84
+  pub long : rules.min ≤ length word
+  pub short : length word ≤ rules.max
 
 -- a node as packing makes it: documents that have a list, one alone or at most 8,192 bytes
 pub record IsNode (docs : Docs) : Type 0 where
@@ -83,23 +86,23 @@ pub record AreNodes (nodes : List Docs) : Type 0 where
   pub each : All IsNode nodes
 
 -- a word of a batch: it has nodes
-pub record IsGroup (group : List ℕ × List Docs) : Type 0 where
-  pub word : IsWord group.0
+pub record IsGroup (rules : Rules) (group : List ℕ × List Docs) : Type 0 where
+  pub word : IsWord rules group.0
   pub some : group.1 ≢ []
   pub nodes : AreNodes group.1
 
 -- the words of a batch: each once, in byte order
-pub record AreGroups (batch : Batch) : Type 0 where
+pub record AreGroups (rules : Rules) (batch : Batch) : Type 0 where
   pub ascend : IsStrictlySortedBy byte_order (keys_of batch)
-  pub each : All IsGroup batch
+  pub each : All (IsGroup rules) batch
 
 -- an entry that the index log can hold
-abbrev pub IsEntry : IndexEntry → Type 0
-IsEntry (sealed through synced batch) =
-    (through < 2 ^ 64) × (synced < 2 ^ 64) × (node_count batch < 2 ^ 32) × AreGroups batch
-IsEntry begun = Unit {0}
-IsEntry (worked word nodes) = IsWord word × (length nodes < 2 ^ 32) × AreNodes nodes
-IsEntry finished = Unit {0}
+abbrev pub IsEntry : Rules → IndexEntry → Type 0
+IsEntry rules (sealed through synced batch) =
+    (through < 2 ^ 64) × (synced < 2 ^ 64) × (node_count batch < 2 ^ 32) × AreGroups rules batch
+IsEntry rules begun = Unit {0}
+IsEntry rules (worked word nodes) = IsWord rules word × (length nodes < 2 ^ 32) × AreNodes nodes
+IsEntry rules finished = Unit {0}
 
 -- ---- which entries can be written
 

@@ -6,6 +6,7 @@ use Rattle.std.specs.Int.{w32, w64, is_in_range}
 use Rattle.std.specs.Str.{bytes_eq}
 use Rattle.std.specs.Ordering.{is_lt}
 use Rattle.fts_codec.specs.Reading.{number_at, piece_at}
+use Rattle.fts_words.specs.Indexed.{Rules}
 use Rattle.fts_words.specs.Order.{byte_order}
 use Rattle.fts_ilist.specs.Spelling.{Posting, list_bytes}
 use Rattle.fts_ilist.specs.Reading.{postings_in}
@@ -32,19 +33,19 @@ field read bytes = or_left (length bytes) (read bytes)
 
 -- ---- words
 
--- the length of a word
-abbrev pub size_at : List ℕ → Option (ℕ × List ℕ)
-size_at [] = None
-size_at (size ∷ rest) = if is_in_range 1 84 size then Some (size, rest) else None
+-- the length of a word that these rules may index
+abbrev pub size_at : Rules → List ℕ → Option (ℕ × List ℕ)
+size_at rules [] = None
+size_at rules (size ∷ rest) = if is_in_range rules.min rules.max size then Some (size, rest) else None
 
 -- the bytes of a word that may follow another: they have the form of one, and don't stand before it
 abbrev pub may_follow : List ℕ → List ℕ → Bool
 may_follow before word = is_form word && not (is_lt (byte_order word before))
 
 -- a word that may follow another
-unfoldable pub word_at : List ℕ → List ℕ → Result (List ℕ × List ℕ) ℕ
-word_at before bytes = do
-  size ← field size_at bytes
+unfoldable pub word_at : Rules → List ℕ → List ℕ → Result (List ℕ × List ℕ) ℕ
+word_at rules before bytes = do
+  size ← field (size_at rules) bytes
   word ← field (piece_at size.0) size.1
   if may_follow before word.0 then Ok word else Err (length size.1)
 
@@ -96,15 +97,15 @@ more_at b bytes = do
   Ok (with_node b list.0, list.1)
 
 -- one node more of a batch: its word and its list
-unfoldable pub node_at : Building → List ℕ → Result (Building × List ℕ) ℕ
-node_at b bytes = do
-  word ← word_at b.word bytes
+unfoldable pub node_at : Rules → Building → List ℕ → Result (Building × List ℕ) ℕ
+node_at rules b bytes = do
+  word ← word_at rules b.word bytes
   more_at (turned_to b word.0) word.1
 
 -- one node more, behind its word or, of the last word, without it
-abbrev pub one_at : Bool → Building → List ℕ → Result (Building × List ℕ) ℕ
-one_at true = node_at
-one_at false = more_at
+abbrev pub one_at : Rules → Bool → Building → List ℕ → Result (Building × List ℕ) ℕ
+one_at rules true = node_at rules
+one_at rules false = more_at
 
 -- so many nodes more
 unfoldable pub many_at : (Building → List ℕ → Result (Building × List ℕ) ℕ) → ℕ → Building → List ℕ
@@ -115,9 +116,9 @@ many_at one (suc count) b bytes = do
   many_at one count next.0 next.1
 
 -- so many nodes, each behind its word, as a batch
-unfoldable pub batch_at : ℕ → List ℕ → Result (Batch × List ℕ) ℕ
-batch_at count bytes = do
-  nodes ← many_at node_at count nothing bytes
+unfoldable pub batch_at : Rules → ℕ → List ℕ → Result (Batch × List ℕ) ℕ
+batch_at rules count bytes = do
+  nodes ← many_at (node_at rules) count nothing bytes
   Ok (batch_of nodes.0, nodes.1)
 
 -- so many nodes of one word
@@ -129,34 +130,34 @@ lists_at count bytes = do
 -- ---- entries
 
 -- a batch, behind its kind
-unfoldable pub sealed_at : List ℕ → Result (IndexEntry × List ℕ) ℕ
-sealed_at bytes = do
+unfoldable pub sealed_at : Rules → List ℕ → Result (IndexEntry × List ℕ) ℕ
+sealed_at rules bytes = do
   through ← field (number_at w64) bytes
   synced ← field (number_at w64) through.1
   count ← field (number_at w32) synced.1
-  batch ← batch_at count.0 count.1
+  batch ← batch_at rules count.0 count.1
   Ok (sealed through.0 synced.0 batch.0, batch.1)
 
 -- a word of a pass, behind its kind
-unfoldable pub worked_at : List ℕ → Result (IndexEntry × List ℕ) ℕ
-worked_at bytes = do
-  word ← word_at [] bytes
+unfoldable pub worked_at : Rules → List ℕ → Result (IndexEntry × List ℕ) ℕ
+worked_at rules bytes = do
+  word ← word_at rules [] bytes
   count ← field (number_at w32) word.1
   nodes ← lists_at count.0 count.1
   Ok (worked word.0 nodes.0, nodes.1)
 
 -- an entry
-unfoldable pub entry_at : List ℕ → Result (IndexEntry × List ℕ) ℕ
-entry_at [] = Err 0
-entry_at (kind ∷ rest) =
-    if kind == 1 then sealed_at rest
+unfoldable pub entry_at : Rules → List ℕ → Result (IndexEntry × List ℕ) ℕ
+entry_at rules [] = Err 0
+entry_at rules (kind ∷ rest) =
+    if kind == 1 then sealed_at rules rest
     else (if kind == 2 then Ok (begun, rest)
-    else (if kind == 3 then worked_at rest
+    else (if kind == 3 then worked_at rules rest
     else (if kind == 4 then Ok (finished, rest)
     else Err (suc (length rest)))))
 
 -- the entry whose payload the bytes are, all of them
-unfoldable pub entry_of : List ℕ → Result IndexEntry ℕ
-entry_of bytes = do
-  entry ← entry_at bytes
+unfoldable pub entry_of : Rules → List ℕ → Result IndexEntry ℕ
+entry_of rules bytes = do
+  entry ← entry_at rules bytes
   if length entry.1 == 0 then Ok entry.0 else Err (length entry.1)

@@ -1,5 +1,6 @@
 //! The nodes of a batch, as they are read one by one.
 ghost use Rattle.std.specs.Prelude.{◌≡◌, ◌++◌, OnOk, IfOk};
+ghost use Rattle.fts_types.specs.Rules.{rules_of};
 ghost use Rattle.fts_ixcodec.specs.Building.{nothing, group_of, batch_of, turned_to, with_node};
 ghost use Rattle.fts_ixcodec.specs.Fault.{Gives};
 ghost use Rattle.fts_ixcodec.specs.Reading.{more_at, node_at, one_at, many_at, batch_at, lists_at};
@@ -8,7 +9,7 @@ use crate::error::Fault;
 use crate::lists::list_at;
 use crate::words::word_at;
 use fts_ilist::{Node, NodeGroup, Nodes, WordNodes};
-use fts_types::DocId;
+use fts_types::{DocId, Settings};
 use std::alloc::{AllocError, Global};
 use std::marker::Model;
 use std::mem;
@@ -95,20 +96,33 @@ impl<'a> Building<'a> {
 
     /// Takes the node that begins the bytes, with its word, and gives what stands behind it.
     #[tactic(auto, unfolding(crate::specs::Reading::node_at))]
-    fn take_node(&mut self, alloc: Global, bytes: &'a [u8]) -> Result<&'a [u8], Fault>
-        ensures { Gives (λ rest. (self.new, rest.now)) result (node_at self.old bytes.now) }
+    fn take_node(
+        &mut self,
+        alloc: Global,
+        settings: &Settings,
+        bytes: &'a [u8],
+    ) -> Result<&'a [u8], Fault>
+        ensures { Gives (λ rest. (self.new, rest.now)) result
+            (node_at (rules_of settings.now) self.old bytes.now) }
     {
-        let (word, rest) = word_at(self.word, bytes)?;
+        let (word, rest) = word_at(settings, self.word, bytes)?;
         self.turn_to(alloc, word)?;
         self.take_list(alloc, rest)
     }
 
     /// Takes a node behind its word or, of the last word, without it.
-    fn take(&mut self, alloc: Global, worded: bool, bytes: &'a [u8]) -> Result<&'a [u8], Fault>
-        ensures { Gives (λ rest. (self.new, rest.now)) result (one_at worded self.old bytes.now) }
+    fn take(
+        &mut self,
+        alloc: Global,
+        settings: &Settings,
+        worded: bool,
+        bytes: &'a [u8],
+    ) -> Result<&'a [u8], Fault>
+        ensures { Gives (λ rest. (self.new, rest.now)) result
+            (one_at (rules_of settings.now) worded self.old bytes.now) }
     {
         if worded {
-            return self.take_node(alloc, bytes);
+            return self.take_node(alloc, settings, bytes);
         }
         self.take_list(alloc, bytes)
     }
@@ -137,41 +151,49 @@ impl<'a> Building<'a> {
 }
 
 /// So many nodes, each behind its word or all of one word.
-fn many_at(
+fn many_at<'a>(
     alloc: Global,
+    settings: &Settings,
     worded: bool,
     count: u32,
-    bytes: &[u8],
-) -> Result<(Building<'_>, &[u8]), Fault>
+    bytes: &'a [u8],
+) -> Result<(Building<'a>, &'a [u8]), Fault>
     ensures { Gives (λ x. (x.0, x.1.now)) result
-        (many_at (one_at worded) count nothing bytes.now) }
+        (many_at (one_at (rules_of settings.now) worded) count nothing bytes.now) }
 {
     let mut building = Building::new(alloc);
     let mut rest = bytes;
     for _ in 0..count {
-        rest = building.take(alloc, worded, rest)?;
+        rest = building.take(alloc, settings, worded, rest)?;
     }
     Ok((building, rest))
 }
 
 /// So many nodes, each behind its word, as a batch.
 #[tactic(auto, unfolding(crate::specs::Reading::batch_at))]
-pub(crate) fn batch_at(alloc: Global, count: u32, bytes: &[u8]) -> Result<(Nodes<'_>, &[u8]), Fault>
-    ensures { Gives (λ x. (x.0.items, x.1.now)) result (batch_at count bytes.now) }
+pub(crate) fn batch_at<'a>(
+    alloc: Global,
+    settings: &Settings,
+    count: u32,
+    bytes: &'a [u8],
+) -> Result<(Nodes<'a>, &'a [u8]), Fault>
+    ensures { Gives (λ x. (x.0.items, x.1.now)) result
+        (batch_at (rules_of settings.now) count bytes.now) }
 {
-    let (building, rest) = many_at(alloc, true, count, bytes)?;
+    let (building, rest) = many_at(alloc, settings, true, count, bytes)?;
     Ok((building.into_batch()?, rest))
 }
 
 /// So many nodes of one word, by ascending ids.
 #[tactic(auto, unfolding(crate::specs::Reading::lists_at))]
-pub(crate) fn lists_at(
+pub(crate) fn lists_at<'a>(
     alloc: Global,
+    settings: &Settings,
     count: u32,
-    bytes: &[u8],
-) -> Result<(NodeGroup<'_>, &[u8]), Fault>
+    bytes: &'a [u8],
+) -> Result<(NodeGroup<'a>, &'a [u8]), Fault>
     ensures { Gives (λ x. (x.0, x.1.now)) result (lists_at count bytes.now) }
 {
-    let (building, rest) = many_at(alloc, false, count, bytes)?;
+    let (building, rest) = many_at(alloc, settings, false, count, bytes)?;
     Ok((building.into_nodes(), rest))
 }

@@ -20,15 +20,15 @@ ghost use Rattle.fts_ixcodec.specs.Payload.{FitsRecord, IsEntry};
 /// rows. It does nothing: its contract is the theorem.
 pub fn batches_are_entries()
     ensures rows { (rules : Rules) (rows : List Row) (low high : ℕ) (through synced : ℕ)
-        (batch : Batch) → rules.max ≤ 84 → RowsAscend low high rows → All CanIndex rows
+        (batch : Batch) → RowsAscend low high rows → All CanIndex rows
         → IsStrictlySortedBy byte_order (keys_of batch) → All (λ g. g.1 ≢ []) batch
         → ((word : List ℕ) → nodes_for word batch ≡ packed (rows_postings rules word rows))
         → through < 2 ^ 64 → synced < 2 ^ 64 → FitsRecord (sealed through synced batch)
-        → IsEntry (sealed through synced batch) }
+        → IsEntry rules (sealed through synced batch) }
     ensures next { (rules : Rules) (limit : ℕ) (turns : List Turn) (s : IndexState)
         (through synced : ℕ) (batch : Batch)
-        → IsBatch rules limit turns s through synced batch → rules.max ≤ 84
-        → AreTurns 0 turns → All CanIndex (fold rows_by no_rows turns).list
+        → IsBatch rules limit turns s through synced batch → AreTurns 0 turns
+        → All CanIndex (fold rows_by no_rows turns).list
         → through < 2 ^ 64 → synced < 2 ^ 64 → FitsRecord (sealed through synced batch)
-        → IsEntry (sealed through synced batch) }
+        → IsEntry rules (sealed through synced batch) }
 {}

@@ -1,8 +1,8 @@
 //! The payloads of the index log: batches, the begin and the finish of a pass, and its words.
 //!
 //! `encode_sealed_into(7, 12, &nodes, &mut buf)` writes a batch, in the bytes that
-//! `sealed_size(&nodes)` counts, and `decode(alloc, &bytes)?` gives the entry that bytes are, or
-//! where the first field begins that can't stand there.
+//! `sealed_size(&nodes)` counts, and `decode(alloc, &settings, &bytes)?` gives the entry that bytes
+//! are, or where the first field begins that can't stand there.
 //! `docs/FORMATS.md`, "Payloads of the index log", has the format.
 //!
 //! Both cost the bytes, once. A list is read by `fts_ilist`, and kept as its bytes.

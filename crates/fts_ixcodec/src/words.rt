@@ -1,5 +1,6 @@
 //! Words at the front of some bytes.
 ghost use Rattle.std.specs.Prelude.{◌≡◌};
+ghost use Rattle.fts_types.specs.Rules.{rules_of};
 ghost use Rattle.fts_codec.specs.Reading.{Finds};
 ghost use Rattle.fts_ixcodec.specs.Fault.{Gives};
 ghost use Rattle.fts_ixcodec.specs.Payload.{is_form, form_step, is_lower_byte};
@@ -7,9 +8,7 @@ ghost use Rattle.fts_ixcodec.specs.Reading.{size_at, may_follow, word_at};
 
 use crate::error::Fault;
 use fts_codec::bytes_at;
-
-/// How many bytes the longest word has.
-const LONGEST: u8 = 84;
+use fts_types::Settings;
 
 /// A lower-case letter, a digit or `_`.
 fn is_lower_byte(byte: u8) -> bool
@@ -46,15 +45,15 @@ fn is_form(word: &[u8]) -> bool
     behind_byte
 }
 
-/// The length of a word.
-fn size_at(bytes: &[u8]) -> Option<(u8, &[u8])>
-    ensures { Finds (λ x. (x.0, x.1.now)) result (size_at bytes.now) }
+/// The length of a word that the settings index.
+fn size_at<'a>(settings: &Settings, bytes: &'a [u8]) -> Option<(u8, &'a [u8])>
+    ensures { Finds (λ x. (x.0, x.1.now)) result (size_at (rules_of settings.now) bytes.now) }
 {
     let (size, rest) = bytes.split_first()?;
-    if *size < 1 {
+    if *size < settings.min {
         return None;
     }
-    if *size > LONGEST {
+    if *size > settings.max {
         return None;
     }
     Some((*size, rest))
@@ -70,12 +69,18 @@ fn may_follow(before: &[u8], word: &[u8]) -> bool
     !word.cmp(before).is_lt()
 }
 
-/// A word that does not stand before another, behind its length of one byte.
+/// A word that does not stand before another, behind its length of one byte, which is one that the
+/// settings index.
 #[tactic(auto, unfolding(crate::specs::Reading::word_at))]
-pub(crate) fn word_at<'a>(before: &[u8], bytes: &'a [u8]) -> Result<(&'a [u8], &'a [u8]), Fault>
-    ensures { Gives (λ x. (x.0.now, x.1.now)) result (word_at before.now bytes.now) }
+pub(crate) fn word_at<'a>(
+    settings: &Settings,
+    before: &[u8],
+    bytes: &'a [u8],
+) -> Result<(&'a [u8], &'a [u8]), Fault>
+    ensures { Gives (λ x. (x.0.now, x.1.now)) result
+        (word_at (rules_of settings.now) before.now bytes.now) }
 {
-    let Some((size, rest)) = size_at(bytes) else {
+    let Some((size, rest)) = size_at(settings, bytes) else {
         return Err(Fault::at(bytes));
     };
     let Some((word, behind)) = bytes_at(rest, size as usize) else {

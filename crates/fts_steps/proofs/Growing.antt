@@ -86,9 +86,9 @@ right_stays state commit known knows has right =
 module _ (state : State) (limit through synced : ℕ) (batch : Batch) (has : HasEntries state) (are : AreTurns 0 (turns_of state))
     (made : IsBatch (rules_of state.settings) limit (turns_of state) (index_state state) through synced batch) where
   -- its entry can stand behind those of the state
-  pub batch_stands : 0 < (rules_of state.settings).min → IsEntry (sealed through synced batch) → HasEntries (with_entries state (sealed through synced batch ∷ []))
+  pub batch_stands : 0 < (rules_of state.settings).min → IsEntry (rules_of state.settings) (sealed through synced batch) → HasEntries (with_entries state (sealed through synced batch ∷ []))
   batch_stands min written = record {
-    written = All-push IsEntry state.entries (sealed through synced batch) has.written written;
+    written = All-push (IsEntry (rules_of state.settings)) state.entries (sealed through synced batch) has.written written;
     come = come_behind (turns_of state) state.entries (sealed through synced batch) has.come
         (can_seal (rules_of state.settings) limit (turns_of state) (index_state state) through synced batch made min are (state_fits state are has));
   }
@@ -107,9 +107,9 @@ module _ (state : State) (limit through synced : ℕ) (batch : Batch) (has : Has
 
 module _ (state : State) (entry : IndexEntry) (has : HasEntries state) (are : AreTurns 0 (turns_of state)) (is : IsStep (index_state state) entry) where
   -- its entry can stand behind those of the state
-  pub step_stands : IsEntry entry → HasEntries (with_entries state (entry ∷ []))
+  pub step_stands : IsEntry (rules_of state.settings) entry → HasEntries (with_entries state (entry ∷ []))
   step_stands written = record {
-    written = All-push IsEntry state.entries entry has.written written;
+    written = All-push (IsEntry (rules_of state.settings)) state.entries entry has.written written;
     come = come_behind (turns_of state) state.entries entry has.come (step_comes (turns_of state) (index_state state) entry is);
   }
 

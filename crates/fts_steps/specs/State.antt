@@ -74,7 +74,7 @@ pub record IsSound (state : State) : Type 0 where
 
 -- the entries can stand over the commits: each can be written, and come behind those before it
 pub record HasEntries (state : State) : Type 0 where
-  pub written : All IsEntry state.entries
+  pub written : All (IsEntry (rules_of state.settings)) state.entries
   pub come : AreEntries (turns_of state) state.entries
 
 -- what is not deleted of the index is what the rows have. Each step keeps it, and so it is of a database that was just

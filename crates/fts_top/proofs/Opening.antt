@@ -37,7 +37,8 @@ can_open opening.NotCreated rows index state database why calm = absurd (why (is
 can_open (opening.Damaged Rows file place) rows index state database why calm = absurd (why.1.none state database.of_rows)
 can_open (opening.Damaged Index file place) rows index state database why calm =
     let damaged = why.1 in
-    absurd (not_at_fault damaged.state state place index (one_rows state damaged.state rows database.of_rows damaged.of_rows).1 database.of_index damaged.place)
+    let same = one_rows state damaged.state rows database.of_rows damaged.of_rows in
+    absurd (not_at_fault damaged.state state place index same.0 same.1 database.of_index damaged.place)
 can_open opening.NoMemory rows index state database why calm = inr refl
 can_open opening.DiskFault rows index state database why calm = absurd (calm refl)
 

@@ -8,6 +8,7 @@ use Rattle.fts_engine.proofs.load.cover_commits.Goals as goal
 
 pub loop-k-init : goal.loop-k-init
 loop-k-init g c = record {
+  settings = refl;
   covered = λ told all read j holds was. still_itself all read j c.args.restoring.now was;
   commits = sym c.commits-k.ensures;
   reads = reads_none c.args.rows.now (λ told. read_none c.args.rows.now (λ files left. g.met.D.Disk.only_now (records_device c.args.rows.now) files told left));
@@ -15,6 +16,7 @@ loop-k-init g c = record {
 
 pub loop-k-preserved : goal.loop-k-preserved
 loop-k-preserved g c = record {
+  settings = c.cover_commit.ensures.settings ∙ c.loop-k.invariant.settings;
   covered = λ told all read j holds was.
       let before = c.loop-k.invariant.covered told all read j holds was in
       still_more all read j c.args.restoring.now c.loop-k.restoring c.cover_commit.new.restoring was before

@@ -1,12 +1,15 @@
 use Rattle.std.proofs.Common.{sym, subst, ap, arith}
 use Rattle.std.specs.Prelude.{Err}
+use Rattle.fts_types.specs.declared.settings.Settings.{Settings}
+use Rattle.fts_types.specs.Rules.{rules_of}
 use Rattle.fts_rows.specs.Rows.{rows_of}
 use Rattle.fts_entries.specs.Entry.{Batch, IndexState, sealed}
 use Rattle.fts_entries.specs.Coming.{CanSeal}
 use Rattle.fts_index.specs.Restore.{AreRead}
+use Rattle.fts_ixcodec.specs.Payload.{IsEntry}
 use Rattle.fts_log.proofs.Reading.{as_many}
 use Rattle.fts_steps.specs.State.{turns_of, index_state}
-use Rattle.fts_engine.specs.Restoring.{IsInstalled}
+use Rattle.fts_engine.specs.Restoring.{restoring_settings, IsInstalled}
 use Rattle.fts_engine.specs.Loading.{NoneCanCome}
 use Rattle.fts_engine.specs.ReadEntry.{batch_read}
 use Rattle.fts_engine.proofs.Replaying.{none_noted}
@@ -24,7 +27,8 @@ returns-in-Ok-restore-clause-restored g c e told all read j holds was taken =
     let installed = subst (λ (nodes : Batch). IsInstalled covered.of_rows.state.commits (index_state covered.of_rows.state) batch.through batch.synced nodes c.restore.new.self) c.deref.ensures.value
     (ensured.restored covered.of_rows.state.commits (index_state covered.of_rows.state) covered.covers) in
     installed_more all read j c.cover_commits.new.restoring c.restore.new.self covered (batch_read batch)
-    ensured.rows ensured.settings ensured.commits c.requires.written taken installed.can installed.covers
+    ensured.rows ensured.settings ensured.commits
+    (subst (λ (s : Settings). IsEntry (rules_of s) (batch_read batch)) (sym c.cover_commits.ensures.settings) c.requires.written) taken installed.can installed.covers
 
 pub returns-then-batch-flushed-clause-refused : goal.returns-then-batch-flushed-clause-refused
 returns-then-batch-flushed-clause-refused g c e told all read j holds was = (
@@ -64,4 +68,4 @@ returns-in-Err-Bad-clause-refused g c e told all read j holds was =
 pub restore-requires : goal.restore-requires
 restore-requires g c =
     let batch = c.args.batch.now in
-    subst AreRead (sym c.deref.ensures.value) (words_read batch.through batch.synced batch.nodes.items c.requires.written)
+    subst AreRead (sym c.deref.ensures.value) (words_read (rules_of (restoring_settings c.args.restoring.now)) batch.through batch.synced batch.nodes.items c.requires.written)

@@ -1,13 +1,16 @@
-use Rattle.std.proofs.Common.{◌≡◌, ℕ, List, [], ◌∷◌, ◌++◌, ap, sym, ◌∙◌, arith, take, get_or}
+use Rattle.std.proofs.Common.{◌≡◌, ℕ, List, [], ◌∷◌, ◌++◌, ap, sym, ◌∙◌, arith, take, get_or, subst}
 use Rattle.std.proofs.lemmas.List.{take_more}
 use Rattle.fts_log.proofs.Reading.{as_many}
-use Rattle.fts_ixcodec.specs.Payload.{entry_payload}
+use Rattle.fts_types.specs.declared.settings.Settings.{Settings}
+use Rattle.fts_types.specs.Rules.{rules_of}
+use Rattle.fts_ixcodec.specs.Payload.{entry_payload, IsEntry}
 use Rattle.fts_engine.specs.ReadEntry.{entry_read}
 use Rattle.fts_engine.proofs.Covering.{wrong_payload, wrong_entry}
 use Rattle.fts_engine.proofs.load.restore_entry.Goals as goal
 
 pub restore_read-requires-clause-written : goal.restore_read-requires-clause-written
-restore_read-requires-clause-written g c = (c.in-Ok-Some.ensures.entry c.in-Ok-Some.entry (let is = c.in-Ok-Some.entry-is in cc)).0
+restore_read-requires-clause-written g c =
+    subst (λ (s : Settings). IsEntry (rules_of s) (entry_read c.in-Ok-Some.entry)) c.settings.ensures (c.in-Ok-Some.ensures.entry c.in-Ok-Some.entry (let is = c.in-Ok-Some.entry-is in cc)).0
 
 pub returns-in-Ok-Some-clause-restored : goal.returns-in-Ok-Some-clause-restored
 returns-in-Ok-Some-clause-restored g c e told told' all read holds holds' was =
@@ -26,7 +29,8 @@ returns-in-Ok-Some-clause-refused g c e told told' all read holds holds' was =
     let spelled : get_or read j [] ≡ entry_payload (entry_read entry) = sym (c.in-Ok.ensures.entry told' read holds') ∙ sym c.deref.ensures.value ∙ found.1 in
     let refused = c.restore_read.ensures.refused (let same = e in cc) told all read j holds was in (
       refused.0,
-      wrong_entry all read j c.args.restoring.now was (omega (arith, as_many read c.args.entries.now holds', c.requires.within)) (entry_read entry) found.0 spelled refused.1,
+      wrong_entry all read j c.args.restoring.now was (omega (arith, as_many read c.args.entries.now holds', c.requires.within)) (entry_read entry)
+          (subst (λ (s : Settings). IsEntry (rules_of s) (entry_read entry)) c.settings.ensures found.0) spelled refused.1,
     )
 
 pub returns-in-Ok-Some-clause-damaged : goal.returns-in-Ok-Some-clause-damaged
@@ -38,5 +42,5 @@ returns-in-Ok-None-clause-refused g c e told told' all read holds holds' was =
       was,
       wrong_payload all read j c.args.restoring.now was (omega (arith, as_many read c.args.entries.now holds', c.requires.within))
           (λ entry is spelled whole sound same come.
-          c.in-Ok-None.ensures.none (let none = c.in-Ok-None.is in cc) entry is (c.deref.ensures.value ∙ c.in-Ok.ensures.entry told' read holds' ∙ spelled) _ _ come),
+          c.in-Ok-None.ensures.none (let none = c.in-Ok-None.is in cc) entry (subst (λ (s : Settings). IsEntry (rules_of s) entry) (sym c.settings.ensures) is) (c.deref.ensures.value ∙ c.in-Ok.ensures.entry told' read holds' ∙ spelled) _ _ come),
     )

@@ -1,5 +1,3 @@
-use Rattle.std.proofs.Common.{◌∙◌, ap}
-use Rattle.fts_ilist.specs.Spelling.{list_bytes}
 use Rattle.fts_ixcodec.proofs.Walks.{nodes_too_long}
 use Rattle.fts_ixcodec.proofs.measure.nodes_size.Goals as goal
 

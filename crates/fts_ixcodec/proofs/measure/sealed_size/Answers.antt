@@ -1,4 +1,4 @@
-use Rattle.std.proofs.Common.{ap, ◌∙◌, length, arith}
+use Rattle.std.proofs.Common.{ap, length, arith}
 use Rattle.fts_ixcodec.proofs.Walks.{sized_on, batch_too_long}
 use Rattle.fts_ixcodec.proofs.measure.sealed_size.Goals as goal
 

@@ -1,8 +1,7 @@
-use Rattle.std.proofs.Common.{◌++◌, length, refl, ap, subst, ◌∙◌, length-append, arith}
+use Rattle.std.proofs.Common.{◌++◌, length, refl, subst, length-append, arith}
 use Rattle.std.specs.Int.{w32, to_be_bytes}
 use Rattle.fts_codec.specs.Writing.{Puts}
 use Rattle.fts_codec.proofs.Puts.{left_of, puts_both}
-use Rattle.fts_ilist.specs.Spelling.{list_bytes}
 use Rattle.fts_ixcodec.specs.Payload.{word_payload, list_payload}
 use Rattle.fts_ixcodec.proofs.writing.put_node.Goals as goal
 
