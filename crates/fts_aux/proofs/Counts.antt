@@ -1,6 +1,5 @@
 -- How many words of a table packing would change, as calls change the words.
 use Rattle.std.proofs.Common.{◌≡◌, ◌≢◌, ℕ, zero, suc, ◌+◌, ◌<◌, ◌≤◌, Bool, true, false, if◌then◌else◌, List, [], ◌∷◌, length, Option, Some, None, get_or, position, refl, sym, ap, ◌∙◌, ⊎_elim, true≢false, arith}
-use Rattle.std.specs.Global.{Vec}
 use Rattle.std.specs.List.{AllByRecursion, IsDistinct, sum_by, swap_remove}
 use Rattle.std.specs.Map.{keys_of}
 use Rattle.std.specs.Option.{option_map_or, unwrap_or}
@@ -17,20 +16,20 @@ use Rattle.fts_ilist.proofs.Loose.{loose_told, told_loose}
 use Rattle.fts_aux.proofs.Finds.{Distinct, same_text, is_same, which_word, first_apart, rest_distinct, list_other}
 
 -- what is counted of a word of a table
-abbrev pub one_of : Entries → Vec ℕ → ℕ
-one_of es k = loose_one (nodes_in es k.items)
+abbrev pub one_of : Entries → List ℕ → ℕ
+one_of es k = loose_one (nodes_in es k)
 
-pub sums_same : (f g : Vec ℕ → ℕ) → ((k : Vec ℕ) → f k ≡ g k) → (ks : List (Vec ℕ)) → sum_by f ks ≡ sum_by g ks
+pub sums_same : (f g : List ℕ → ℕ) → ((k : List ℕ) → f k ≡ g k) → (ks : List (List ℕ)) → sum_by f ks ≡ sum_by g ks
 sums_same f g same [] = refl
 sums_same f g same (k ∷ ks) = omega (arith, same k, sums_same f g same ks, sum_by-cons f k ks, sum_by-cons g k ks)
 
-pub over_keys : (f : Vec ℕ → ℕ) (es : Entries) → sum_by (λ (e : Vec ℕ × NodeState). f e.0) es ≡ sum_by f (keys_of es)
+pub over_keys : (f : List ℕ → ℕ) (es : Entries) → sum_by (λ (e : List ℕ × NodeState). f e.0) es ≡ sum_by f (keys_of es)
 over_keys f [] = refl
-over_keys f (e ∷ es) = omega (arith, over_keys f es, sum_by-cons (λ (e : Vec ℕ × NodeState). f e.0) e es, sum_by-cons f e.0 (keys_of es))
+over_keys f (e ∷ es) = omega (arith, over_keys f es, sum_by-cons (λ (e : List ℕ × NodeState). f e.0) e es, sum_by-cons f e.0 (keys_of es))
 
 -- the words are the same, with the same nodes
 pub count_same : (es new : Entries) → keys_of new ≡ keys_of es → ((w : List ℕ) → nodes_in new w ≡ nodes_in es w) → loose_count new ≡ loose_count es
-count_same es new keys same = sums_same (one_of new) (one_of es) (λ k. ap loose_one (same k.items)) (keys_of new) ∙ ap (sum_by (one_of es)) keys
+count_same es new keys same = sums_same (one_of new) (one_of es) (λ k. ap loose_one (same k)) (keys_of new) ∙ ap (sum_by (one_of es)) keys
 
 -- and the list of one word is another with the same nodes
 pub count_kept : (es new : Entries) (word : List ℕ) → keys_of new ≡ keys_of es → ((w : List ℕ) → w ≢ word → list_in new w ≡ list_in es w) → nodes_in new word ≡ nodes_in es word → loose_count new ≡ loose_count es
@@ -55,32 +54,32 @@ count_more es new word l none empty en =
     let key = en.keys.0 in
     let same = count_entered es new word l none empty en in
     let here : one_of es key ≡ 0 = ap (λ (w : List ℕ). loose_one (nodes_in es w)) en.keys.1 ∙ ap (λ (o : Option NodeState). loose_one (unwrap_or o no_list).nodes) none in
-    sums_same (one_of new) (one_of es) (λ k. ap loose_one (same k.items)) (keys_of new)
+    sums_same (one_of new) (one_of es) (λ k. ap loose_one (same k)) (keys_of new)
     ∙ ap (sum_by (one_of es)) en.keys.2
     ∙ sum_by-append (one_of es) (keys_of es) (key ∷ [])
     ∙ omega (arith, here)
 
 -- ---- the nodes of one word change
 
-cons_of : (f : List ℕ → ℕ) (k : Vec ℕ) (ks : List (Vec ℕ)) → sum_by (λ (k : Vec ℕ). f k.items) (k ∷ ks) ≡ f k.items + sum_by (λ (k : Vec ℕ). f k.items) ks
-cons_of f k ks = sum_by-cons (λ (k : Vec ℕ). f k.items) k ks
+cons_of : (f : List ℕ → ℕ) (k : List ℕ) (ks : List (List ℕ)) → sum_by (λ (k : List ℕ). f k) (k ∷ ks) ≡ f k + sum_by (λ (k : List ℕ). f k) ks
+cons_of f k ks = sum_by-cons (λ (k : List ℕ). f k) k ks
 
 module _ (f g : List ℕ → ℕ) (word : List ℕ) (others : (w : List ℕ) → w ≢ word → g w ≡ f w) where
-  sum_rest : (k : Vec ℕ) (ks : List (Vec ℕ)) → word ≡ k.items → AllByRecursion (λ (y : Vec ℕ). bytes_eq k.items y.items ≡ false) ks → sum_by (λ (k : Vec ℕ). g k.items) ks ≡ sum_by (λ (k : Vec ℕ). f k.items) ks
+  sum_rest : (k : List ℕ) (ks : List (List ℕ)) → word ≡ k → AllByRecursion (λ (y : List ℕ). bytes_eq k y ≡ false) ks → sum_by (λ (k : List ℕ). g k) ks ≡ sum_by (λ (k : List ℕ). f k) ks
   sum_rest k [] it apart = refl
   sum_rest k (y ∷ ys) it apart =
-      let differs : y.items ≢ word = λ e. true≢false (sym (is_same k.items) ∙ ap (bytes_eq k.items) (sym it) ∙ ap (bytes_eq k.items) (sym e) ∙ apart.0) in
-      omega (arith, others y.items differs, sum_rest k ys it apart.1, cons_of f y ys, cons_of g y ys)
+      let differs : y ≢ word = λ e. true≢false (sym (is_same k) ∙ ap (bytes_eq k) (sym it) ∙ ap (bytes_eq k) (sym e) ∙ apart.0) in
+      omega (arith, others y differs, sum_rest k ys it apart.1, cons_of f y ys, cons_of g y ys)
 
-  sum_one : (ks : List (Vec ℕ)) (n : ℕ) → Distinct ks → is_key_at ks n word ≡ true → sum_by (λ (k : Vec ℕ). g k.items) ks + f word ≡ sum_by (λ (k : Vec ℕ). f k.items) ks + g word
+  sum_one : (ks : List (List ℕ)) (n : ℕ) → Distinct ks → is_key_at ks n word ≡ true → sum_by (λ (k : List ℕ). g k) ks + f word ≡ sum_by (λ (k : List ℕ). f k) ks + g word
   unfolding IsDistinct
   sum_one [] n u at = absurd (true≢false (sym at))
   sum_one (k ∷ ks) zero u at =
-      let it : word ≡ k.items = same_text word k.items at in
+      let it : word ≡ k = same_text word k at in
       omega (arith, sum_rest k ks it u.0, ap f it, ap g it, cons_of f k ks, cons_of g k ks)
   sum_one (k ∷ ks) (suc n) u at =
       let apart = first_apart k ks n word u at in
-      omega (arith, sum_one ks n (rest_distinct k ks u) at, others k.items (λ e. apart (sym e)), cons_of f k ks, cons_of g k ks)
+      omega (arith, sum_one ks n (rest_distinct k ks u) at, others k (λ e. apart (sym e)), cons_of f k ks, cons_of g k ks)
 
 pub count_written : (es new : Entries) (word : List ℕ) (l : NodeState) (n : ℕ) → Distinct (keys_of es) → is_key_at (keys_of es) n word ≡ true → Writes es new word l → Recounts es new word
 count_written es new word l n u at wr =
@@ -90,29 +89,29 @@ count_written es new word l n u at wr =
 
 -- ---- a word without nodes is taken out
 
-module _ (f : Vec ℕ → ℕ) (word : List ℕ) (none : (k : Vec ℕ) → k.items ≡ word → f k ≡ 0) where
-  abbrev over : Vec ℕ × NodeState → ℕ
+module _ (f : List ℕ → ℕ) (word : List ℕ) (none : (k : List ℕ) → k ≡ word → f k ≡ 0) where
+  abbrev over : List ℕ × NodeState → ℕ
   over e = f e.0
 
-  sum_out : (es : Entries) → sum_by over (swap_remove_entry (λ (k : Vec ℕ). bytes_eq word k.items) es) ≡ sum_by over es
+  sum_out : (es : Entries) → sum_by over (swap_remove_entry (λ (k : List ℕ). bytes_eq word k) es) ≡ sum_by over es
   sum_out [] = refl
-  sum_out (e ∷ es) = by (position (λ (k : Vec ℕ). bytes_eq word k.items) (keys_of (e ∷ es))) refl
+  sum_out (e ∷ es) = by (position (λ (k : List ℕ). bytes_eq word k) (keys_of (e ∷ es))) refl
     where
-      by : (r : Option ℕ) → position (λ (k : Vec ℕ). bytes_eq word k.items) (keys_of (e ∷ es)) ≡ r
+      by : (r : Option ℕ) → position (λ (k : List ℕ). bytes_eq word k) (keys_of (e ∷ es)) ≡ r
           → sum_by over (option_map_or (λ i. swap_remove (e ∷ es) i e) r (e ∷ es)) ≡ sum_by over (e ∷ es)
       by None at = refl
       by (Some i) at =
-          let found = position-Some (λ (k : Vec ℕ). bytes_eq word k.items) (keys_of (e ∷ es)) i e.0 at in
-          let within : i < length (e ∷ es) = omega (arith, found.0, length-map (e ∷ es) (λ (x : Vec ℕ × NodeState). x.0)) in
-          let key : get_or (keys_of (e ∷ es)) i e.0 ≡ (get_or (e ∷ es) i e).0 = get_or-map (λ (x : Vec ℕ × NodeState). x.0) (e ∷ es) i e e.0 within in
-          let gone : over (get_or (e ∷ es) i e) ≡ 0 = ap f (sym key) ∙ none (get_or (keys_of (e ∷ es)) i e.0) (sym (same_text word (get_or (keys_of (e ∷ es)) i e.0).items found.1)) in
+          let found = position-Some (λ (k : List ℕ). bytes_eq word k) (keys_of (e ∷ es)) i e.0 at in
+          let within : i < length (e ∷ es) = omega (arith, found.0, length-map (e ∷ es) (λ (x : List ℕ × NodeState). x.0)) in
+          let key : get_or (keys_of (e ∷ es)) i e.0 ≡ (get_or (e ∷ es) i e).0 = get_or-map (λ (x : List ℕ × NodeState). x.0) (e ∷ es) i e e.0 within in
+          let gone : over (get_or (e ∷ es) i e) ≡ 0 = ap f (sym key) ∙ none (get_or (keys_of (e ∷ es)) i e.0) (sym (same_text word (get_or (keys_of (e ∷ es)) i e.0) found.1)) in
           omega (arith, sum_by-swap_remove over (e ∷ es) i e within, gone)
 
-pub count_out : (es new : Entries) (word : List ℕ) → new ≡ swap_remove_entry (λ (k : Vec ℕ). bytes_eq word k.items) es → ((w : List ℕ) → nodes_in new w ≡ nodes_in es w) → nodes_in es word ≡ [] → loose_count new ≡ loose_count es
+pub count_out : (es new : Entries) (word : List ℕ) → new ≡ swap_remove_entry (λ (k : List ℕ). bytes_eq word k) es → ((w : List ℕ) → nodes_in new w ≡ nodes_in es w) → nodes_in es word ≡ [] → loose_count new ≡ loose_count es
 count_out es new word is same none =
-    sums_same (one_of new) (one_of es) (λ k. ap loose_one (same k.items)) (keys_of new)
+    sums_same (one_of new) (one_of es) (λ k. ap loose_one (same k)) (keys_of new)
     ∙ sym (over_keys (one_of es) new)
-    ∙ ap (sum_by (λ (e : Vec ℕ × NodeState). one_of es e.0)) is
+    ∙ ap (sum_by (λ (e : List ℕ × NodeState). one_of es e.0)) is
     ∙ sum_out (one_of es) word (λ k it. ap (λ (w : List ℕ). loose_one (nodes_in es w)) it ∙ ap loose_one none) es
     ∙ over_keys (one_of es) es
 
@@ -134,12 +133,12 @@ one_most ns = at (are_loose ns)
     at true = omega arith
     at false = omega arith
 
-sum_most : (f : Vec ℕ → ℕ) → ((k : Vec ℕ) → f k ≤ 1) → (ks : List (Vec ℕ)) → sum_by f ks ≤ length ks
+sum_most : (f : List ℕ → ℕ) → ((k : List ℕ) → f k ≤ 1) → (ks : List (List ℕ)) → sum_by f ks ≤ length ks
 sum_most f few [] = omega arith
 sum_most f few (k ∷ ks) = omega (arith, few k, sum_most f few ks, sum_by-cons f k ks)
 
 pub count_most : (es : Entries) → loose_count es ≤ length es
-count_most es = omega (arith, sum_most (one_of es) (λ k. one_most (nodes_in es k.items)) (keys_of es), length-map es (λ (x : Vec ℕ × NodeState). x.0))
+count_most es = omega (arith, sum_most (one_of es) (λ k. one_most (nodes_in es k)) (keys_of es), length-map es (λ (x : List ℕ × NodeState). x.0))
 
 -- ---- whether there is one
 
@@ -153,25 +152,25 @@ one_positive ns h = at (are_loose ns) h
 one_is : (ns : List Docs) → are_loose ns ≡ true → loose_one ns ≡ 1
 one_is ns e = ap (λ (b : Bool). let n : ℕ = if b then 1 else 0 in n) e
 
-sum_some : (f : Vec ℕ → ℕ) (ks : List (Vec ℕ)) → 0 < sum_by f ks → (k : Vec ℕ) × (0 < f k)
+sum_some : (f : List ℕ → ℕ) (ks : List (List ℕ)) → 0 < sum_by f ks → (k : List ℕ) × (0 < f k)
 sum_some f [] h = absurd (omega (arith, h))
 sum_some f (k ∷ ks) h = at (f k) refl (sum_some f ks)
   where
-    at : (n : ℕ) → f k ≡ n → (0 < sum_by f ks → (k : Vec ℕ) × (0 < f k)) → (k : Vec ℕ) × (0 < f k)
+    at : (n : ℕ) → f k ≡ n → (0 < sum_by f ks → (k : List ℕ) × (0 < f k)) → (k : List ℕ) × (0 < f k)
     at zero e rest = rest (omega (arith, h, e, sum_by-cons f k ks))
     at (suc n) e rest = (k, omega (arith, e))
 
-some_counts : (F : List ℕ → ℕ) (es : Entries) (w : List ℕ) (l : NodeState) → find w es ≡ Some l → F w ≤ sum_by (λ (k : Vec ℕ). F k.items) (keys_of es)
+some_counts : (F : List ℕ → ℕ) (es : Entries) (w : List ℕ) (l : NodeState) → find w es ≡ Some l → F w ≤ sum_by (λ (k : List ℕ). F k) (keys_of es)
 some_counts F [] w l e = absurd (let h : None ≡ Some l = e in cc)
 some_counts F (x ∷ es) w l e =
     ⊎_elim
-    (λ (h : (bytes_eq w x.0.items ≡ true) × (w ≡ x.0.items)). omega (arith, ap F h.1, cons_of F x.0 (keys_of es)))
-    (λ (h : (bytes_eq w x.0.items ≡ false) × (w ≢ x.0.items)).
+    (λ (h : (bytes_eq w x.0 ≡ true) × (w ≡ x.0)). omega (arith, ap F h.1, cons_of F x.0 (keys_of es)))
+    (λ (h : (bytes_eq w x.0 ≡ false) × (w ≢ x.0)).
     omega (arith, some_counts F es w l (sym (ap (λ (b : Bool). if b then Some x.1 else find w es) h.0) ∙ e), cons_of F x.0 (keys_of es)))
-    (which_word w x.0.items)
+    (which_word w x.0)
 
 pub has_some : (es : Entries) → 0 < loose_count es → HasLoose (nodes_in es)
-has_some es h = let some = sum_some (one_of es) (keys_of es) h in (some.0.items, told_loose (nodes_in es some.0.items) (one_positive (nodes_in es some.0.items) some.1))
+has_some es h = let some = sum_some (one_of es) (keys_of es) h in (some.0, told_loose (nodes_in es some.0) (one_positive (nodes_in es some.0) some.1))
 
 pub some_has : (es : Entries) → HasLoose (nodes_in es) → 0 < loose_count es
 some_has es (w, loose) = at (find w es) refl

@@ -1,6 +1,5 @@
 -- What is kept beside the words of a table, as calls change them.
 use Rattle.std.proofs.Common.{◌≡◌, ◌≢◌, ◌⊎◌, inl, inr, ⊎_elim, ◌<◌, ◌≤◌, ℕ, zero, suc, Bool, true, false, cond, ◌||◌, List, [], ◌∷◌, ◌++◌, length, Option, Some, None, is_some, refl, sym, ap, ◌∙◌, true≢false, arith}
-use Rattle.std.specs.Global.{Vec}
 use Rattle.std.specs.List.{list_any}
 use Rattle.std.specs.Map.{keys_of}
 use Rattle.std.specs.Str.{bytes_eq}
@@ -56,7 +55,7 @@ key_after es new word o b w apart =
 key_there : (es : Entries) (n : ℕ) (w : List ℕ) → is_key_at (keys_of es) n w ≡ true → is_key es w ≡ true
 key_there [] n w at = absurd (true≢false (sym at))
 key_there (e ∷ es) zero w at = ap (λ (b : Bool). is_some (cond b (Some e.1) (find w es))) at
-key_there (e ∷ es) (suc n) w at = or_there (bytes_eq w e.0.items) (key_there es n w at)
+key_there (e ∷ es) (suc n) w at = or_there (bytes_eq w e.0) (key_there es n w at)
   where
     or_there : (b : Bool) → is_key es w ≡ true → is_some (cond b (Some e.1) (find w es)) ≡ true
     or_there true h = refl
@@ -70,16 +69,16 @@ module _ (es new : Entries) (order : BTreeSet (List ℕ)) (kept : ℕ) (notes : 
 
   filled_still : IsFilledBut new kept
   filled_still n w at none =
-      is.filled n w (ap (λ (ks : List (Vec ℕ)). is_key_at ks n w) (sym keys) ∙ at) (⊎_elim
+      is.filled n w (ap (λ (ks : List (List ℕ)). is_key_at ks n w) (sym keys) ∙ at) (⊎_elim
       (λ (h : (bytes_eq w word ≡ true) × (w ≡ word)). ap (nodes_in es) h.1 ∙ nodes (sym (ap (nodes_in new) h.1) ∙ none))
       (λ (h : (bytes_eq w word ≡ false) × (w ≢ word)). ap (λ (l : NodeState). l.nodes) (sym (others w h.1)) ∙ none)
       (which_word w word))
 
   within_still : kept ≤ length (keys_of new)
-  within_still = omega (arith, is.within, ap (λ (ks : List (Vec ℕ)). length ks) keys)
+  within_still = omega (arith, is.within, ap (λ (ks : List (List ℕ)). length ks) keys)
 
   noted_old : (w : List ℕ) → room_of (list_in es w) ≢ no_room → list_any (λ number. is_key_at (keys_of new) number w) notes ≡ true
-  noted_old w some = ap (λ (ks : List (Vec ℕ)). list_any (λ number. is_key_at ks number w) notes) keys ∙ is.noted w some
+  noted_old w some = ap (λ (ks : List (List ℕ)). list_any (λ number. is_key_at ks number w) notes) keys ∙ is.noted w some
 
   -- the word has no more room than before
   pub table_appended : (count : ℕ) → count ≡ loose_count new → (room_of (list_in es word) ≡ no_room → room_of (list_in new word) ≡ no_room) → IsTable new order kept notes count
@@ -102,7 +101,7 @@ module _ (es new : Entries) (order : BTreeSet (List ℕ)) (kept : ℕ) (notes : 
     filled = filled_still;
     within = within_still;
     noted = λ w some. ⊎_elim
-        (λ (h : (bytes_eq w word ≡ true) × (w ≡ word)). any_last (λ number. is_key_at (keys_of new) number w) notes n (ap (λ (ks : List (Vec ℕ)). is_key_at ks n w) keys ∙ ap (is_key_at (keys_of es) n) h.1 ∙ at))
+        (λ (h : (bytes_eq w word ≡ true) × (w ≡ word)). any_last (λ number. is_key_at (keys_of new) number w) notes n (ap (λ (ks : List (List ℕ)). is_key_at ks n w) keys ∙ ap (is_key_at (keys_of es) n) h.1 ∙ at))
         (λ (h : (bytes_eq w word ≡ false) × (w ≢ word)). any_left (λ number. is_key_at (keys_of new) number w) notes n (noted_old w (λ none. some (ap room_of (others w h.1) ∙ none))))
         (which_word w word);
   }
@@ -143,7 +142,7 @@ pub are_written : (es new : Entries) (word : List ℕ) (l : NodeState) (n : ℕ)
 are_written es new word l n becomes at = kept_one es new word l becomes (key_there es n word at)
 
 -- what stands at a number before the last key stood there, or it is the last
-before_last : (ks : List (Vec ℕ)) (k : Vec ℕ) (n : ℕ) (w : List ℕ) → is_key_at (ks ++ k ∷ []) n w ≡ true → (is_key_at ks n w ≡ true) ⊎ (n ≡ length ks)
+before_last : (ks : List (List ℕ)) (k : List ℕ) (n : ℕ) (w : List ℕ) → is_key_at (ks ++ k ∷ []) n w ≡ true → (is_key_at ks n w ≡ true) ⊎ (n ≡ length ks)
 before_last [] k zero w at = inr refl
 before_last [] k (suc n) w at = absurd (true≢false (sym at))
 before_last (x ∷ ks) k zero w at = inl at
@@ -158,8 +157,8 @@ table_entered es new order order' kept notes word l loose is none empty en inc =
   filled = λ n w at bare. ⊎_elim
       (λ (h : is_key_at (keys_of es) n w ≡ true). is.filled n w h (sym (count_entered es new word l none empty en w) ∙ bare))
       (λ (h : n ≡ length (keys_of es)). let w' = is.within in omega (arith, h, w'))
-      (before_last (keys_of es) en.keys.0 n w (ap (λ (ks : List (Vec ℕ)). is_key_at ks n w) (sym en.keys.2) ∙ at));
-  within = omega (arith, is.within, ap (λ (ks : List (Vec ℕ)). length ks) en.keys.2, length-append (keys_of es) (en.keys.0 ∷ []));
+      (before_last (keys_of es) en.keys.0 n w (ap (λ (ks : List (List ℕ)). is_key_at ks n w) (sym en.keys.2) ∙ at));
+  within = omega (arith, is.within, ap (λ (ks : List (List ℕ)). length ks) en.keys.2, length-append (keys_of es) (en.keys.0 ∷ []));
   noted = λ w some. ⊎_elim
       (λ (h : (bytes_eq w word ≡ true) × (w ≡ word)). any_last (λ number. is_key_at (keys_of new) number w) notes (length es) (ap (is_key_at (keys_of new) (length es)) h.1 ∙ en.last))
       (λ (h : (bytes_eq w word ≡ false) × (w ≢ word)). any_left (λ number. is_key_at (keys_of new) number w) notes (length es)
@@ -181,20 +180,20 @@ number_there : (es : Entries) (w : List ℕ) → is_key es w ≡ true → (n : �
 number_there [] w k = absurd (true≢false (sym k))
 number_there (e ∷ es) w k =
     ⊎_elim
-    (λ (h : (bytes_eq w e.0.items ≡ true) × (w ≡ e.0.items)). (zero, h.0))
-    (λ (h : (bytes_eq w e.0.items ≡ false) × (w ≢ e.0.items)).
+    (λ (h : (bytes_eq w e.0 ≡ true) × (w ≡ e.0)). (zero, h.0))
+    (λ (h : (bytes_eq w e.0 ≡ false) × (w ≢ e.0)).
     let r = number_there es w (sym (ap (λ (b : Bool). is_some (cond b (Some e.1) (find w es))) h.0) ∙ k) in (suc r.0, r.1))
-    (which_word w e.0.items)
+    (which_word w e.0)
 
 -- a number of a word is below that of the words
-number_within : (ks : List (Vec ℕ)) (n : ℕ) (w : List ℕ) → is_key_at ks n w ≡ true → n < length ks
+number_within : (ks : List (List ℕ)) (n : ℕ) (w : List ℕ) → is_key_at ks n w ≡ true → n < length ks
 number_within [] n w at = absurd (true≢false (sym at))
 number_within (k ∷ ks) zero w at = omega arith
 number_within (k ∷ ks) (suc n) w at = omega (arith, number_within ks n w at)
 
 -- the walk over the words without nodes begins at the last one, and ends at the first
 pub all_before : (es : Entries) (kept : ℕ) → IsFilledBut es kept → AreFilledBut es kept (length es)
-all_before es kept filled n w at none = (filled n w at none, omega (arith, number_within (keys_of es) n w at, length-map es (λ (x : Vec ℕ × NodeState). x.0)))
+all_before es kept filled n w at none = (filled n w at none, omega (arith, number_within (keys_of es) n w at, length-map es (λ (x : List ℕ × NodeState). x.0)))
 
 pub all_filled : (es : Entries) (kept number : ℕ) → number ≤ kept → AreFilledBut es kept number → AreFilled es
 all_filled es kept number end filled w k none =
@@ -206,7 +205,7 @@ pub filled_none : (es : Entries) (kept : ℕ) → AreFilled es → IsFilledBut e
 filled_none es kept filled n w at none = absurd (filled w (key_there es n w at) none)
 
 pub kept_all : (es : Entries) → length es ≤ length (keys_of es)
-kept_all es = omega (arith, length-map es (λ (x : Vec ℕ × NodeState). x.0))
+kept_all es = omega (arith, length-map es (λ (x : List ℕ × NodeState). x.0))
 
 -- a word was taken out, or has other nodes
 pub filled_but : (es new : Entries) (word : List ℕ) → AreFilled es → ((w : List ℕ) → is_key new w ≡ true → is_key es w ≡ true)

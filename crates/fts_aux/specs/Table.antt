@@ -2,7 +2,6 @@
 use Rattle.std.specs.Prelude.{◌≡◌, ◌≢◌, ℕ, ◌+◌, ◌≤◌, ◌<◌, Bool, true, false, cond, if◌then◌else◌, List, [], ◌∷◌}
 use Rattle.std.specs.Prelude.{length, ◌⊎◌, ◌++◌}
 use Rattle.std.specs.Prelude.{Option, Some, None, is_some}
-use Rattle.std.specs.Global.{Vec}
 use Rattle.std.specs.List.{All, AllByRecursion, list_any, slice_get, sum_by}
 use Rattle.std.specs.List.Sorted.{IsStrictlySortedBy}
 use Rattle.std.specs.Option.{unwrap_or}
@@ -19,10 +18,10 @@ use Rattle.fts_ilist.specs.Packing.{AreLoose, are_loose}
 
 -- what contracts see of a table: its words, each with its nodes and the room that is promised for more
 abbrev pub Entries : Type 0
-Entries = List (Vec ℕ × NodeState)
+Entries = List (List ℕ × NodeState)
 
 abbrev pub find : List ℕ → Entries → Option NodeState
-find word entries = lookup (λ k. bytes_eq word k.items) entries
+find word entries = lookup (λ k. bytes_eq word k) entries
 
 -- what stands for a word that is not in a table
 abbrev pub no_list : NodeState
@@ -40,11 +39,11 @@ abbrev pub is_key : Entries → List ℕ → Bool
 is_key table word = is_some (find word table)
 
 -- the key with this number is the word
-abbrev pub key_is : Option (Vec ℕ) → List ℕ → Bool
+abbrev pub key_is : Option (List ℕ) → List ℕ → Bool
 key_is None word = false
-key_is (Some k) word = bytes_eq word k.items
+key_is (Some k) word = bytes_eq word k
 
-abbrev pub is_key_at : List (Vec ℕ) → ℕ → List ℕ → Bool
+abbrev pub is_key_at : List (List ℕ) → ℕ → List ℕ → Bool
 is_key_at keys number word = key_is (slice_get keys number) word
 
 -- room for so many nodes, of so many bytes in all
@@ -151,7 +150,7 @@ loose_one ns = if are_loose ns then 1 else 0
 
 -- of how many words packing would change the nodes
 abbrev pub loose_count : Entries → ℕ
-loose_count table = sum_by (λ k. loose_one (nodes_in table k.items)) (keys_of table)
+loose_count table = sum_by (λ k. loose_one (nodes_in table k)) (keys_of table)
 
 pub record IsTable (table : Entries) (order : BTreeSet (List ℕ)) (kept : ℕ) (notes : List ℕ) (loose : ℕ)
     : Type 0 where
@@ -173,7 +172,7 @@ pub record Enters (old new : Entries) (word : List ℕ) (list : NodeState) : Typ
   pub stay : (number : ℕ) (w : List ℕ) → is_key_at (keys_of old) number w ≡ true
       → is_key_at (keys_of new) number w ≡ true
   pub last : is_key_at (keys_of new) (length old) word ≡ true
-  pub keys : (key : Vec ℕ) × (key.items ≡ word) × (keys_of new ≡ keys_of old ++ key ∷ [])
+  pub keys : (key : List ℕ) × (key ≡ word) × (keys_of new ≡ keys_of old ++ key ∷ [])
 
 -- the list of a word is another, and the words keep their numbers
 pub record Writes (old new : Entries) (word : List ℕ) (list : NodeState) : Type 0 where

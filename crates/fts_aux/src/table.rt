@@ -18,7 +18,7 @@ ghost use Rattle.fts_aux.specs.Table.{KeepsNodes, HasLoose, Recounts, loose_coun
 ghost use Rattle.fts_ilist.specs.Packing.{are_loose};
 
 use fts_ilist::{Node, NodeList, NodeSlice};
-use fts_types::{DocId, Word};
+use fts_types::{DocId, Word, WordBytes};
 use indexmap::IndexMap;
 use std::alloc::{AllocError, Global};
 use std::collections::btree_set::Range;
@@ -27,7 +27,7 @@ use std::marker::Model;
 use std::ops::Bound;
 
 /// Words with their nodes, as they were entered.
-type Words = IndexMap<Vec<u8>, NodeList>;
+type Words = IndexMap<Word, NodeList>;
 
 /// Words with their nodes. A word without nodes is there for its room alone, and counts as absent.
 #[derive(Drop)]
@@ -60,7 +60,7 @@ fn is_word_at(words: &Words, number: usize, word: &[u8]) -> bool
     ensures { result ≡ is_key_at (keys_of words.now.entries) number word.now }
 {
     match words.get_index(number) {
-        Some((key, _)) => word == key.as_slice(),
+        Some((key, _)) => word == key.as_bytes(),
         None => false,
     }
 }
@@ -70,7 +70,7 @@ fn number_of(words: &Words, word: &[u8]) -> Option<usize>
     ensures some { IfSome result (λ n. is_key_at (keys_of words.now.entries) n word.now ≡ true) }
     ensures none { IfNone result (find word.now words.now.entries ≡ None) }
 {
-    match words.get_full(word) {
+    match words.get_full(WordBytes { bytes: word }) {
         Some((number, _, _)) => Some(number),
         None => None,
     }
@@ -84,7 +84,7 @@ fn number_and_last(words: &Words, word: &[u8]) -> Option<(usize, DocId)>
     ensures last { IfSome result (λ p. p.1 ≡ last_of 0 (nodes_in words.now.entries word.now)) }
     ensures none { IfNone result (find word.now words.now.entries ≡ None) }
 {
-    match words.get_full(word) {
+    match words.get_full(WordBytes { bytes: word }) {
         Some((number, _, list)) => Some((number, list.as_slice().last_id())),
         None => None,
     }
@@ -246,7 +246,7 @@ fn take_out(words: &mut Words, word: &[u8])
     ensures loose { nodes_in words.old.entries word.now ≡ []
         → loose_count words.new.entries ≡ loose_count words.old.entries }
 {
-    words.swap_remove(word);
+    words.swap_remove(WordBytes { bytes: word });
 }
 
 /// Takes a word out of those in byte order.
@@ -275,7 +275,7 @@ fn enter(
     words.reserve(1)?;
     let mut list = NodeList::new(alloc);
     list.reserve(nodes, bytes)?;
-    let key = Vec::from_slice(alloc, word)?;
+    let key = Word::copied(alloc, word)?;
     let entered = Word::copied(alloc, word)?;
     order.insert(entered)?;
     words.insert(key, list).unwrap();
@@ -340,7 +340,7 @@ fn is_empty(words: &Words, word: &[u8]) -> bool
     ensures no { result ≡ false → is_key words.now.entries word.now ≡ true
         → nodes_in words.now.entries word.now ≢ [] }
 {
-    match words.get(word) {
+    match words.get(WordBytes { bytes: word }) {
         Some(list) => list.is_empty(),
         None => false,
     }
@@ -375,7 +375,7 @@ fn take_out_at(words: &mut Words, order: &mut BTreeSet<Word>, number: usize)
     ensures loose { loose_count words.new.entries ≡ loose_count words.old.entries }
 {
     if let Some((key, _)) = words.swap_remove_index(number) {
-        take_out_of(order, &Word::from_vec(key));
+        take_out_of(order, &key);
     }
 }
 
@@ -417,7 +417,7 @@ fn drop_empty(words: &mut Words, order: &mut BTreeSet<Word>, kept: usize)
 fn nodes_of<'a>(words: &'a Words, word: &[u8]) -> NodeSlice<'a>
     ensures { result ≡ nodes_in words.now.entries word.now }
 {
-    match words.get(word) {
+    match words.get(WordBytes { bytes: word }) {
         Some(list) => list.as_slice(),
         None => NodeSlice::empty(),
     }

@@ -1,7 +1,6 @@
 -- The words that a call gives: which they are, and that they ascend once they are sorted.
 use Rattle.std.proofs.Common.{◌≡◌, ◌≢◌, ◌⊎◌, inl, inr, ⊎_elim, ◌↔◌, ℕ, suc, ◌<◌, ◌≤◌, Bool, true, false, cond, ◌&&◌, ◌||◌, nat_eq, nat_le, nat_lt, List, [], ◌∷◌, ◌++◌, length, map, get_or, Option, Some, None, refl, sym, ap, subst, ◌∙◌, arith}
 use Rattle.std.specs.Borrow.{Bor}
-use Rattle.std.specs.Global.{Vec}
 use Rattle.fts_words.specs.Order.{byte_order}
 use Rattle.std.specs.List.{All, IsDistinct, cons_option, list_any, AllByRecursion}
 use Rattle.std.specs.List.Sorted.{IsSortedBy, IsStrictlySortedBy, IsPermutation}
@@ -28,7 +27,7 @@ use Rattle.fts_cache.proofs.Queues.{which_word, is_same}
 use Rattle.fts_cache.proofs.Table.{which_number, some_is, none_is_not, queue_of_number}
 
 abbrev Numbers : Type 0
-Numbers = List (Vec ℕ × ℕ)
+Numbers = List (List ℕ × ℕ)
 
 above : (id doc : ℕ) → nat_le id doc ≡ false → doc < id
 above id doc e = grind arith

@@ -1,7 +1,6 @@
 -- The table of words: each by its number, as calls change it.
 use Rattle.std.proofs.Common.{◌≡◌, ◌≢◌, ◌⊎◌, inl, inr, ⊎_elim, ℕ, zero, suc, ◌≤◌, length, Bool, true, false, cond, ◌&&◌, nat_eq, List, [], ◌∷◌, Option, Some, None, slice_set, ◌<◌, refl, sym, ap, ◌∙◌, arith}
 use Rattle.std.proofs.lemmas.List.{get_or-set_same}
-use Rattle.std.specs.Global.{Vec}
 use Rattle.std.specs.Map.{lookup, KeepsOthers}
 use Rattle.std.specs.Option.{unwrap_or, option_map}
 use Rattle.std.specs.Str.{bytes_eq}
@@ -34,23 +33,23 @@ has_it (Some m) n =
 
 -- ---- numbers are written
 
-pub numbers_updated : (es new : List (Vec ℕ × ℕ)) (word : List ℕ) (r : Option ℕ) → lookup (λ k. bytes_eq word k.items) new ≡ r
-    → KeepsOthers (λ x y. bytes_eq x.items y.items) (λ k. bytes_eq word k.items) es new
-    → (w : List ℕ) → lookup (λ k. bytes_eq w k.items) new ≡ cond (bytes_eq w word) r (lookup (λ k. bytes_eq w k.items) es)
+pub numbers_updated : (es new : List (List ℕ × ℕ)) (word : List ℕ) (r : Option ℕ) → lookup (λ k. bytes_eq word k) new ≡ r
+    → KeepsOthers (λ x y. bytes_eq x y) (λ k. bytes_eq word k) es new
+    → (w : List ℕ) → lookup (λ k. bytes_eq w k) new ≡ cond (bytes_eq w word) r (lookup (λ k. bytes_eq w k) es)
 unfolding KeepsOthers
 numbers_updated es new word r here others w =
     ⊎_elim
     (λ (h : (bytes_eq w word ≡ true) × (w ≡ word)).
-    ap (λ (x : List ℕ). lookup (λ k. bytes_eq x k.items) new) h.1 ∙ here
-    ∙ ap (λ (b : Bool). cond b r (lookup (λ k. bytes_eq w k.items) es)) (sym h.0))
+    ap (λ (x : List ℕ). lookup (λ k. bytes_eq x k) new) h.1 ∙ here
+    ∙ ap (λ (b : Bool). cond b r (lookup (λ k. bytes_eq w k) es)) (sym h.0))
     (λ (h : (bytes_eq w word ≡ false) × (w ≢ word)).
-    others (λ k. bytes_eq w k.items)
-    (λ x y e. ap (λ (v : List ℕ). bytes_eq v y.items) (same_word w x.items e))
+    others (λ k. bytes_eq w k)
+    (λ x y e. ap (λ (v : List ℕ). bytes_eq v y) (same_word w x e))
     (λ k e. ⊎_elim
-    (λ (m : (bytes_eq w k.items ≡ true) × (w ≡ k.items)). absurd (h.1 (m.1 ∙ sym (same_word word k.items e))))
-    (λ (m : (bytes_eq w k.items ≡ false) × (w ≢ k.items)). m.0)
-    (which_word w k.items))
-    ∙ ap (λ (b : Bool). cond b r (lookup (λ k. bytes_eq w k.items) es)) (sym h.0))
+    (λ (m : (bytes_eq w k ≡ true) × (w ≡ k)). absurd (h.1 (m.1 ∙ sym (same_word word k e))))
+    (λ (m : (bytes_eq w k ≡ false) × (w ≢ k)). m.0)
+    (which_word w k))
+    ∙ ap (λ (b : Bool). cond b r (lookup (λ k. bytes_eq w k) es)) (sym h.0))
     (which_word w word)
 
 -- ---- a queue by its number
@@ -94,8 +93,8 @@ mapped_some : (change : Queue → Queue) (o : Option CachedWord) (s : CachedWord
 mapped_some change None s e = none_is_not s _ e
 mapped_some change (Some x) s e = (x, refl, ap (λ (y : CachedWord). y.word) (sym (some_is (with_queue change x) s e)))
 
-altered_found : (n : ℕ) (change : Queue → Queue) (numbers : List (Vec ℕ × ℕ)) (old new : Slots) → IsTable (record { numbers = numbers; slots = old }) → Alters n change old new
-    → (w : List ℕ) (m : ℕ) → lookup (λ k. bytes_eq w k.items) numbers ≡ Some m → (s : CachedWord) × (slot_in new m ≡ Some s) × (s.word ≡ w)
+altered_found : (n : ℕ) (change : Queue → Queue) (numbers : List (List ℕ × ℕ)) (old new : Slots) → IsTable (record { numbers = numbers; slots = old }) → Alters n change old new
+    → (w : List ℕ) (m : ℕ) → lookup (λ k. bytes_eq w k) numbers ≡ Some m → (s : CachedWord) × (slot_in new m ≡ Some s) × (s.word ≡ w)
 altered_found n change numbers old new t h w m e =
     let f = t.found w m e in
     ⊎_elim
@@ -106,19 +105,19 @@ altered_found n change numbers old new t h w m e =
     let r : (s : CachedWord) × (slot_in new m ≡ Some s) × (s.word ≡ w) = (f.0, at_others n change old new m x.1 h ∙ f.1, f.2) in r)
     (which_number m n)
 
-altered_known : (n : ℕ) (change : Queue → Queue) (numbers : List (Vec ℕ × ℕ)) (old new : Slots) → IsTable (record { numbers = numbers; slots = old }) → Alters n change old new
-    → (m : ℕ) (s : CachedWord) → slot_in new m ≡ Some s → lookup (λ k. bytes_eq s.word k.items) numbers ≡ Some m
+altered_known : (n : ℕ) (change : Queue → Queue) (numbers : List (List ℕ × ℕ)) (old new : Slots) → IsTable (record { numbers = numbers; slots = old }) → Alters n change old new
+    → (m : ℕ) (s : CachedWord) → slot_in new m ≡ Some s → lookup (λ k. bytes_eq s.word k) numbers ≡ Some m
 altered_known n change numbers old new t h m s e =
     ⊎_elim
     (λ (x : (nat_eq m n ≡ true) × (m ≡ n)).
     let at : option_map (with_queue change) (slot_in old m) ≡ Some s
     = sym (h m ∙ ap (λ (b : Bool). cond b (option_map (with_queue change) (slot_in old m)) (slot_in old m)) x.0) ∙ e in
     let f = mapped_some change (slot_in old m) s at in
-    ap (λ (v : List ℕ). lookup (λ k. bytes_eq v k.items) numbers) f.2 ∙ t.known m f.0 f.1)
+    ap (λ (v : List ℕ). lookup (λ k. bytes_eq v k) numbers) f.2 ∙ t.known m f.0 f.1)
     (λ (x : (nat_eq m n ≡ false) × (m ≢ n)). t.known m s (sym (at_others n change old new m x.1 h) ∙ e))
     (which_number m n)
 
-pub altered : (n : ℕ) (change : Queue → Queue) (numbers : List (Vec ℕ × ℕ)) (old new : Slots) → IsTable (record { numbers = numbers; slots = old }) → Alters n change old new
+pub altered : (n : ℕ) (change : Queue → Queue) (numbers : List (List ℕ × ℕ)) (old new : Slots) → IsTable (record { numbers = numbers; slots = old }) → Alters n change old new
     → IsAltered n change (record { numbers = numbers; slots = old }) (record { numbers = numbers; slots = new })
 altered n change numbers old new t h =
     let before : Entries = record { numbers = numbers; slots = old } in
@@ -279,7 +278,7 @@ pub dropped : (n doc : ℕ) (old now new : Entries) → IsTable old → now.numb
 dropped n doc old now new t same a h w =
     let l = h.less in
     record {
-      numbers = λ m e. sym (ap (λ ns. lookup (λ k. bytes_eq w k.items) ns) same) ∙ l.numbers w m e;
+      numbers = λ m e. sym (ap (λ ns. lookup (λ k. bytes_eq w k) ns) same) ∙ l.numbers w m e;
       here = λ e. l.postings w ∙ ap (λ (q : Queue). q.postings) (a.here w e);
       others = λ e. l.postings w ∙ ap (λ (q : Queue). q.postings) (a.others w e);
       last = ⊎_elim

@@ -3,7 +3,6 @@ use Rattle.std.proofs.Common.{◌≡◌, ◌≢◌, ◌⊎◌, inl, inr, ⊎_eli
 use Rattle.std.proofs.lemmas.List.{length-append}
 use Rattle.std.proofs.lemmas.Map.Text.{is_eq-slice_cmp}
 use Rattle.std.specs.BTreeMap.{BTreeMap, get, is_at}
-use Rattle.std.specs.Global.{Vec}
 use Rattle.std.specs.Map.{lookup}
 use Rattle.std.specs.Str.{bytes_eq}
 use Rattle.fts_words.specs.Order.{byte_order}
@@ -116,8 +115,8 @@ posting_filled doc positions q =
 -- ---- the words in byte order
 
 -- a word comes, with its number
-listed_more : (es new : List (Vec ℕ × ℕ)) (order order' : BTreeMap (List ℕ) ℕ) (word : List ℕ) (n : ℕ)
-    → ((w : List ℕ) → lookup (λ k. bytes_eq w k.items) new ≡ cond (bytes_eq w word) (Some n) (lookup (λ k. bytes_eq w k.items) es))
+listed_more : (es new : List (List ℕ × ℕ)) (order order' : BTreeMap (List ℕ) ℕ) (word : List ℕ) (n : ℕ)
+    → ((w : List ℕ) → lookup (λ k. bytes_eq w k) new ≡ cond (bytes_eq w word) (Some n) (lookup (λ k. bytes_eq w k) es))
     → ((w : List ℕ) → get byte_order order' w ≡ cond (is_at (byte_order word) w) (Some n) (get byte_order order w))
     → IsListed es order → IsListed new order'
 listed_more es new order order' word n numbers lists listed w m e =
@@ -126,22 +125,22 @@ listed_more es new order order' word n numbers lists listed w m e =
     ∙ ⊎_elim
     (λ (h : (bytes_eq w word ≡ true) × (w ≡ word)).
     ap (λ (b : Bool). cond b (Some n) (get byte_order order w)) h.0
-    ∙ sym (ap (λ (b : Bool). cond b (Some n) (lookup (λ k. bytes_eq w k.items) es)) h.0)
+    ∙ sym (ap (λ (b : Bool). cond b (Some n) (lookup (λ k. bytes_eq w k) es)) h.0)
     ∙ sym (numbers w) ∙ e)
     (λ (h : (bytes_eq w word ≡ false) × (w ≢ word)).
     ap (λ (b : Bool). cond b (Some n) (get byte_order order w)) h.0
-    ∙ listed w m (sym (numbers w ∙ ap (λ (b : Bool). cond b (Some n) (lookup (λ k. bytes_eq w k.items) es)) h.0) ∙ e))
+    ∙ listed w m (sym (numbers w ∙ ap (λ (b : Bool). cond b (Some n) (lookup (λ k. bytes_eq w k) es)) h.0) ∙ e))
     (which_word w word)
 
 -- a word goes, and may still stand in byte order
-pub listed_less : (es new : List (Vec ℕ × ℕ)) (order order' : BTreeMap (List ℕ) ℕ) (word : List ℕ)
-    → ((w : List ℕ) → lookup (λ k. bytes_eq w k.items) new ≡ cond (bytes_eq w word) None (lookup (λ k. bytes_eq w k.items) es))
+pub listed_less : (es new : List (List ℕ × ℕ)) (order order' : BTreeMap (List ℕ) ℕ) (word : List ℕ)
+    → ((w : List ℕ) → lookup (λ k. bytes_eq w k) new ≡ cond (bytes_eq w word) None (lookup (λ k. bytes_eq w k) es))
     → KeepsBut word order order' → IsListed es order → IsListed new order'
 listed_less es new order order' word numbers keeps listed w m e =
     ⊎_elim
-    (λ (h : (bytes_eq w word ≡ true) × (w ≡ word)). none_is_not m _ (sym (numbers w ∙ ap (λ (b : Bool). cond b None (lookup (λ k. bytes_eq w k.items) es)) h.0) ∙ e))
+    (λ (h : (bytes_eq w word ≡ true) × (w ≡ word)). none_is_not m _ (sym (numbers w ∙ ap (λ (b : Bool). cond b None (lookup (λ k. bytes_eq w k) es)) h.0) ∙ e))
     (λ (h : (bytes_eq w word ≡ false) × (w ≢ word)).
-    keeps w h.0 ∙ listed w m (sym (numbers w ∙ ap (λ (b : Bool). cond b None (lookup (λ k. bytes_eq w k.items) es)) h.0) ∙ e))
+    keeps w h.0 ∙ listed w m (sym (numbers w ∙ ap (λ (b : Bool). cond b None (lookup (λ k. bytes_eq w k) es)) h.0) ∙ e))
     (which_word w word)
 
 -- ---- what a cache holds
@@ -193,7 +192,7 @@ entered_all old new order order' fresh fresh' word n s k absent is_word empty fr
       used = used_entered old new word n [] e.enters numbers;
     }
 
-module _ {X E : Type 0} (n positions : ℕ) (numbers : List (Vec ℕ × ℕ)) (old new : Slots) where
+module _ {X E : Type 0} (n positions : ℕ) (numbers : List (List ℕ × ℕ)) (old new : Slots) where
   pub reserved_kept : (order : BTreeMap (List ℕ) ℕ) (fresh : List ℕ) (r : Result X E) → AreKept (record { numbers = numbers; slots = old }) order fresh
       → OnOk r (Alters n (with_more_room positions) old new) → OnErr r (Alters n (λ q. q) old new) → AreKept (record { numbers = numbers; slots = new }) order fresh
   reserved_kept order fresh (Ok x) k a b =
@@ -212,7 +211,7 @@ module _ {X E : Type 0} (n positions : ℕ) (numbers : List (Vec ℕ × ℕ)) (o
   reserved_used r t =
       on_ok r _ _ (λ a. used_filled n (with_more_room positions) (record { numbers = numbers; slots = old }) (record { numbers = numbers; slots = new }) [] refl (altered n (with_more_room positions) numbers old new t a) (room_filled positions))
 
-pub pushed_kept : (n doc : ℕ) (positions : List ℕ) (numbers : List (Vec ℕ × ℕ)) (old new : Slots) (order : BTreeMap (List ℕ) ℕ) (fresh : List ℕ) → AreKept (record { numbers = numbers; slots = old }) order fresh
+pub pushed_kept : (n doc : ℕ) (positions : List ℕ) (numbers : List (List ℕ × ℕ)) (old new : Slots) (order : BTreeMap (List ℕ) ℕ) (fresh : List ℕ) → AreKept (record { numbers = numbers; slots = old }) order fresh
     → Alters n (with_posting doc positions) old new → AreKept (record { numbers = numbers; slots = new }) order fresh
 pushed_kept n doc positions numbers old new order fresh k a =
     let before : Entries = record { numbers = numbers; slots = old } in

@@ -2,7 +2,6 @@
 use Rattle.std.specs.Prelude.{◌≡◌, ◌≢◌, ℕ, ◌+◌, ◌-◌, ◌^◌, ◌<◌, ◌≤◌, Bool, ◌&&◌, nat_eq, nat_le, nat_lt, filter}
 use Rattle.std.specs.Prelude.{List, [], ◌∷◌, ◌++◌, length, if◌then◌else◌}
 use Rattle.std.specs.Prelude.{Option, Some, None, slice_index_or, filter_map, true, false}
-use Rattle.std.specs.Global.{Vec}
 use Rattle.std.specs.List.{list_any}
 use Rattle.std.specs.BTreeMap.{BTreeMap, get}
 use Rattle.std.specs.Map.{lookup, keys_of}
@@ -20,7 +19,7 @@ Slots = List (Option CachedWord)
 
 -- the number of each word, and the words by their numbers
 pub record Entries : Type 0 where
-  pub numbers : List (Vec ℕ × ℕ)
+  pub numbers : List (List ℕ × ℕ)
   pub slots : Slots
 
 abbrev pub slot_in : Slots → ℕ → Option CachedWord
@@ -28,7 +27,7 @@ slot_in slots number = slice_index_or slots number None
 
 -- the number of a word
 abbrev pub number_in : Entries → List ℕ → Option ℕ
-number_in entries word = lookup (λ k. bytes_eq word k.items) entries.numbers
+number_in entries word = lookup (λ k. bytes_eq word k) entries.numbers
 
 -- what stands for a word that was not entered
 abbrev pub no_queue : Queue
@@ -65,8 +64,8 @@ IsUsedBut entries fresh = (w : List ℕ) (n : ℕ) → number_in entries w ≡ S
     → is_spent (queue_in entries w) ≡ true → has_number n fresh ≡ true
 
 -- the words in byte order have each word that has a number, with its number, and perhaps more
-abbrev pub IsListed : List (Vec ℕ × ℕ) → BTreeMap (List ℕ) ℕ → Type 0
-IsListed numbers order = (w : List ℕ) (n : ℕ) → lookup (λ k. bytes_eq w k.items) numbers ≡ Some n
+abbrev pub IsListed : List (List ℕ × ℕ) → BTreeMap (List ℕ) ℕ → Type 0
+IsListed numbers order = (w : List ℕ) (n : ℕ) → lookup (λ k. bytes_eq w k) numbers ≡ Some n
     → get byte_order order w ≡ Some n
 
 -- the fields of the words; the fresh numbers are those of words that were entered since words were let go of

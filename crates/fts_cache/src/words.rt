@@ -26,7 +26,7 @@ ghost use Rattle.fts_cache.specs.Words.{AreKept, IsLent, KeepsBut, is_leaving_as
 ghost use Rattle.std.specs.Map.{keys_of};
 
 use fts_ilist::{Cursor, PostingQueue};
-use fts_types::Word;
+use fts_types::{Word, WordBytes};
 use indexmap::IndexMap;
 use slab::Slab;
 use std::alloc::{AllocError, Global};
@@ -48,7 +48,7 @@ pub(crate) struct CachedWord {
 #[derive(Drop)]
 pub(crate) struct Words {
     // The number of each word.
-    numbers: IndexMap<Vec<u8>, u32>,
+    numbers: IndexMap<Word, u32>,
     // By their numbers.
     slots: Slab<CachedWord>,
     // The number of each word, in the order of their bytes. A word that left may still stand here.
@@ -144,7 +144,7 @@ fn forget(order: &mut BTreeMap<Word, u32>, places: usize, word: &Word)
 
 /// Lets go of the word with this number, where it has neither documents nor room.
 fn let_go(
-    numbers: &mut IndexMap<Vec<u8>, u32>,
+    numbers: &mut IndexMap<Word, u32>,
     slots: &mut Slab<CachedWord>,
     order: &mut BTreeMap<Word, u32>,
     number: usize,
@@ -161,14 +161,14 @@ fn let_go(
         return;
     }
     if let Some(cached) = slots.try_remove(number) {
-        numbers.swap_remove(cached.word.as_bytes());
+        numbers.swap_remove(&cached.word);
         forget(order, slots.capacity(), &cached.word);
     }
 }
 
 /// Lets go of the words with these numbers that have neither documents nor room, which are all.
 fn let_go_all(
-    numbers: &mut IndexMap<Vec<u8>, u32>,
+    numbers: &mut IndexMap<Word, u32>,
     slots: &mut Slab<CachedWord>,
     order: &mut BTreeMap<Word, u32>,
     fresh: &[u32],
@@ -391,7 +391,7 @@ impl Words {
         ensures documents { result ≡ (queue_in self.now word.now).postings }
         ensures are { ArePostings result }
     {
-        let Some(number) = self.numbers.get(word) else {
+        let Some(number) = self.numbers.get(WordBytes { bytes: word }) else {
             return Cursor::none();
         };
         match self.slots.get(*number as usize) {
@@ -416,14 +416,14 @@ impl Words {
         ensures enters { Enters self.old self.new }
         ensures used { IfOk result (λ n. IsUsedBut self.old [] → IsUsedBut self.new (n ∷ [])) }
     {
-        if let Some(number) = self.numbers.get(word) {
+        if let Some(number) = self.numbers.get(WordBytes { bytes: word }) {
             return Ok(*number);
         }
         let alloc = self.allocator();
         let Ok(number) = u32::try_from(self.slots.vacant_key()) else {
             return Err(AllocError);
         };
-        let key = Vec::from_slice(alloc, word)?;
+        let key = Word::copied(alloc, word)?;
         let listed = Word::copied(alloc, word)?;
         let word = Word::copied(alloc, word)?;
         let queue = PostingQueue::new(alloc);

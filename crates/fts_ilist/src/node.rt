@@ -272,21 +272,28 @@ fn held_with<'a>(alloc: Global, held: Held<'a>, node: Node<'a>) -> Result<Held<'
     }
 }
 
+/// A word that is the nodes' own, or lent.
+#[derive(Drop)]
+enum HeldWord<'a> {
+    Own { word: Word },
+    Lent { bytes: &'a [u8] },
+}
+
 /// A word with nodes of it. What it holds is its own, or lent.
 #[derive(Drop)]
 pub struct WordNodes<'a> {
-    word: CowSlice<'a, u8, Global>,
+    word: HeldWord<'a>,
     nodes: NodeGroup<'a>,
 }
 
 impl<'a> Model for WordNodes<'a> {
     ghost use Rattle.std.specs.Prelude.{ℕ, List};
-    ghost use Rattle.std.specs.Cow.{cow_slice_items};
     ghost use Rattle.fts_ilist.specs.Node.{Docs};
+    ghost use Rattle.fts_ilist.specs.Group.{held_word};
 
     ghost Value = { List ℕ × List Docs };
 
-    ghost view = { λ w. (cow_slice_items w.word, w.nodes) };
+    ghost view = { λ w. (held_word w.word, w.nodes) };
 }
 
 impl<'a> WordNodes<'a> {
@@ -295,7 +302,7 @@ impl<'a> WordNodes<'a> {
         ensures { result ≡ (word, nodes.entry) }
     {
         WordNodes {
-            word: CowSlice::Owned(word.into_vec()),
+            word: HeldWord::Own { word },
             nodes,
         }
     }
@@ -305,7 +312,7 @@ impl<'a> WordNodes<'a> {
         ensures { result ≡ (word.now, nodes.entry) }
     {
         WordNodes {
-            word: CowSlice::Borrowed(word),
+            word: HeldWord::Lent { bytes: word },
             nodes,
         }
     }
@@ -314,7 +321,10 @@ impl<'a> WordNodes<'a> {
     pub fn word(&self) -> &[u8]
         ensures { result.now ≡ self.now.0 }
     {
-        self.word.as_slice()
+        match &self.word {
+            HeldWord::Own { word } => word.as_bytes(),
+            HeldWord::Lent { bytes } => bytes,
+        }
     }
 
     /// The nodes, by ascending ids.

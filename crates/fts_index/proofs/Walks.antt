@@ -1,6 +1,5 @@
 -- A walk over all words of the tables ends.
 use Rattle.std.proofs.Common.{◌≡◌, ◌≢◌, ℕ, suc, ◌<◌, ◌≤◌, ◌==◌, Bool, true, false, cond, List, [], ◌∷◌, filter, length, sum_by, bytes_eq, is_lt, is_gt, Some, refl, sym, ap, subst, ◌∙◌, ⊎_elim, arith}
-use Rattle.std.specs.Global.{Vec}
 use Rattle.std.specs.List.Sorted.{IsStrictlySortedBy}
 use Rattle.std.specs.Map.{keys_of}
 use Rattle.std.specs.Option.{unwrap_or}
@@ -17,15 +16,15 @@ use Rattle.fts_aux.specs.Table.{Entries, find, no_list, nodes_in, nodes_at, IsNe
 use Rattle.fts_aux.specs.Tables.{Held, nodes, nodes_from}
 
 -- how many words of a table stand behind one
-abbrev behind_in : List ℕ → List (Vec ℕ) → ℕ
-behind_in word keys = length (filter (λ k. is_lt (byte_order word k.items)) keys)
+abbrev behind_in : List ℕ → List (List ℕ) → ℕ
+behind_in word keys = length (filter (λ k. is_lt (byte_order word k)) keys)
 
 -- and of all tables
 abbrev pub behind : List ℕ → Held → ℕ
 behind word held = sum_by (λ t. behind_in word (keys_of t)) held
 
 module _ (word next : List ℕ) (less : byte_order word next ≡ Less) where
-  more_one : (a b : Bool) (k : Vec ℕ) (ks ms : List (Vec ℕ)) → (a ≡ true → b ≡ true) → length ks ≤ length ms → length (cond a (k ∷ ks) ks) ≤ length (cond b (k ∷ ms) ms)
+  more_one : (a b : Bool) (k : List ℕ) (ks ms : List (List ℕ)) → (a ≡ true → b ≡ true) → length ks ≤ length ms → length (cond a (k ∷ ks) ks) ≤ length (cond b (k ∷ ms) ms)
   more_one true true k ks ms leads le = omega (arith, le)
   more_one true false k ks ms leads le = absurd (false≢true (leads refl))
   more_one false true k ks ms leads le = omega (arith, le)
@@ -39,17 +38,17 @@ module _ (word next : List ℕ) (less : byte_order word next ≡ Less) where
       is_less Equal e = absurd (false≢true e)
       is_less Greater e = absurd (false≢true e)
 
-  fewer_or : (ks : List (Vec ℕ)) → behind_in next ks ≤ behind_in word ks
+  fewer_or : (ks : List (List ℕ)) → behind_in next ks ≤ behind_in word ks
   fewer_or [] = omega arith
   fewer_or (k ∷ ks) =
-      more_one (is_lt (byte_order next k.items)) (is_lt (byte_order word k.items)) k (filter (λ v. is_lt (byte_order next v.items)) ks) (filter (λ v. is_lt (byte_order word v.items)) ks) (both k.items) (fewer_or ks)
+      more_one (is_lt (byte_order next k)) (is_lt (byte_order word k)) k (filter (λ v. is_lt (byte_order next v)) ks) (filter (λ v. is_lt (byte_order word v)) ks) (both k) (fewer_or ks)
 
-  one_here : (a b : Bool) (k : Vec ℕ) (ks ms : List (Vec ℕ)) → a ≡ false → b ≡ true → length ks ≤ length ms → length (cond a (k ∷ ks) ks) < length (cond b (k ∷ ms) ms)
+  one_here : (a b : Bool) (k : List ℕ) (ks ms : List (List ℕ)) → a ≡ false → b ≡ true → length ks ≤ length ms → length (cond a (k ∷ ks) ks) < length (cond b (k ∷ ms) ms)
   one_here true b k ks ms e f le = absurd (false≢true (sym e))
   one_here false true k ks ms e f le = omega (arith, le)
   one_here false false k ks ms e f le = absurd (false≢true f)
 
-  one_later : (a b : Bool) (k : Vec ℕ) (ks ms : List (Vec ℕ)) → (a ≡ true → b ≡ true) → length ks < length ms → length (cond a (k ∷ ks) ks) < length (cond b (k ∷ ms) ms)
+  one_later : (a b : Bool) (k : List ℕ) (ks ms : List (List ℕ)) → (a ≡ true → b ≡ true) → length ks < length ms → length (cond a (k ∷ ks) ks) < length (cond b (k ∷ ms) ms)
   one_later true true k ks ms leads lt = omega (arith, lt)
   one_later true false k ks ms leads lt = absurd (false≢true (leads refl))
   one_later false true k ks ms leads lt = omega (arith, lt)
@@ -59,19 +58,19 @@ module _ (word next : List ℕ) (less : byte_order word next ≡ Less) where
   fewer : (t : Entries) → nodes_in t next ≢ [] → behind_in next (keys_of t) < behind_in word (keys_of t)
   fewer [] some = absurd (some refl)
   fewer (e ∷ es) some =
-      let ks = filter (λ (v : Vec ℕ). is_lt (byte_order next v.items)) (keys_of es) in
-      let ms = filter (λ (v : Vec ℕ). is_lt (byte_order word v.items)) (keys_of es) in
+      let ks = filter (λ (v : List ℕ). is_lt (byte_order next v)) (keys_of es) in
+      let ms = filter (λ (v : List ℕ). is_lt (byte_order word v)) (keys_of es) in
       ⊎_elim
-      (λ (here : bytes_eq next e.0.items ≡ true).
-      let same : next ≡ e.0.items = (bytes_eq-Decides next e.0.items).0 here in
-      one_here (is_lt (byte_order next e.0.items)) (is_lt (byte_order word e.0.items)) e.0 ks ms
+      (λ (here : bytes_eq next e.0 ≡ true).
+      let same : next ≡ e.0 = (bytes_eq-Decides next e.0).0 here in
+      one_here (is_lt (byte_order next e.0)) (is_lt (byte_order word e.0)) e.0 ks ms
       (ap (λ (v : List ℕ). is_lt (byte_order next v)) (sym same) ∙ ap is_lt (tied_itself nat_list_cmp_total next))
       (ap (λ (v : List ℕ). is_lt (byte_order word v)) (sym same) ∙ ap is_lt less)
       (fewer_or (keys_of es)))
-      (λ (no : bytes_eq next e.0.items ≡ false).
-      one_later (is_lt (byte_order next e.0.items)) (is_lt (byte_order word e.0.items)) e.0 ks ms (both e.0.items)
+      (λ (no : bytes_eq next e.0 ≡ false).
+      one_later (is_lt (byte_order next e.0)) (is_lt (byte_order word e.0)) e.0 ks ms (both e.0)
       (fewer es (subst (λ (b : Bool). (unwrap_or (cond b (Some e.1) (find next es)) no_list).nodes ≢ []) no some)))
-      (cases_Bool (bytes_eq next e.0.items))
+      (cases_Bool (bytes_eq next e.0))
 
   fewer_all : (k : ℕ) (ts : Held) → nodes_from k ts next ≢ [] → behind next ts < behind word ts
   fewer_all k [] some = absurd (some refl)

@@ -31,4 +31,4 @@ pub use shared::SharedTexts;
 pub use table::{partition_of, tables_rise};
 pub use text::Text;
 pub use texts::{Names, RowTexts, Texts};
-pub use word::Word;
+pub use word::{Word, WordBytes};

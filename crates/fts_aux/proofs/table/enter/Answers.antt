@@ -1,5 +1,4 @@
 use Rattle.std.proofs.Common.{◌≡◌, ◌++◌, ◌∷◌, [], List, true, ap, subst, ◌∙◌, rules}
-use Rattle.std.specs.Global.{Vec}
 use Rattle.std.proofs.Common.{ℕ}
 use Rattle.std.specs.Str.{bytes_eq}
 use Rattle.indexmap.proofs.CallerLemmas.{insert_entry-new}
@@ -14,11 +13,11 @@ returns-clause-ok c =
     let es = c.args.words.now.entries in
     let v : NodeState = record { nodes = []; node_room = c.args.nodes; byte_room = c.args.bytes } in
     let same : c.reserve.new.self.entries ≡ es = c.reserve.ensures.entries in
-    let none : find c.in_ok-key.key.items c.reserve.new.self.entries ≡ _ = ap (λ (x : Entries). find c.in_ok-key.key.items x) same ∙ ap (λ w. find w es) c.in_ok-key.ensures.items ∙ c.requires in
+    let none : find c.in_ok-key.key c.reserve.new.self.entries ≡ _ = ap (λ (x : Entries). find c.in_ok-key.key x) same ∙ ap (λ w. find w es) c.in_ok-key.ensures ∙ c.requires in
     let list : c.reserve-2.new.self ≡ v = search rules in
-    enters es c.insert-2.new.self.entries c.in_ok-key.key c.args.word.now v c.in_ok-key.ensures.items c.requires
+    enters es c.insert-2.new.self.entries c.in_ok-key.key c.args.word.now v c.in_ok-key.ensures c.requires
     (search rules
-    ∙ insert_entry-new (λ (x y : Vec ℕ). bytes_eq x.items y.items) c.reserve.new.self c.in_ok-key.key c.reserve-2.new.self none
+    ∙ insert_entry-new (λ (x y : List ℕ). bytes_eq x y) c.reserve.new.self c.in_ok-key.key c.reserve-2.new.self none
     ∙ ap (λ (x : Entries). x ++ (c.in_ok-key.key, c.reserve-2.new.self) ∷ []) same
     ∙ ap (λ (x : NodeState). es ++ (c.in_ok-key.key, x) ∷ []) list)
 

@@ -13,8 +13,8 @@ pub returns-in-Some : goal.returns-in-Some
 returns-in-Some c = λ w filled at.
     let es = c.args.words.now.entries in
     let key = c.in-Some.field-0-0.now in
-    let here = same_text w key.items (sym (key_at es c.args.number key c.in-Some.list.now w c.in-Some.ensures.entry) ∙ at) in
-    let found : find key.items es ≡ Some c.in-Some.list.now = c.in-Some.ensures.value in
+    let here = same_text w key (sym (key_at es c.args.number key c.in-Some.list.now w c.in-Some.ensures.entry) ∙ at) in
+    let found : find key es ≡ Some c.in-Some.list.now = c.in-Some.ensures.value in
     ap (λ (x : List ℕ). room_of (list_in es x)) here
     ∙ ap (λ (o : Option NodeState). room_of (unwrap_or o no_list)) found
     ∙ ap room_of (c.has_room.ensures.none (false_by c.has_room.result filled))

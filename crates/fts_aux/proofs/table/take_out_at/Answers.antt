@@ -1,6 +1,6 @@
-use Rattle.std.proofs.Common.{ℕ, false, List, None, sym, ap, subst}
+use Rattle.std.proofs.Common.{None, sym, ap, subst}
 use Rattle.fts_ilist.specs.NodeList.{NodeState}
-use Rattle.fts_aux.specs.Table.{Entries, Lists, AreFilledBut}
+use Rattle.fts_aux.specs.Table.{Entries, AreFilledBut}
 use Rattle.fts_aux.proofs.Finds.{becomes_by, key_passes, is_same}
 use Rattle.fts_aux.proofs.Kept.{listed_one}
 use Rattle.fts_aux.proofs.Swapped.{lists_out, filled_out, count_out_at, filled_past}
@@ -10,7 +10,7 @@ pub returns-in-Some-clause-lists : goal.returns-in-Some-clause-lists
 returns-in-Some-clause-lists c =
     let es = c.args.words.now.entries in
     let new = c.swap_remove_index.new.self.entries in
-    let word = c.in-Some.key.items in
+    let word = c.in-Some.key in
     let u = c.in-Some.ensures.updates in
     let here = key_passes es word c.args.number c.in-Some.key c.in-Some.field-0-1 (sym c.in-Some.ensures.entry) (is_same word) in
     lists_out es new word (becomes_by es new word None u.3 u.1) (c.requires.empty word here) (c.requires.room word)
@@ -26,16 +26,15 @@ pub returns-in-Some-clause-listed : goal.returns-in-Some-clause-listed
 returns-in-Some-clause-listed c = λ listed.
     let es = c.args.words.now.entries in
     let new = c.swap_remove_index.new.self.entries in
-    let word = c.in-Some.key.items in
+    let word = c.in-Some.key in
     let u = c.in-Some.ensures.updates in
-    listed_one es new c.args.order.now c.take_out_of-in-Some.new.order word None (becomes_by es new word None u.3 u.1)
-    (subst (λ (x : List ℕ). Lists c.args.order.now x false c.take_out_of-in-Some.new.order) c.from_vec.ensures c.take_out_of-in-Some.ensures) listed
+    listed_one es new c.args.order.now c.take_out_of.new.order word None (becomes_by es new word None u.3 u.1) c.take_out_of.ensures listed
 
 pub returns-in-Some-clause-loose : goal.returns-in-Some-clause-loose
 returns-in-Some-clause-loose c =
     let es = c.args.words.now.entries in
     let new = c.swap_remove_index.new.self.entries in
-    let word = c.in-Some.key.items in
+    let word = c.in-Some.key in
     let here = key_passes es word c.args.number c.in-Some.key c.in-Some.field-0-1 (sym c.in-Some.ensures.entry) (is_same word) in
     count_out_at es new c.args.number (c.in-Some.key, c.in-Some.field-0-1) (sym c.in-Some.ensures.entry) c.in-Some.ensures.entries
     (λ w. ap (λ (l : NodeState). l.nodes) (returns-in-Some-clause-lists c w)) (c.requires.empty word here)

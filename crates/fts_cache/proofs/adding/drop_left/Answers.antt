@@ -1,4 +1,4 @@
-use Rattle.std.proofs.Common.{◌≡◌, ap, sym, ◌∙◌}
+use Rattle.std.proofs.Common.{sym}
 use Rattle.fts_cache.specs.Words.{number_in, queue_in}
 use Rattle.fts_cache.proofs.Leaving.{left_behind}
 use Rattle.fts_cache.proofs.adding.drop_left.Goals as goal

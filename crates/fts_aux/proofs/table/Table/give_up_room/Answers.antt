@@ -1,5 +1,4 @@
 use Rattle.std.proofs.Common.{sym, ap, ◌∙◌, List, arith}
-use Rattle.std.specs.Global.{Vec}
 use Rattle.std.proofs.Common.{ℕ}
 use Rattle.fts_aux.specs.Table.{is_key_at, room_of}
 use Rattle.fts_aux.proofs.Kept.{kept_all, filled_none}
@@ -7,7 +6,7 @@ use Rattle.fts_aux.proofs.table.Table.give_up_room.Goals as goal
 
 pub drop_empty-requires-clause-filled : goal.drop_empty-requires-clause-filled
 drop_empty-requires-clause-filled c = λ n w at none.
-    c.self.invariant.filled n w (ap (λ (ks : List (Vec ℕ)). is_key_at ks n w) (sym c.give_up.ensures.keys) ∙ at) (sym (c.give_up.ensures.nodes w) ∙ none)
+    c.self.invariant.filled n w (ap (λ (ks : List (List ℕ)). is_key_at ks n w) (sym c.give_up.ensures.keys) ∙ at) (sym (c.give_up.ensures.nodes w) ∙ none)
 
 pub invariant_of-self : goal.invariant_of-self
 invariant_of-self c =

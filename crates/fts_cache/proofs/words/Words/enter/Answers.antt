@@ -1,6 +1,5 @@
-use Rattle.std.proofs.Common.{rules, ◌≡◌, ◌++◌, ◌∷◌, [], true, cond, ℕ, List, Some, None, arith, sym, ap, subst, ◌∙◌}
+use Rattle.std.proofs.Common.{rules, ◌≡◌, ◌++◌, ◌∷◌, [], cond, ℕ, List, Some, None, arith, sym, ap, subst, ◌∙◌}
 use Rattle.std.specs.BTreeMap.{get, is_at}
-use Rattle.std.specs.Global.{Vec}
 use Rattle.std.specs.Map.{lookup}
 use Rattle.std.specs.Str.{bytes_eq}
 use Rattle.fts_words.specs.Order.{byte_order}
@@ -26,15 +25,15 @@ invariant_of-self-2 c =
     let free : slot_in old.slots n ≡ None = ap (slot_in i.slots.slots) number ∙ c.vacant_key.ensures.vacant in
     let u = c.insert_reserved.ensures.updates in
     let there : slot_in new.slots n ≡ Some s = ap (slot_in new.slots) (sym at) ∙ u.changed in
-    let key : c.in_ok-key.key.items ≡ word = c.in_ok-key.ensures.items in
+    let key : c.in_ok-key.key ≡ word = c.in_ok-key.ensures in
     let same : c.reserve-2.new.self.entries ≡ i.numbers.entries = c.reserve-2.ensures.entries in
     let more : c.push.new.self.items ≡ i.fresh.items ++ n ∷ [] = search rules in
     let up = ok_holds c.insert-2.result _ (c.insert-2.ensures.succeeds (omega (arith, c.in_ok-reserve-2.ensures.ok))) c.insert-2.ensures.updates in
-    let numbers = numbers_updated c.reserve-2.new.self.entries c.insert-2.new.self.entries c.in_ok-key.key.items (Some n) up.1 up.3 in
+    let numbers = numbers_updated c.reserve-2.new.self.entries c.insert-2.new.self.entries c.in_ok-key.key (Some n) up.1 up.3 in
     let all : LeavesAll old new c.insert.new.self c.push.new.self.items n
     = entered_all old new i.order c.insert.new.self i.fresh.items c.push.new.self.items word n s c.self.invariant absent c.in_ok-word.ensures c.new-queue.ensures free there
     (λ m differs. u.others m (λ e. differs (e ∙ at)) ∙ ap (λ xs. slot_in xs m) slots)
-    (λ w. numbers w ∙ ap (λ (x : List ℕ). cond (bytes_eq w x) (Some n) (lookup (λ k. bytes_eq w k.items) c.reserve-2.new.self.entries)) key ∙ ap (λ (es : List (Vec ℕ × ℕ)). cond (bytes_eq w word) (Some n) (lookup (λ k. bytes_eq w k.items) es)) same)
+    (λ w. numbers w ∙ ap (λ (x : List ℕ). cond (bytes_eq w x) (Some n) (lookup (λ k. bytes_eq w k) c.reserve-2.new.self.entries)) key ∙ ap (λ (es : List (List ℕ × ℕ)). cond (bytes_eq w word) (Some n) (lookup (λ k. bytes_eq w k) es)) same)
     (subst (λ (x : List ℕ). (w : List ℕ) → get byte_order c.insert.new.self w ≡ cond (is_at (byte_order x) w) (Some n) (get byte_order i.order w)) c.in_ok-listed.ensures c.in_ok-insert.ensures.updates.0)
     more in
     all.kept
@@ -54,15 +53,15 @@ returns-clause-enters c =
     let free : slot_in old.slots n ≡ None = ap (slot_in i.slots.slots) number ∙ c.vacant_key.ensures.vacant in
     let u = c.insert_reserved.ensures.updates in
     let there : slot_in new.slots n ≡ Some s = ap (slot_in new.slots) (sym at) ∙ u.changed in
-    let key : c.in_ok-key.key.items ≡ word = c.in_ok-key.ensures.items in
+    let key : c.in_ok-key.key ≡ word = c.in_ok-key.ensures in
     let same : c.reserve-2.new.self.entries ≡ i.numbers.entries = c.reserve-2.ensures.entries in
     let more : c.push.new.self.items ≡ i.fresh.items ++ n ∷ [] = search rules in
     let up = ok_holds c.insert-2.result _ (c.insert-2.ensures.succeeds (omega (arith, c.in_ok-reserve-2.ensures.ok))) c.insert-2.ensures.updates in
-    let numbers = numbers_updated c.reserve-2.new.self.entries c.insert-2.new.self.entries c.in_ok-key.key.items (Some n) up.1 up.3 in
+    let numbers = numbers_updated c.reserve-2.new.self.entries c.insert-2.new.self.entries c.in_ok-key.key (Some n) up.1 up.3 in
     let all : LeavesAll old new c.insert.new.self c.push.new.self.items n
     = entered_all old new i.order c.insert.new.self i.fresh.items c.push.new.self.items word n s c.self.invariant absent c.in_ok-word.ensures c.new-queue.ensures free there
     (λ m differs. u.others m (λ e. differs (e ∙ at)) ∙ ap (λ xs. slot_in xs m) slots)
-    (λ w. numbers w ∙ ap (λ (x : List ℕ). cond (bytes_eq w x) (Some n) (lookup (λ k. bytes_eq w k.items) c.reserve-2.new.self.entries)) key ∙ ap (λ (es : List (Vec ℕ × ℕ)). cond (bytes_eq w word) (Some n) (lookup (λ k. bytes_eq w k.items) es)) same)
+    (λ w. numbers w ∙ ap (λ (x : List ℕ). cond (bytes_eq w x) (Some n) (lookup (λ k. bytes_eq w k) c.reserve-2.new.self.entries)) key ∙ ap (λ (es : List (List ℕ × ℕ)). cond (bytes_eq w word) (Some n) (lookup (λ k. bytes_eq w k) es)) same)
     (subst (λ (x : List ℕ). (w : List ℕ) → get byte_order c.insert.new.self w ≡ cond (is_at (byte_order x) w) (Some n) (get byte_order i.order w)) c.in_ok-listed.ensures c.in_ok-insert.ensures.updates.0)
     more in
     subst (λ (o : Entries). Enters o new) c.self.view_is all.enters
@@ -82,15 +81,15 @@ returns-clause-used c =
     let free : slot_in old.slots n ≡ None = ap (slot_in i.slots.slots) number ∙ c.vacant_key.ensures.vacant in
     let u = c.insert_reserved.ensures.updates in
     let there : slot_in new.slots n ≡ Some s = ap (slot_in new.slots) (sym at) ∙ u.changed in
-    let key : c.in_ok-key.key.items ≡ word = c.in_ok-key.ensures.items in
+    let key : c.in_ok-key.key ≡ word = c.in_ok-key.ensures in
     let same : c.reserve-2.new.self.entries ≡ i.numbers.entries = c.reserve-2.ensures.entries in
     let more : c.push.new.self.items ≡ i.fresh.items ++ n ∷ [] = search rules in
     let up = ok_holds c.insert-2.result _ (c.insert-2.ensures.succeeds (omega (arith, c.in_ok-reserve-2.ensures.ok))) c.insert-2.ensures.updates in
-    let numbers = numbers_updated c.reserve-2.new.self.entries c.insert-2.new.self.entries c.in_ok-key.key.items (Some n) up.1 up.3 in
+    let numbers = numbers_updated c.reserve-2.new.self.entries c.insert-2.new.self.entries c.in_ok-key.key (Some n) up.1 up.3 in
     let all : LeavesAll old new c.insert.new.self c.push.new.self.items n
     = entered_all old new i.order c.insert.new.self i.fresh.items c.push.new.self.items word n s c.self.invariant absent c.in_ok-word.ensures c.new-queue.ensures free there
     (λ m differs. u.others m (λ e. differs (e ∙ at)) ∙ ap (λ xs. slot_in xs m) slots)
-    (λ w. numbers w ∙ ap (λ (x : List ℕ). cond (bytes_eq w x) (Some n) (lookup (λ k. bytes_eq w k.items) c.reserve-2.new.self.entries)) key ∙ ap (λ (es : List (Vec ℕ × ℕ)). cond (bytes_eq w word) (Some n) (lookup (λ k. bytes_eq w k.items) es)) same)
+    (λ w. numbers w ∙ ap (λ (x : List ℕ). cond (bytes_eq w x) (Some n) (lookup (λ k. bytes_eq w k) c.reserve-2.new.self.entries)) key ∙ ap (λ (es : List (List ℕ × ℕ)). cond (bytes_eq w word) (Some n) (lookup (λ k. bytes_eq w k) es)) same)
     (subst (λ (x : List ℕ). (w : List ℕ) → get byte_order c.insert.new.self w ≡ cond (is_at (byte_order x) w) (Some n) (get byte_order i.order w)) c.in_ok-listed.ensures c.in_ok-insert.ensures.updates.0)
     more in
     subst (λ (o : Entries). IsUsedBut o [] → IsUsedBut new (n ∷ [])) c.self.view_is all.used
