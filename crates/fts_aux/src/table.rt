@@ -85,7 +85,7 @@ fn number_and_last(words: &Words, word: &[u8]) -> Option<(usize, DocId)>
     ensures none { IfNone result (find word.now words.now.entries ≡ None) }
 {
     match words.get_full(WordBytes { bytes: word }) {
-        Some((number, _, list)) => Some((number, list.as_slice().last_id())),
+        Some((number, _, list)) => Some((number, list.last_id())),
         None => None,
     }
 }

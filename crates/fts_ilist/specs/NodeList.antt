@@ -1,7 +1,7 @@
 -- Nodes that lie one behind the other in one run of bytes, and a table with a row for each.
 use Rattle.std.specs.Prelude.{◌≡◌, ◌≢◌, ℕ, ◌≤◌, ◌<◌, ◌^◌, Bool, List, [], ◌∷◌, ◌++◌, ◌+◌, length, sum_by, take, drop}
 use Rattle.fts_ilist.specs.Reading.{postings_in, IsKept, IsList}
-use Rattle.fts_ilist.specs.Node.{Docs, head_size}
+use Rattle.fts_ilist.specs.Node.{Docs, head_size, last_of}
 use Rattle.fts_ilist.specs.Packing.{node_size, are_loose}
 use Rattle.fts_ilist.specs.declared.node_list.NodeRow.{NodeRow}
 
@@ -52,11 +52,12 @@ pub record Takes (old new : NodeState) (more : List Docs) : Type 0 where
   pub node_room : new.node_room + length more ≡ old.node_room
   pub byte_room : new.byte_room + nodes_size more ≡ old.byte_room
 
--- the fields of a list of nodes: rows that fit their bytes, room within the capacities and within 32 bits, and whether
--- packing would change the nodes
-pub record IsNodeList (rows : List NodeRow) (bytes : List ℕ) (row_spare byte_spare node_room byte_room : ℕ)
+-- the fields of a list of nodes: rows that fit their bytes, their last id, room within the capacities and within 32
+-- bits, and whether packing would change the nodes
+pub record IsNodeList (rows : List NodeRow) (bytes : List ℕ) (row_spare byte_spare last node_room byte_room : ℕ)
     (loose : Bool) : Type 0 where
   pub are : AreRows bytes rows
+  pub last_is : last ≡ last_of 0 (nodes_at bytes rows)
   pub told : loose ≡ are_loose (nodes_at bytes rows)
   pub within_rows : node_room ≤ row_spare
   pub within_bytes : byte_room ≤ byte_spare

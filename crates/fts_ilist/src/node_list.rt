@@ -207,7 +207,9 @@ impl<'a> FusedIterator for NodeSlice<'a> {}
 pub struct NodeList {
     rows: Vec<NodeRow>,
     bytes: Vec<u8>,
-    // How many more rows and bytes there is room for. With these numbers a list fits 64 bytes.
+    // The last id of the nodes, so that who asks for it doesn't look into the rows.
+    last: u64,
+    // How many more rows and bytes there is room for.
     node_room: u32,
     byte_room: u32,
     // Whether packing would change the nodes.
@@ -229,7 +231,7 @@ impl Model for NodeList {
 
     ghost invariant = { λ l. IsNodeList l.rows.items l.bytes.items
         (vec_capacity l.rows - vec_len l.rows) (vec_capacity l.bytes - vec_len l.bytes)
-        l.node_room l.byte_room l.loose };
+        l.last l.node_room l.byte_room l.loose };
 }
 
 /// So much more room, where the number fits.
@@ -273,6 +275,7 @@ impl NodeList {
         NodeList {
             rows: Vec::new(alloc),
             bytes: Vec::new(alloc),
+            last: 0,
             node_room: 0,
             byte_room: 0,
             loose: false,
@@ -304,6 +307,13 @@ impl NodeList {
         ensures { IsTrue result ↔ (self.now.nodes ≡ []) }
     {
         self.as_slice().is_empty()
+    }
+
+    /// The last id of the nodes, and 0 where there are none. It takes constant time.
+    pub fn last_id(&self) -> DocId
+        ensures { result ≡ last_of 0 self.now.nodes }
+    {
+        self.last
     }
 
     /// Whether packing their documents would give other nodes than these. It takes constant time.
@@ -399,6 +409,7 @@ impl NodeList {
             last: node.last,
         };
         self.rows.push(row).unwrap();
+        self.last = node.last;
         self.node_room -= 1;
         self.byte_room -= row.len;
     }

@@ -17,6 +17,7 @@ use Rattle.fts_words.specs.Indexed.{Rules}
 use Rattle.fts_words.specs.Order.{byte_order}
 use Rattle.fts_ilist.specs.Spelling.{last_id, id_at_end}
 use Rattle.fts_ilist.specs.Node.{Docs, BeginsAfter, NodesAfter, last_of}
+use Rattle.fts_ilist.proofs.Nodes.{last_of-push}
 use Rattle.fts_entries.specs.Entry.{Batch}
 use Rattle.fts_ixcodec.specs.Payload.{word_payload, list_payload, node_payload, nodes_payload, node_count, IsWord, IsNode, AreNodes, IsGroup, AreGroups}
 use Rattle.fts_ixcodec.specs.Building.{Building, nothing, group_of, batch_of, turned_to, with_node}
@@ -26,10 +27,6 @@ use Rattle.fts_ixcodec.proofs.ReadWords.{word_takes, word_again}
 use Rattle.fts_ixcodec.proofs.ReadLists.{list_takes, list_again}
 
 -- ---- the nodes of a word
-
-last_of-push : (before : ℕ) (ns : List Docs) (docs : Docs) → last_of before (ns ++ docs ∷ []) ≡ last_id docs
-last_of-push before [] docs = refl
-last_of-push before (n ∷ ns) docs = last_of-push (id_at_end 0 n) ns docs
 
 after-push : (before : ℕ) (ns : List Docs) (docs : Docs) → NodesAfter before ns → BeginsAfter (last_of before ns) docs → NodesAfter before (ns ++ docs ∷ [])
 after-push before [] docs h k = (k, tt)

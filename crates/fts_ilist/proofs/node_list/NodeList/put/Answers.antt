@@ -1,10 +1,13 @@
 use Rattle.std.proofs.Common.{◌≡◌, ◌+◌, ◌∷◌, ◌++◌, [], length, refl, sym, ap, ◌∙◌, subst, arith, rules}
 use Rattle.std.specs.Vec.{vec_len}
+use Rattle.fts_ilist.specs.Spelling.{last_id}
+use Rattle.fts_ilist.specs.Node.{last_of}
 use Rattle.fts_ilist.specs.Packing.{node_size, are_loose}
 use Rattle.fts_ilist.specs.NodeList.{AreRows, nodes_at}
 use Rattle.fts_ilist.specs.declared.node_list.NodeRow.{NodeRow}
 use Rattle.std.proofs.lemmas.List.{length-append}
 use Rattle.fts_ilist.proofs.Arena.{rows_more, nodes_more}
+use Rattle.fts_ilist.proofs.Nodes.{last_of-push}
 use Rattle.fts_ilist.proofs.Loose.{count_within}
 use Rattle.fts_ilist.proofs.node_list.NodeList.put.Goals as goal
 
@@ -23,6 +26,7 @@ invariant_of-self c =
     ∙ ap (λ s. s.nodes ++ c.args.node.now ∷ []) c.self.view_is in
     record {
       told = c.requires.loose ∙ ap are_loose (sym nodes);
+      last_is = c.node.invariant.list.last_is ∙ ap last_id c.node.view_is ∙ sym (last_of-push 0 c.args.self.now.nodes c.args.node.now) ∙ ap (last_of 0) (sym nodes);
       are = subst (λ bs. AreRows bs c.push.new.self.items) (sym bytes)
           (subst (AreRows (c.self.inside.bytes.items ++ more)) (sym rows)
           (rows_more more row size c.node.invariant c.self.inside.bytes.items c.self.inside.rows.items c.self.invariant.are));
