@@ -30,6 +30,10 @@ number_fits n h = omega (arith, length_number n, short_groups 9 (n / 128) (omega
 pub id_fits : (n : ℕ) → n < 2 ^ 63 → length (number_bytes n) ≤ 9
 id_fits n h = omega (arith, length_number n, short_groups 8 (n / 128) (omega arith))
 
+-- a number of 32 bits
+pub short_fits : (n : ℕ) → n < 2 ^ 32 → length (number_bytes n) ≤ 5
+short_fits n h = omega (arith, length_number n, short_groups 4 (n / 128) (omega arith))
+
 pub position_fits : (n : ℕ) → n ≤ 131072 → length (number_bytes n) ≤ 3
 position_fits n h = omega (arith, length_number n, short_groups 2 (n / 128) (omega arith))
 

@@ -18,4 +18,4 @@ pub mod Lanes
 pub mod Packs
 pub mod Loose
 pub mod Nodes
-mod Arena
+mod Runs

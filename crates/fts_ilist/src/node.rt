@@ -132,7 +132,6 @@ impl<'a> Node<'a> {
     {
         NodeRef {
             bytes: self.bytes.as_slice(),
-            last: self.last,
             count: self.count,
         }
     }

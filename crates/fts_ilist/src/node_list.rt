@@ -1,45 +1,39 @@
 //! The nodes of a word, in one run of bytes.
-ghost use Rattle.std.specs.Prelude.{◌≡◌, ◌≢◌, ◌+◌, ◌≤◌, ◌↔◌, [], ◌∷◌, ◌++◌, length, IsTrue};
-ghost use Rattle.std.specs.Prelude.{IfOk, OnOk, OnErr, true, false};
+ghost use Rattle.std.specs.Prelude.{◌≡◌, ◌≢◌, ◌+◌, ◌<◌, ◌≤◌, ◌↔◌, List, [], ◌∷◌, ◌++◌, length};
+ghost use Rattle.std.specs.Prelude.{IsTrue, IfOk, OnOk, OnErr, true, false};
 ghost use Rattle.std.specs.Prelude.{◌^◌, ◌-◌, IfSome, IfNone, vec_len, vec_capacity};
 ghost use Rattle.std.specs.Iterator.{YieldsFirst, item_count};
-ghost use Rattle.fts_ilist.specs.Spelling.{ArePostings, last_id, list_bytes};
+ghost use Rattle.fts_ilist.specs.Spelling.{Posting, ArePostings, last_id, list_bytes};
 ghost use Rattle.fts_ilist.specs.Reading.{postings_in};
 ghost use Rattle.fts_ilist.specs.Node.{last_of};
 ghost use Rattle.fts_ilist.specs.Packing.{node_size, is_sound, takes_first, are_loose, AreLoose};
 ghost use Rattle.fts_ilist.specs.Packing.{loose_behind};
 ghost use Rattle.std.specs.Prelude.{◌||◌, not};
-ghost use Rattle.fts_ilist.specs.NodeList.{nodes_size, Takes, IsLent, with_nodes};
+ghost use Rattle.fts_ilist.specs.NodeList.{nodes_size, Takes, with_nodes, run_room, node_bytes};
+ghost use Rattle.fts_ilist.specs.NodeList.{BeginsWithNode, first_bytes, behind_node};
 
 use crate::cursor::Cursor;
 use crate::node::Node;
-use crate::number::number_len;
+use crate::number::{front_number, number_len, put_in_room};
 use crate::packing::NODE_LIMIT;
 use fts_types::DocId;
 use std::alloc::{AllocError, Global};
 use std::iter::FusedIterator;
 use std::marker::Model;
 
-/// How many more nodes, and how many more bytes of nodes, a list that has some gets at least.
-const LEAST_NODES: usize = 4;
+/// How many more bytes a list that has nodes gets at least.
+const LEAST_ROOM: usize = 96;
 
-const LEAST_BYTES: usize = 96;
+/// How many bytes of a run the two numbers before a node's bytes take at most.
+const HEAD_ROOM: usize = 10;
 
-/// How many bytes a node has, which begin where those of the row before end, and what is kept of
-/// it. Nodes of a batch are small, and so is a row: 16 bytes.
-#[derive(Clone, Copy)]
-pub struct NodeRow {
-    len: u32,
-    // The number of documents.
-    count: u32,
-    last: u64,
-}
+/// A run has fewer bytes.
+const RUN_LIMIT: usize = 1 << 32;
 
-/// A node that is lent: its bytes, the last of its ids, and the number of its documents.
+/// A node that is lent: its bytes, and the number of its documents.
 #[derive(Drop)]
 pub struct NodeRef<'a> {
     pub(crate) bytes: &'a [u8],
-    pub(crate) last: u64,
     pub(crate) count: usize,
 }
 
@@ -53,7 +47,7 @@ impl<'a> Model for NodeRef<'a> {
 
     ghost view = { λ n. postings_in 0 n.bytes.now };
 
-    ghost invariant = { λ n. IsLent n.last n.count n.bytes.now };
+    ghost invariant = { λ n. IsLent n.count n.bytes.now };
 }
 
 impl<'a> NodeRef<'a> {
@@ -73,13 +67,6 @@ impl<'a> NodeRef<'a> {
         Cursor::new(0, self.bytes)
     }
 
-    /// The id of the last document.
-    pub fn last(&self) -> DocId
-        ensures { result ≡ last_id self.now }
-    {
-        self.last
-    }
-
     /// The number of documents.
     pub fn count(&self) -> usize
         ensures { result ≡ length self.now }
@@ -96,37 +83,42 @@ impl<'a> NodeRef<'a> {
         }
         self.bytes.len() <= NODE_LIMIT
     }
+}
 
-    /// Whether the first document of the next node has a place in this one.
-    fn takes_first(&self, next: &Node<'_>) -> bool
-        ensures { result ≡ takes_first self.now next.now }
-    {
-        let head = next.head();
-        if head > NODE_LIMIT {
-            return false;
-        }
-        let size = number_len(next.first().saturating_sub(self.last)) + head;
-        self.bytes.len() + size <= NODE_LIMIT
+/// Whether the first document of a node has a place in the one before it, which has so many bytes
+/// and this last id.
+fn takes_next(size: usize, last: DocId, next: &Node<'_>) -> bool
+    requires { size < 2 ^ 63 }
+    ensures { (docs : List Posting) → size ≡ node_size docs → last ≡ last_id docs
+        → result ≡ takes_first docs next.now }
+{
+    let head = next.head();
+    if head > NODE_LIMIT {
+        return false;
     }
+    let more = number_len(next.first().saturating_sub(last)) + head;
+    size + more <= NODE_LIMIT
 }
 
 /// Nodes that are lent, by ascending ids. It is the iterator over them too, and takes no memory.
 #[derive(Drop)]
 pub struct NodeSlice<'a> {
-    rows: &'a [NodeRow],
-    bytes: &'a [u8],
+    // How many there are.
+    count: usize,
+    // For each the number of its bytes, that of its documents, and its bytes.
+    run: &'a [u8],
 }
 
 impl<'a> Model for NodeSlice<'a> {
     ghost use Rattle.std.specs.Prelude.{List};
     ghost use Rattle.fts_ilist.specs.Node.{Docs};
-    ghost use Rattle.fts_ilist.specs.NodeList.{nodes_at, AreRows};
+    ghost use Rattle.fts_ilist.specs.NodeList.{nodes_at, IsRun};
 
     ghost Value = { List Docs };
 
-    ghost view = { λ s. nodes_at s.bytes.now s.rows.now };
+    ghost view = { λ s. nodes_at s.count s.run.now };
 
-    ghost invariant = { λ s. AreRows s.bytes.now s.rows.now };
+    ghost invariant = { λ s. IsRun s.count s.run.now };
 }
 
 impl<'a> NodeSlice<'a> {
@@ -134,17 +126,14 @@ impl<'a> NodeSlice<'a> {
     pub fn empty() -> Self
         ensures { result ≡ [] }
     {
-        NodeSlice {
-            rows: &[],
-            bytes: &[],
-        }
+        NodeSlice { count: 0, run: &[] }
     }
 
     /// The number of nodes.
     pub fn len(&self) -> usize
         ensures { result ≡ length self.now }
     {
-        self.rows.len()
+        self.count
     }
 
     /// Whether there are none.
@@ -153,28 +142,24 @@ impl<'a> NodeSlice<'a> {
     {
         self.len() == 0
     }
-
-    /// The last id of the nodes, and 0 where there are none. It takes constant time.
-    pub fn last_id(&self) -> DocId
-        ensures { result ≡ last_of 0 self.now }
-    {
-        match self.rows.last() {
-            Some(row) => row.last,
-            None => 0,
-        }
-    }
 }
 
-/// The node of a row, and its bytes.
-fn node_of<'a>(row: &NodeRow, bytes: &'a [u8]) -> NodeRef<'a>
-    requires { IsLent row.now.last row.now.count bytes.now }
-    ensures { result ≡ postings_in 0 bytes.now }
+/// The first node of a run, and what is behind it.
+#[inline]
+fn first_node(run: &[u8]) -> (NodeRef<'_>, &[u8])
+    requires { BeginsWithNode run.now }
+    ensures node { result.0 ≡ postings_in 0 (first_bytes run.now) }
+    ensures rest { result.1.now ≡ behind_node run.now }
 {
-    NodeRef {
+    let (size, at) = front_number(run);
+    let behind_size = &run[at..];
+    let (count, more) = front_number(behind_size);
+    let (bytes, behind) = behind_size[more..].split_at(size as usize);
+    let node = NodeRef {
         bytes,
-        last: row.last,
-        count: row.count as usize,
-    }
+        count: count as usize,
+    };
+    (node, behind)
 }
 
 impl<'a> Iterator for NodeSlice<'a> {
@@ -186,30 +171,30 @@ impl<'a> Iterator for NodeSlice<'a> {
 
     #[inline]
     fn next(&mut self) -> Option<NodeRef<'a>> {
-        match self.rows {
-            [] => None,
-            [first, rest @ ..] => {
-                let (bytes, behind) = self.bytes.split_at(first.len as usize);
-                self.rows = rest;
-                self.bytes = behind;
-                Some(node_of(first, bytes))
-            }
+        if self.count == 0 {
+            return None;
         }
+        let (node, behind) = first_node(self.run);
+        self.count -= 1;
+        self.run = behind;
+        Some(node)
     }
 }
 
 impl<'a> FusedIterator for NodeSlice<'a> {}
 
-/// Nodes of a word, by ascending ids: their bytes one behind the other in one run, and a table that
-/// has a row for each. So a list of many small nodes takes two allocations. Room is a number that
-/// was asked for, whatever the allocator gave.
+/// Nodes of a word, by ascending ids, one behind the other in one run of bytes. So a list of many
+/// small nodes takes one allocation. Room is a number that was asked for, whatever the allocator
+/// gave.
 #[derive(Drop)]
 pub struct NodeList {
-    rows: Vec<NodeRow>,
-    bytes: Vec<u8>,
-    // The last id of the nodes, so that who asks for it doesn't look into the rows.
+    run: Vec<u8>,
+    // The last id of the nodes, and how many bytes the last of them has: who puts one behind them
+    // doesn't look into the run.
     last: u64,
-    // How many more rows and bytes there is room for.
+    size: u32,
+    count: u32,
+    // How many more nodes, and how many more of their bytes, there is room for.
     node_room: u32,
     byte_room: u32,
     // Whether packing would change the nodes.
@@ -224,14 +209,13 @@ impl Model for NodeList {
     ghost Value = { NodeState };
 
     ghost view = { λ l. record {
-      nodes = nodes_at l.bytes.items l.rows.items;
+      nodes = nodes_at l.count l.run.items;
       node_room = l.node_room;
       byte_room = l.byte_room;
     } };
 
-    ghost invariant = { λ l. IsNodeList l.rows.items l.bytes.items
-        (vec_capacity l.rows - vec_len l.rows) (vec_capacity l.bytes - vec_len l.bytes)
-        l.last l.node_room l.byte_room l.loose };
+    ghost invariant = { λ l. IsNodeList l.count l.run.items (vec_capacity l.run - vec_len l.run)
+        l.last l.size l.node_room l.byte_room l.loose };
 }
 
 /// So much more room, where the number fits.
@@ -244,27 +228,56 @@ fn more_room(room: u32, more: usize) -> Option<u32>
     }
 }
 
-/// How much more a list of so many items gets at least, where it has too little room.
-fn more_for(len: usize, least: usize) -> usize {
+/// How many bytes of a run room for so many nodes of so many bytes takes, where a run of this
+/// length stays below its limit with them.
+fn room_behind(len: usize, nodes: u32, bytes: u32) -> Option<usize>
+    ensures { IfSome result (λ room. (room ≡ run_room nodes bytes) × (len + room < 2 ^ 32)) }
+{
+    if len >= RUN_LIMIT {
+        return None;
+    }
+    let room = bytes as usize + HEAD_ROOM * nodes as usize;
+    if room >= RUN_LIMIT - len {
+        return None;
+    }
+    Some(room)
+}
+
+/// How much more a run of so many bytes gets at least, where it has too little room.
+fn more_for(len: usize) -> usize {
     if len == 0 {
         0
     } else {
-        (len / 2 + 1).max(least)
+        (len / 2 + 1).max(LEAST_ROOM)
     }
 }
 
-/// Makes room for so many more items. Where there is too little, a list that has items gets half as
-/// much again and at least so many, so that little is held beside the items and a short list is not
-/// moved for each.
-fn grow<T>(items: &mut Vec<T>, room: usize, least: usize) -> Result<(), AllocError>
-    ensures items { items.new.items ≡ items.old.items }
-    ensures room { OnOk result (room ≤ vec_capacity items.new - vec_len items.new) }
-    ensures kept { vec_capacity items.old ≤ vec_capacity items.new }
+/// Makes room for so many more bytes. Where there is too little, a run that has some gets half as
+/// much again and at least so many, so that little is held beside the bytes and a short run is not
+/// moved for each node.
+fn grow(run: &mut Vec<u8>, room: usize) -> Result<(), AllocError>
+    ensures items { run.new.items ≡ run.old.items }
+    ensures room { OnOk result (room ≤ vec_capacity run.new - vec_len run.new) }
+    ensures kept { vec_capacity run.old ≤ vec_capacity run.new }
 {
-    if items.capacity() - items.len() < room {
-        items.reserve_exact(room.max(more_for(items.len(), least)))?;
+    if run.capacity() - run.len() < room {
+        run.reserve_exact(room.max(more_for(run.len())))?;
     }
     Ok(())
+}
+
+/// Writes a node at the end of a run, within the capacity.
+fn put_node(run: &mut Vec<u8>, bytes: &[u8], count: usize)
+    requires size { length bytes.now < 2 ^ 32 }
+    requires count { count < 2 ^ 32 }
+    requires room { vec_len run.old + run_room 1 (length bytes.now) ≤ vec_capacity run.old }
+    ensures items { run.new.items ≡ run.old.items ++ node_bytes count bytes.now }
+    ensures len { vec_len run.new ≤ vec_len run.old + run_room 1 (length bytes.now) }
+    ensures capacity { vec_capacity run.old ≤ vec_capacity run.new }
+{
+    put_in_room(run, bytes.len() as u64);
+    put_in_room(run, count as u64);
+    run.extend_from_slice(bytes).unwrap();
 }
 
 impl NodeList {
@@ -273,9 +286,10 @@ impl NodeList {
         ensures { result ≡ with_nodes [] }
     {
         NodeList {
-            rows: Vec::new(alloc),
-            bytes: Vec::new(alloc),
+            run: Vec::new(alloc),
             last: 0,
+            size: 0,
+            count: 0,
             node_room: 0,
             byte_room: 0,
             loose: false,
@@ -297,8 +311,8 @@ impl NodeList {
         ensures { result ≡ self.now.nodes }
     {
         NodeSlice {
-            rows: &self.rows,
-            bytes: &self.bytes,
+            count: self.count as usize,
+            run: &self.run,
         }
     }
 
@@ -335,13 +349,10 @@ impl NodeList {
         if !node.is_sound() {
             return true;
         }
-        match self.rows.last() {
-            Some(last) => {
-                let start = self.bytes.len() - last.len as usize;
-                node_of(last, &self.bytes[start..]).takes_first(node)
-            }
-            None => false,
+        if self.count == 0 {
+            return false;
         }
+        takes_next(self.size as usize, self.last, node)
     }
 
     /// Makes room for so many more nodes and bytes, beside the room that there is. Where there is
@@ -355,10 +366,10 @@ impl NodeList {
     {
         let node_room = more_room(self.node_room, nodes).ok_or(AllocError)?;
         let byte_room = more_room(self.byte_room, bytes).ok_or(AllocError)?;
-        // A row says by 32 bits where its node's bytes end.
-        let _ = more_room(byte_room, self.bytes.len()).ok_or(AllocError)?;
-        grow(&mut self.rows, node_room as usize, LEAST_NODES)?;
-        grow(&mut self.bytes, byte_room as usize, LEAST_BYTES)?;
+        // The nodes are counted by 32 bits.
+        let _ = more_room(node_room, self.count as usize).ok_or(AllocError)?;
+        let room = room_behind(self.run.len(), node_room, byte_room).ok_or(AllocError)?;
+        grow(&mut self.run, room)?;
         self.node_room = node_room;
         self.byte_room = byte_room;
         Ok(())
@@ -390,28 +401,25 @@ impl NodeList {
         ensures { Takes self.old self.new (node.now ∷ []) }
     {
         let loose = self.is_loose_with(node);
-        self.put(&node.as_ref(), loose);
+        self.put(&node.as_ref(), node.last(), loose);
     }
 
-    /// Puts a node behind the last, within the room. Behind it, packing would change the nodes or
-    /// not, as is said.
-    fn put(&mut self, node: &NodeRef<'_>, loose: bool)
+    /// Puts a node with this last id behind the last, within the room. Behind it, packing would
+    /// change the nodes or not, as is said.
+    fn put(&mut self, node: &NodeRef<'_>, last: DocId, loose: bool)
         requires nodes { 1 ≤ self.old.node_room }
         requires bytes { node_size node.now ≤ self.old.byte_room }
+        requires last { last ≡ last_id node.now }
         requires loose { loose ≡ are_loose (self.old.nodes ++ node.now ∷ []) }
         ensures { Takes self.old self.new (node.now ∷ []) }
     {
-        self.loose = loose;
-        self.bytes.extend_from_slice(node.bytes).unwrap();
-        let row = NodeRow {
-            len: node.bytes.len() as u32,
-            count: node.count as u32,
-            last: node.last,
-        };
-        self.rows.push(row).unwrap();
-        self.last = node.last;
+        put_node(&mut self.run, node.bytes, node.count);
+        self.last = last;
+        self.size = node.bytes.len() as u32;
+        self.count += 1;
         self.node_room -= 1;
-        self.byte_room -= row.len;
+        self.byte_room -= self.size;
+        self.loose = loose;
     }
 
     /// Puts nodes behind the last, within the room. It takes no memory.
@@ -436,7 +444,7 @@ pub fn bytes_of(nodes: &[Node]) -> Option<usize>
     let mut bytes: usize = 0;
     let mut rest = nodes;
     while let [first, behind @ ..] = rest {
-        bytes = bytes.checked_add(first.as_ref().bytes().len())?;
+        bytes = bytes.checked_add(first.bytes().len())?;
         rest = behind;
     }
     Some(bytes)
@@ -447,7 +455,7 @@ pub fn bytes_of(nodes: &[Node]) -> Option<usize>
 fn is_loose_next(last: &Node, next: &Node) -> bool
     ensures { result ≡ (takes_first last.now next.now || not (is_sound next.now)) }
 {
-    if last.as_ref().takes_first(next) {
+    if takes_next(last.bytes().len(), last.last(), next) {
         return true;
     }
     !next.is_sound()

@@ -40,9 +40,9 @@ fn a_list_gives_its_nodes(rt: HostRuntime) -> Result<(), Fail> {
     assert_eq!(rt; list.as_slice().len(), 3);
     assert!(rt; list.is_loose());
     assert!(rt; are_loose(&nodes));
-    assert_eq!(rt; list.as_slice().last_id(), 70_000);
+    assert_eq!(rt; list.last_id(), 70_000);
     for (found, node) in list.as_slice().zip(nodes.iter()) {
-        assert_eq!(rt; (found.last(), found.count()), (node.last(), 1));
+        assert_eq!(rt; found.count(), 1);
         assert_eq!(rt; found.bytes(), node.bytes());
     }
     Ok(())

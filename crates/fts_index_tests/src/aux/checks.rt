@@ -4,13 +4,26 @@ ghost use Rattle.std.specs.List.{AllByRecursion};
 ghost use Rattle.std.specs.List.Sorted.{IsStrictlySortedBy};
 ghost use Rattle.std.specs.Map.{keys_of};
 ghost use Rattle.std.specs.declared.cmp.Ordering.TheVariants.{Less};
+ghost use Rattle.fts_ilist.specs.Spelling.{last_id};
 ghost use Rattle.fts_ilist.specs.Node.{BeginsAfter, NodesAfter, last_of};
 ghost use Rattle.fts_words.specs.Order.{byte_order};
 ghost use Rattle.fts_aux.specs.Tables.{ComesAfter};
 
 use fts_aux::Tables;
-use fts_ilist::{Node, NodeSlice, WordNodes};
+use fts_ilist::{Node, NodeRef, NodeSlice, WordNodes};
 use std::cmp::Ordering;
+
+// The last id of a node's documents.
+fn last_doc(node: &NodeRef<'_>) -> u64
+    ensures { result ≡ last_id node.now }
+{
+    let mut last = 0;
+    let mut rest = node.cursor();
+    while let Some(document) = rest.next() {
+        last = document.id();
+    }
+    last
+}
 
 // The last id of nodes, and `before` where there is none.
 fn last_in(before: u64, nodes: NodeSlice<'_>) -> u64
@@ -19,7 +32,7 @@ fn last_in(before: u64, nodes: NodeSlice<'_>) -> u64
     let mut last = before;
     let mut rest = nodes;
     while let Some(node) = rest.next() {
-        last = node.last();
+        last = last_doc(&node);
     }
     last
 }
