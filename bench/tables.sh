@@ -3,18 +3,22 @@
 # mails have them: `reserve`, and `install_batch`, with the drop of the batch where it takes it. bench/tables.sh [COMMIT ..]
 # BATCHES=1000 bench/tables.sh makes 1,000 batches. Beside the mean of all it tells those of the ten batches up to the 10th, the
 # 100th and the 1,000th; 1,000 take some 5 GB of memory.
-# It does so for the tree as it stands, and for each commit that is named, one after another in one run; it needs `rt`, and
-# proves fts_aux with the test that takes the times. A batch is installed in seven parts, by ascending words.
+# It does so for the tree as it stands, and for each commit that is named, in five turns (TURNS) that take one after another; it needs
+# `rt`, and proves fts_aux with the test that takes the times. A batch is installed in seven parts, by ascending words.
 top=$(CDPATH='' cd -- "$(dirname -- "$0")/.." && pwd) || exit 1
 batches=${BATCHES:-30}
+turns=${TURNS:-5}
 folder=$(mktemp -d) || exit 1
 trap 'rm -rf "$folder"' EXIT
 
 # What stands before the test, in place of the crate's own tests, which would be proved again.
 head_of_test() {
     cat <<'TEST'
-ghost use Rattle.std.specs.Prelude.{◌<◌, OnOk};
-ghost use Rattle.fts_aux.specs.Tables.{HasRoom};
+ghost use Rattle.std.specs.Prelude.{◌<◌};
+ghost use Rattle.std.specs.List.Sorted.{IsStrictlySortedBy};
+ghost use Rattle.std.specs.Map.{keys_of};
+ghost use Rattle.fts_words.specs.Order.{byte_order};
+ghost use Rattle.fts_aux.specs.Tables.{ComesAfter};
 
 mod checks;
 
@@ -89,22 +93,24 @@ fn since<R: Clock>(rt: &R, start: Instant) -> Result<u128, Fail> {
     Ok(start.elapsed(rt)?.as_nanos())
 }
 
-fn reserved(rt: &(impl Abort + Clock), tables: &mut Tables, batch: &[WordNodes]) -> Result<u128, Fail>
-    ensures { OnOk result (HasRoom tables.new batch.now) }
+// Room for a batch, and its install. Nothing is done between them.
+fn brought(rt: &impl Clock, tables: &mut Tables, batch: Nodes) -> Result<(u128, u128), Fail>
+    requires words { IsStrictlySortedBy byte_order (keys_of batch.items) }
+    requires after { ComesAfter tables.old batch.items }
 {
     let start = Instant::now(rt)?;
-    tables.reserve(batch)?;
-    since(rt, start)
-}
-
-fn installed(rt: &(impl Abort + Clock), tables: &mut Tables, batch: Nodes) -> Result<u128, Fail>
-    requires { HasRoom tables.old batch.items }
-{
-    assert!(rt; ascend(&batch));
-    assert!(rt; come_after(tables, &batch));
+    tables.reserve(&batch)?;
+    let reserve = since(rt, start)?;
     let start = Instant::now(rt)?;
     tables.install_batch($1batch);
-    since(rt, start)
+    Ok((reserve, since(rt, start)?))
+}
+
+// What an install asks of the batch is looked at before its room is made, since that look reads all nodes.
+fn timed(rt: &(impl Abort + Clock), tables: &mut Tables, batch: Nodes) -> Result<(u128, u128), Fail> {
+    assert!(rt; ascend(&batch));
+    assert!(rt; come_after(tables, &batch));
+    brought(rt, tables, batch)
 }
 
 fn turn(rt: &(impl Abort + Clock), alloc: Global, tables: &mut Tables, turn: u32) -> Result<(u128, u128), Fail>
@@ -113,9 +119,9 @@ fn turn(rt: &(impl Abort + Clock), alloc: Global, tables: &mut Tables, turn: u32
     let mut reserve = 0u128;
     let mut install = 0u128;
     for place in 0..7u32 {
-        let batch = part(alloc, turn, place)?;
-        reserve = reserve.wrapping_add(reserved(rt, tables, &batch)?);
-        install = install.wrapping_add(installed(rt, tables, batch)?);
+        let spent = timed(rt, tables, part(alloc, turn, place)?)?;
+        reserve = reserve.wrapping_add(spent.0);
+        install = install.wrapping_add(spent.1);
     }
     Ok((reserve, install))
 }
@@ -171,9 +177,9 @@ fn times(rt: HostRuntime) -> Result<(), Fail> {
 TEST
 }
 
-# Times the tree in this folder. What an install asks is tested by a module that stands in the crate or, since its tests stand apart,
+# Builds the test of the tree in this folder. What an install asks is tested by a module that stands in the crate or, since its tests stand apart,
 # with those of its layer.
-run() {
+build() {
     cd "$1/crates/fts_aux" || exit 1
     if [ ! -f src/tests.rt ]; then
         mkdir -p src/tests
@@ -195,14 +201,19 @@ run() {
         timed_test '' $((batches + 1)) "$batches" >>src/tests.rt
     fi
     rt test 2>&1 | grep -E 'error|no proof|not proved' | head -20
-    ./out/fts_aux_tests tests::times 2>&1 | grep left
 }
 
 git -C "$top" archive HEAD | (mkdir "$folder/now" && tar -x -C "$folder/now") || exit 1
 for commit in "$@"; do
     git -C "$top" archive "$commit" | (mkdir "$folder/$commit" && tar -x -C "$folder/$commit") || exit 1
-    echo "$commit: microseconds a batch, reserve and install, of all, and up to the 10th, 100th and 1,000th:"
-    (run "$folder/$commit")
 done
-echo "now: microseconds a batch, reserve and install, of all, and up to the 10th, 100th and 1,000th:"
-(run "$folder/now")
+for tree in "$@" now; do
+    (build "$folder/$tree")
+done
+for turn in $(seq "$turns"); do
+    for tree in "$@" now; do
+        echo "$tree, turn $turn: microseconds a batch, reserve and install, of all, and up to the 10th, 100th and 1,000th:"
+        "$folder/$tree/crates/fts_aux/out/fts_aux_tests" tests::times 2>&1 | grep left:
+    done
+done
+uptime
