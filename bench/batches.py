@@ -2,9 +2,10 @@
 """Times INSERTs with batches between them, and SYNC: bench/batches.py [ROWS ..]
 
 Mails as in bench/queries.py, each INSERT a commit, into a database with the default cache, above
-which batches follow a commit, and into one with the largest cache. Told is the processor's time
-for one INSERT, by tenths of the rows, and the most memory that was held. Then SYNC, each time of
-1,000 mails more. It needs Python 3 and Linux, and works below TMPDIR.
+which batches follow a commit, and into one with the largest cache, by turns. Told is the
+processor's time for one INSERT, by tenths of the rows, the least of the turns, and the most memory
+that was held. Then SYNC, each time of 1,000 mails more, the least of the turns too. It needs
+Python 3 and Linux, and works below TMPDIR.
 """
 import argparse
 import os
@@ -48,23 +49,38 @@ def syncs(program, folder, texts):
     end(fts)
 
 
+def least(turns):
+    """The least of each place of the turns' times."""
+    return [min(times) for times in zip(*turns)]
+
+
+def told(times):
+    return " ".join(f"{took:.0f}" for took in times)
+
+
 def main():
     parser = argparse.ArgumentParser(description="Times INSERTs with batches, and SYNC.")
     parser.add_argument("rows", nargs="*", type=int, default=[10_000])
+    parser.add_argument("--turns", type=int, default=3)
     parser.add_argument("--program", default=os.path.join(TOP, "crates/fts/out/fts"))
     words = parser.parse_args()
     for rows in words.rows:
         texts = texts_of(rows)
         size = sum(len(" ".join(text)) for text in texts) / 1e6
-        print(f"{rows:,} mails, {size:.0f} MB of texts")
-        for name, options in CACHES.items():
+        print(f"{rows:,} mails, {size:.0f} MB of texts, the least of {words.turns} turns")
+        runs = {name: [] for name in CACHES}
+        flushes = []
+        for _ in range(words.turns):
+            for name, options in CACHES.items():
+                with tempfile.TemporaryDirectory() as folder:
+                    runs[name].append(by_tenths(words.program, f"{folder}/db", texts, options))
             with tempfile.TemporaryDirectory() as folder:
-                times, memory = by_tenths(words.program, f"{folder}/db", texts, options)
-            told = " ".join(f"{took:.0f}" for took in times)
-            print(f"an INSERT, {name}: {told} us, {memory:.0f} MB held", flush=True)
-        with tempfile.TemporaryDirectory() as folder:
-            told = " ".join(f"{it:.0f}" for it in syncs(words.program, f"{folder}/db", texts[:10_000]))
-            print(f"SYNC, each of 1,000 mails: {told} ms", flush=True)
+                flushes.append(list(syncs(words.program, f"{folder}/db", texts[:10_000])))
+        for name, turns in runs.items():
+            memory = max(most for _, most in turns)
+            times = told(least(times for times, _ in turns))
+            print(f"an INSERT, {name}: {times} us, {memory:.0f} MB held", flush=True)
+        print(f"SYNC, each of 1,000 mails: {told(least(flushes))} ms", flush=True)
 
 
 if __name__ == "__main__":
