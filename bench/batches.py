@@ -17,9 +17,9 @@ INSERT = "INSERT INTO docs (id, body) VALUES (%d, '%s')\n"
 CACHES = {"the default cache": [], "the largest cache": ["--cache-bytes", "80000000"]}
 
 
-def held(fts):
-    """The most memory that it held, in megabytes."""
-    with open(f"/proc/{fts.process.pid}/status", encoding="ascii") as it:
+def held(pid):
+    """The most memory that a process held since its program began, in megabytes."""
+    with open(f"/proc/{pid}/status", encoding="ascii") as it:
         return next(int(line.split()[1]) for line in it if line.startswith("VmHWM")) / 1024
 
 
@@ -36,7 +36,7 @@ def by_tenths(program, folder, texts, options):
     fts = Fts(program, folder, *options)
     tenth = len(texts) // 10
     times = [fts.ask(inserts(texts[k : k + tenth], k + 1))[1] for k in range(0, 10 * tenth, tenth)]
-    memory = held(fts)
+    memory = held(fts.process.pid)
     end(fts)
     return times, memory
 

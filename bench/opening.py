@@ -16,7 +16,7 @@ import subprocess
 import tempfile
 import time
 
-from batches import end, inserts
+from batches import end, held, inserts
 from queries import MATCH, TOP, Fts, texts_of, word_of
 
 WORD = word_of(20_000)
@@ -41,13 +41,15 @@ def opened(program, folder):
             [program, folder, "run"], stdin=subprocess.PIPE, stdout=subprocess.PIPE
         )
         fts.stdin.write((MATCH % WORD).encode("ascii"))
+        fts.stdin.flush()
+        reply = fts.stdout.readline()
+        memory = held(fts.pid)
         fts.stdin.close()
-        reply = fts.stdout.read()
         _, status, used = os.wait4(fts.pid, 0)
         took = time.monotonic() - began
         if status != 0 or not reply.startswith(b"OK as of "):
             raise SystemExit(f"the program answered {reply!r}, with status {status}")
-        turns.append((took, used.ru_utime + used.ru_stime, used.ru_maxrss / 1024, reply))
+        turns.append((took, used.ru_utime + used.ru_stime, memory, reply))
     return min(turns)
 
 

@@ -33,14 +33,19 @@ def word_of(rank):
     return text
 
 
-def texts_of(rows):
-    """Texts in which each doubling of a word's rank is as likely as any other."""
+def drawn(rows):
+    """Texts in which each doubling of a word's rank is as likely as any other, one by one."""
     draw = random.Random(1)
     vocabulary = [word_of(rank) for rank in range(1, WORDS + 1)]
     weights = [1 / rank for rank in range(1, WORDS + 1)]
     for rank in range(1, WORDS):
         weights[rank] += weights[rank - 1]
-    return [draw.choices(vocabulary, cum_weights=weights, k=200) for _ in range(rows)]
+    for _ in range(rows):
+        yield draw.choices(vocabulary, cum_weights=weights, k=200)
+
+
+def texts_of(rows):
+    return list(drawn(rows))
 
 
 def kinds_of(texts):
