@@ -10,7 +10,8 @@ use Rattle.std.specs.Str.{bytes_eq}
 use Rattle.std.proofs.lemmas.Map.Text.{is_eq-slice_cmp}
 use Rattle.fts_words.specs.Order.{byte_order}
 use Rattle.fts_ilist.specs.Queue.{Queue}
-use Rattle.fts_cache.specs.Words.{Entries, Slots, slot_in, number_in, queue_in, IsTable, IsListed, postings_until, leaving_word, is_leaving_as, leaving_listed}
+use Rattle.fts_cache.specs.Words.{Entries, Slots, slot_in, number_in, queue_in, IsTable, IsListed, leaving_word, is_leaving_as, leaving_listed}
+use Rattle.fts_ilist.specs.Cursor.{postings_until}
 use Rattle.fts_cache.proofs.Queues.{which_word, is_same, same_word}
 use Rattle.fts_cache.proofs.Shown.{left_from, left_to}
 use Rattle.fts_cache.proofs.Table.{none_is_not, some_is, queue_of_none}

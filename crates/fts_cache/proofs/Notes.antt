@@ -7,7 +7,8 @@ use Rattle.fts_ilist.specs.Queue.{Queue, postings_behind}
 use Rattle.fts_cache.specs.declared.cache.Cached.{Cached}
 use Rattle.fts_cache.specs.Document.{WordPositions, Document, document_postings, found_words}
 use Rattle.fts_cache.specs.Cache.{Ids, IdsAscend, BeginsAbove}
-use Rattle.fts_cache.specs.Words.{Entries, number_in, queue_in, has_number, left_of, AreNumbersOf, KeepsNumbers, postings_until}
+use Rattle.fts_cache.specs.Words.{Entries, number_in, queue_in, has_number, left_of, AreNumbersOf, KeepsNumbers}
+use Rattle.fts_ilist.specs.Cursor.{postings_until}
 use Rattle.fts_cache.specs.Kept.{kept, notes, AreNoted, NoteWords, NotesUntil}
 use Rattle.fts_cache.proofs.Queues.{which_word}
 use Rattle.fts_cache.proofs.Table.{which_number, some_is, queue_of_none}

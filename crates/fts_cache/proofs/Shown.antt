@@ -21,7 +21,8 @@ use Rattle.std.proofs.lemmas.Map.Text.{is_eq-slice_cmp}
 use Rattle.fts_ilist.specs.Spelling.{Posting, ArePostings, PostingsAfter, HasFirstId}
 use Rattle.fts_ilist.specs.Queue.{Queue}
 use Rattle.fts_cache.specs.declared.words.CachedWord.{CachedWord}
-use Rattle.fts_cache.specs.Words.{Entries, Slots, slot_in, number_in, queue_in, IsTable, has_number, postings_until, leaves, leaving_word, leaving_words, IsLent}
+use Rattle.fts_cache.specs.Words.{Entries, Slots, slot_in, number_in, queue_in, IsTable, has_number, leaves, leaving_word, leaving_words, IsLent}
+use Rattle.fts_ilist.specs.Cursor.{postings_until}
 use Rattle.fts_cache.specs.Sorted.{lent_words}
 use Rattle.fts_cache.proofs.Queues.{which_word, is_same}
 use Rattle.fts_cache.proofs.Table.{which_number, some_is, none_is_not, queue_of_number}

@@ -1,5 +1,5 @@
 -- The cached words, each by its number, and their queues.
-use Rattle.std.specs.Prelude.{◌≡◌, ◌≢◌, ℕ, ◌+◌, ◌-◌, ◌^◌, ◌<◌, ◌≤◌, Bool, ◌&&◌, nat_eq, nat_le, nat_lt, filter}
+use Rattle.std.specs.Prelude.{◌≡◌, ◌≢◌, ℕ, ◌+◌, ◌-◌, ◌^◌, ◌<◌, ◌≤◌, Bool, ◌&&◌, nat_eq, nat_lt, filter}
 use Rattle.std.specs.Prelude.{List, [], ◌∷◌, ◌++◌, length, if◌then◌else◌}
 use Rattle.std.specs.Prelude.{Option, Some, None, slice_index_or, filter_map, true, false}
 use Rattle.std.specs.List.{list_any}
@@ -10,6 +10,7 @@ use Rattle.std.specs.Str.{bytes_eq}
 use Rattle.fts_ilist.specs.Spelling.{Posting, ArePositions, ArePostings}
 use Rattle.fts_words.specs.Order.{byte_order}
 use Rattle.fts_ilist.specs.Queue.{Queue, bytes_for, postings_behind}
+use Rattle.fts_ilist.specs.Cursor.{postings_until}
 use Rattle.fts_cache.specs.Document.{WordPositions, Document, postings_from, document_postings, bytes_in}
 use Rattle.fts_cache.specs.declared.words.CachedWord.{CachedWord}
 
@@ -189,10 +190,6 @@ pub record GivesUp (numbers : List ℕ) (old new : Entries) (w : List ℕ) : Typ
   pub given : (n : ℕ) → number_in old w ≡ Some n → has_number n numbers ≡ true → (queue_in new w).room ≡ 0
   pub kept : ((n : ℕ) → number_in old w ≡ Some n → has_number n numbers ≡ false)
       → (queue_in new w).room ≡ (queue_in old w).room
-
--- the documents up to an id
-abbrev pub postings_until : ℕ → List Posting → List Posting
-postings_until id ps = filter (λ p. nat_le p.id id) ps
 
 -- whether the queue has a document up to this id
 abbrev pub leaves : ℕ → Queue → Bool

@@ -17,7 +17,8 @@ ghost use Rattle.fts_cache.specs.Words.{Entries, slot_in, number_in, queue_at, q
 ghost use Rattle.fts_cache.specs.Words.{Alters, CanTake, Enters, Changes, Stays, IsLess};
 ghost use Rattle.fts_cache.specs.Words.{LetsGo, GivesUp};
 ghost use Rattle.fts_cache.specs.Words.{IsDropped, with_more_room, without_room, with_posting};
-ghost use Rattle.fts_cache.specs.Words.{without, postings_until, has_number, leaves};
+ghost use Rattle.fts_cache.specs.Words.{without, has_number, leaves};
+ghost use Rattle.fts_ilist.specs.Cursor.{postings_until};
 ghost use Rattle.fts_cache.specs.Words.{leaving_word, leaving_words, has_documents};
 ghost use Rattle.fts_ilist.specs.Front.{front};
 ghost use Rattle.fts_words.specs.Order.{begins_with};

@@ -13,6 +13,7 @@ pub mod Merging
 pub mod Queues
 pub mod Ends
 pub mod Cursors
+pub mod Until
 pub mod Kept
 pub mod Lanes
 pub mod Packs

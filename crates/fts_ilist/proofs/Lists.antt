@@ -51,7 +51,7 @@ list_has_no_fault bytes last at l f = f.unfinished (postings_in 0 bytes) l.are l
 
 -- ---- the last id
 
-id_grows : (last : ℕ) (ds : List Posting) → PostingsAfter last ds → last ≤ id_at_end last ds
+pub id_grows : (last : ℕ) (ds : List Posting) → PostingsAfter last ds → last ≤ id_at_end last ds
 id_grows last [] h = omega arith
 id_grows last (d ∷ ds) h = omega (arith, h.0, id_grows d.id ds h.3)
 

@@ -1,5 +1,5 @@
 -- Nodes that packing would change, told by their ends.
-use Rattle.std.proofs.Common.{◌≡◌, ℕ, ◌+◌, ◌≤◌, ◌<◌, Bool, true, false, not, ◌||◌, if◌then◌else◌, List, [], ◌∷◌, ◌++◌, length, slice_get, Some, None, ◌-◌, nat_le, refl, sym, ap, subst, ◌∙◌, append_assoc, arith, ⊎_elim, true≢false}
+use Rattle.std.proofs.Common.{◌≡◌, ◌≢◌, ℕ, ◌+◌, ◌≤◌, ◌<◌, Bool, true, false, not, ◌||◌, if◌then◌else◌, List, [], ◌∷◌, ◌++◌, length, slice_get, Some, None, ◌-◌, nat_le, refl, sym, ap, subst, ◌∙◌, append_assoc, arith, ⊎_elim, true≢false}
 use Rattle.std.proofs.lemmas.Bool.{cases_Bool, le-leb, lt-leb, leb-true}
 use Rattle.std.proofs.lemmas.List.{append-nil, length-append}
 use Rattle.fts_ilist.specs.Number.{number_bytes}
@@ -109,6 +109,11 @@ packs_front b (p ∷ ps) more h =
     ap (λ (t : Bool). if t then packed_from 8192 (b ++ p ∷ []) (ps ++ more) else b ∷ packed_from 8192 (p ∷ []) (ps ++ more)) has
     ∙ packs_front (b ++ p ∷ []) ps more within
     ∙ ap (λ w. packed_from 8192 w more) same
+
+-- documents within the limit are one node
+pub packs_one : (ps : Docs) → ps ≢ [] → node_size ps ≤ 8192 → packed ps ≡ ps ∷ []
+packs_one [] some h = absurd (some refl)
+packs_one (p ∷ ps) some h = ap (packed_from 8192 (p ∷ [])) (sym (append-nil ps)) ∙ packs_front (p ∷ []) ps [] h
 
 packs_sound : (p : Posting) (ps more : Docs) → is_sound (p ∷ ps) ≡ true → packed_from 8192 (p ∷ []) (ps ++ more) ≡ packed_from 8192 (p ∷ ps) more
 packs_sound p [] more s = refl

@@ -39,6 +39,9 @@ passes rest last id start end doc t d le =
     let left = postings_behind doc (postings_in id (drop end rest)) in
     let first : Posting = posting_in id (take (end - 1 - start) (drop start rest)) in
     record {
+      start = start;
+      reads = d;
+      up_to = le;
       order = omega (arith, d.front_order, d.order);
       within = d.within;
       tail = document_tail rest last id start end t d;

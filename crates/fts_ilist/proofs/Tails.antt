@@ -135,21 +135,26 @@ encoded_is bytes last id start end d =
 encoded_gives : (bytes : List ℕ) (last id start end : ℕ) (d : ReadsDocument bytes 0 last id start end) → positions_in 0 (take (end - 1 - start) (drop start bytes)) ≡ d.positions
 encoded_gives bytes last id start end d = ap (positions_in 0) (encoded_is bytes last id start end d) ∙ positions_in-bytes 0 d.positions d.are_positions.1
 
--- a step gives the first document that was left
-pub document_step : (bytes : List ℕ) (last id start end : ℕ) → ReadsDocument bytes 0 last id start end
-    → postings_in last bytes ≡ posting_in id (take (end - 1 - start) (drop start bytes)) ∷ postings_in id (drop end bytes)
-document_step bytes last id start end d =
+-- the first document that was left
+pub document_first : (bytes : List ℕ) (last id start end : ℕ) (d : ReadsDocument bytes 0 last id start end)
+    → postings_in last bytes ≡ record { id = id; positions = d.positions } ∷ postings_in id (drop end bytes)
+document_first bytes last id start end d =
     let p : Posting = record { id = id; positions = d.positions } in
     ap (postings_of (between last) []) (ap (items_after 0) (document_parts bytes last id start end d) ∙ reads_items (posting_items last p) (drop end bytes))
     ∙ posting_again last p (items_after 0 (drop end bytes)) d.above d.are_positions
+
+-- a step gives it
+pub document_step : (bytes : List ℕ) (last id start end : ℕ) → ReadsDocument bytes 0 last id start end
+    → postings_in last bytes ≡ posting_in id (take (end - 1 - start) (drop start bytes)) ∷ postings_in id (drop end bytes)
+document_step bytes last id start end d =
+    document_first bytes last id start end d
     ∙ ap (λ (w : List ℕ). let q : Posting = record { id = id; positions = w } in q ∷ postings_in id (drop end bytes)) (sym (encoded_gives bytes last id start end d))
 
 pub document_tail : (bytes : List ℕ) (last id start end : ℕ) → IsTail last bytes → ReadsDocument bytes 0 last id start end → IsTail id (drop end bytes)
 document_tail bytes last id start end t d =
     let p : Posting = record { id = id; positions = d.positions } in
     let rest = postings_in id (drop end bytes) in
-    let step : postings_in last bytes ≡ p ∷ rest
-    = document_step bytes last id start end d ∙ ap (λ (w : List ℕ). let q : Posting = record { id = id; positions = w } in q ∷ rest) (encoded_gives bytes last id start end d) in
+    let step : postings_in last bytes ≡ p ∷ rest = document_first bytes last id start end d in
     let after : PostingsAfter last (p ∷ rest) = subst (PostingsAfter last) step t.after in
     let spelled : bytes ≡ items_bytes (posting_items last p) ++ items_bytes (postings_items id rest)
     = t.spelled ∙ ap (λ (w : List Posting). items_bytes (postings_items last w)) step

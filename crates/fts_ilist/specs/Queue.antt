@@ -2,6 +2,7 @@
 use Rattle.std.specs.Prelude.{◌≡◌, ℕ, ◌+◌, ◌*◌, ◌<◌, ◌≤◌, List, filter, nat_lt, length, drop}
 use Rattle.fts_ilist.specs.Spelling.{Posting, id_at_end}
 use Rattle.fts_ilist.specs.Reading.{postings_in, IsTail}
+use Rattle.fts_ilist.specs.Progress.{ReadsDocument}
 
 pub record Queue : Type 0 where
   -- the documents that are in it
@@ -26,6 +27,9 @@ pub record StandsAt (bytes : List ℕ) (at before : ℕ) : Type 0 where
 
 -- the documents up to doc begin with one, which has this id and ends at this place
 pub record Passes (rest : List ℕ) (last doc end id : ℕ) : Type 0 where
+  pub start : ℕ
+  pub reads : ReadsDocument rest 0 last id start end
+  pub up_to : id ≤ doc
   pub order : 0 < end
   pub within : end ≤ length rest
   pub tail : IsTail id (drop end rest)

@@ -1,16 +1,20 @@
 //! The one reader of lists that are known to be right: it stands at a document, and goes on from
 //! there.
-ghost use Rattle.std.specs.Prelude.{◌≡◌, ◌+◌, ◌≤◌, ◌++◌, List, [], drop, length, map, IfNone};
-ghost use Rattle.std.specs.Prelude.{IfSome};
+ghost use Rattle.std.specs.Prelude.{◌≡◌, ◌+◌, ◌<◌, ◌≤◌, ◌++◌, List, [], drop, length, map, IfNone};
+ghost use Rattle.std.specs.Prelude.{IfSome, IfOk};
 ghost use Rattle.std.specs.Vec.{vec_len, vec_capacity};
 ghost use Rattle.std.specs.Iterator.{YieldsFirst, item_count};
 ghost use Rattle.fts_ilist.specs.Spelling.{HasFirstId};
 ghost use Rattle.fts_ilist.specs.Reading.{postings_in, IsTail};
-ghost use Rattle.fts_ilist.specs.Cursor.{postings_from, first_positions, IsBelow};
+ghost use Rattle.fts_ilist.specs.Cursor.{postings_from, postings_until, first_positions, IsBelow};
+ghost use Rattle.fts_ilist.specs.Cursor.{IsInside, IsSpan};
 
 use crate::documents::{Document, Positions};
-use crate::number::front_number;
+use crate::list::Ilist;
+use crate::number::{front_number, number_len, put_in_room};
+use crate::queue::next_until;
 use crate::reading::body_len;
+use std::alloc::{AllocError, Global};
 use std::iter::FusedIterator;
 use std::marker::Model;
 
@@ -35,6 +39,33 @@ impl<'a> Model for Cursor<'a> {
     ghost view = { λ c. postings_at c.id c.rest.now };
 
     ghost invariant = { λ c. IsCursor c.id c.rest.now };
+}
+
+/// Documents of a cursor, from the one at which it stands on: how many bytes spell them behind its
+/// id, the last of their ids, and their number.
+#[derive(Clone, Copy)]
+struct Span {
+    len: usize,
+    last: u64,
+    count: usize,
+}
+
+/// The documents up to `doc` of a cursor, which stands at one of them.
+fn span_until(id: u64, bytes: &[u8], doc: u64) -> Span
+    requires positive { 0 < id }
+    requires stands { IsInside id bytes.now }
+    requires up_to { id ≤ doc }
+    ensures { IsSpan id bytes.now doc result.len result.last result.count }
+{
+    let mut len = body_len(bytes);
+    let mut last = id;
+    let mut count = 1;
+    while let Some((end, next)) = next_until(&bytes[len..], last, doc) {
+        len += end;
+        last = next;
+        count += 1;
+    }
+    Span { len, last, count }
 }
 
 impl<'a> Cursor<'a> {
@@ -121,6 +152,29 @@ impl<'a> Cursor<'a> {
         while self.is_below(id) {
             self.advance();
         }
+    }
+
+    /// The documents up to `doc`, from the one at which it stands on, as a list of their own. Their
+    /// bytes are copied as they stand, and the list takes no more memory than these.
+    pub fn list_until(&self, alloc: Global, doc: u64) -> Result<Ilist, AllocError>
+        ensures { IfOk result (λ list. list ≡ postings_until doc self.now) }
+    {
+        if self.id == 0 {
+            return Ok(Ilist::new(alloc));
+        }
+        if self.id > doc {
+            return Ok(Ilist::new(alloc));
+        }
+        let span = span_until(self.id, self.rest, doc);
+        let mut bytes = Vec::with_capacity(alloc, number_len(self.id) + span.len)?;
+        put_in_room(&mut bytes, self.id);
+        bytes.extend_from_slice(&self.rest[..span.len]).unwrap();
+        Ok(Ilist {
+            bytes,
+            first: self.id,
+            last: span.last,
+            count: span.count,
+        })
     }
 
     /// Whether it stands at a document below `id`.

@@ -27,6 +27,6 @@ pub use list::{Ilist, ParseError, lists_have_one_spelling, parse};
 pub use node::{Node, NodeGroup, Nodes, WordNodes};
 pub use node_list::{NodeList, NodeRef, NodeSlice, are_loose, bytes_of};
 pub use number::{Bad, NUMBER_ROOM, numbers_have_one_spelling, put_number, take_number};
-pub use packing::{NODE_LIMIT, Packing, loose_nodes_are_told_by_their_ends, pack};
+pub use packing::{NODE_LIMIT, Packing, loose_nodes_are_told_by_their_ends, pack, pack_until};
 pub use queue::PostingQueue;
 pub use reading::{LAST_ID, LAST_POSITION};

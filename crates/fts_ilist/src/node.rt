@@ -209,6 +209,15 @@ impl<'a> NodeGroup<'a> {
         }
     }
 
+    /// One node.
+    pub fn one(node: Node<'a>) -> Self
+        ensures { result ≡ node.entry ∷ [] }
+    {
+        NodeGroup {
+            held: Held::One { node },
+        }
+    }
+
     /// These nodes.
     pub fn of(nodes: Vec<Node<'a>>) -> Self
         ensures { result ≡ nodes.entry.items }

@@ -4,12 +4,14 @@ ghost use Rattle.std.specs.Prelude.{◌≢◌, OnErr};
 ghost use Rattle.std.specs.List.{All};
 ghost use Rattle.fts_ilist.specs.Spelling.{Posting, ArePostings, last_id};
 ghost use Rattle.fts_ilist.specs.Packing.{packed, PutsInto, AreLoose, are_loose};
+ghost use Rattle.fts_ilist.specs.Cursor.{postings_until};
 
 use crate::cursor::Cursor;
 use crate::documents::Document;
 use crate::list::Ilist;
 use crate::node::{Node, NodeGroup};
 use crate::number::NUMBER_ROOM;
+use fts_types::DocId;
 use std::alloc::{AllocError, Global};
 use std::marker::Model;
 use std::mem;
@@ -161,14 +163,41 @@ pub fn loose_nodes_are_told_by_their_ends()
     ensures { (nodes : List (List Posting)) → AreLoose nodes ↔ (are_loose nodes ≡ true) }
 {}
 
-/// The nodes of these documents.
-pub fn pack(alloc: Global, docs: Cursor<'_>) -> Result<Vec<Ilist>, AllocError>
+/// The documents, one behind the other.
+fn packing_of(alloc: Global, docs: Cursor<'_>) -> Result<Packing, AllocError>
     requires { ArePostings docs }
-    ensures { IfOk result (λ nodes. nodes.items ≡ packed docs.entry) }
+    ensures { IfOk result (λ packing. packing ≡ docs.entry) }
 {
     let mut packing = Packing::new(alloc);
     for document in docs {
         packing.push(&document)?;
     }
-    packing.finish()
+    Ok(packing)
+}
+
+/// The nodes of these documents.
+pub fn pack(alloc: Global, docs: Cursor<'_>) -> Result<Vec<Ilist>, AllocError>
+    requires { ArePostings docs }
+    ensures { IfOk result (λ nodes. nodes.items ≡ packed docs.entry) }
+{
+    packing_of(alloc, docs)?.finish()
+}
+
+/// The nodes of the documents up to `doc`. Where these fit one node, as most do, their bytes are
+/// copied as they stand.
+pub fn pack_until<'n>(
+    alloc: Global,
+    docs: Cursor<'_>,
+    doc: DocId,
+) -> Result<NodeGroup<'n>, AllocError>
+    ensures { IfOk result (λ nodes. nodes ≡ packed (postings_until doc docs.entry)) }
+{
+    let list = docs.list_until(alloc, doc)?;
+    if list.is_empty() {
+        return Ok(NodeGroup::new(alloc));
+    }
+    if list.bytes().len() <= NODE_LIMIT {
+        return Ok(NodeGroup::one(Node::new(list)));
+    }
+    packing_of(alloc, list.docs())?.nodes()
 }

@@ -9,6 +9,7 @@ ghost use Rattle.fts_ilist.specs.Reading.{postings_in, IsTail};
 ghost use Rattle.fts_ilist.specs.Spelling.{list_bytes};
 ghost use Rattle.fts_ilist.specs.Queue.{Queue, bytes_for, postings_behind, StandsAt, Passes};
 ghost use Rattle.fts_ilist.specs.Queue.{HoldsBytes};
+ghost use Rattle.fts_ilist.specs.Cursor.{postings_until};
 
 use crate::cursor::Cursor;
 use crate::number::front_number;
@@ -76,9 +77,10 @@ fn place_behind(bytes: &[u8], start: usize, before: u64, doc: u64) -> (usize, u6
 }
 
 /// The place behind the first document and its id, where there is one and it is not above `doc`.
-fn next_until(rest: &[u8], last: u64, doc: u64) -> Option<(usize, u64)>
+pub(crate) fn next_until(rest: &[u8], last: u64, doc: u64) -> Option<(usize, u64)>
     requires { IsTail last rest.now }
     ensures some { IfSome result (λ next. Passes rest.now last doc next.0 next.1) }
+    ensures up_to { IfNone result (postings_until doc (postings_in last rest.now) ≡ []) }
     ensures none { IfNone result (postings_behind doc (postings_in last rest.now)
         ≡ postings_in last rest.now) }
 {

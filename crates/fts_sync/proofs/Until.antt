@@ -5,15 +5,17 @@ use Rattle.std.proofs.lemmas.List.Elements.{filter-append}
 use Rattle.fts_ids.specs.Ids.{has}
 use Rattle.fts_ilist.specs.Spelling.{Posting, PostingsAfter, last_id, id_at_end}
 use Rattle.fts_ilist.proofs.Postings.{id_at_end-append}
-use Rattle.fts_cache.specs.Words.{postings_until}
+use Rattle.fts_ilist.proofs.Until.{none_until}
+use Rattle.fts_ilist.specs.Cursor.{postings_until}
 use Rattle.fts_sync.specs.Leaving.{leaving, IsPackingUntil}
 
--- behind the id there is none up to it
-none_until : (doc low : ℕ) (ps : List Posting) → PostingsAfter low ps → doc ≤ low → postings_until doc ps ≡ []
-none_until doc low [] after less = refl
-none_until doc low (p ∷ ps) after less =
-    ap (λ (b : Bool). cond b (p ∷ postings_until doc ps) (postings_until doc ps)) (lt-leb p.id doc (omega (arith, less, after.0)))
-    ∙ none_until doc p.id ps after.3 (omega (arith, less, after.0))
+all_alive : (ps : List Posting) → filter (λ p. not (has [] p.id)) ps ≡ ps
+all_alive [] = refl
+all_alive (p ∷ ps) = ap (λ (w : List Posting). p ∷ w) (all_alive ps)
+
+-- where nobody died
+pub none_dead : (doc : ℕ) (dead : List ℕ) (ps : List Posting) → dead ≡ [] → postings_until doc ps ≡ leaving doc dead ps
+none_dead doc dead ps none = sym (ap (λ (ids : List ℕ). leaving doc ids ps) none ∙ all_alive (postings_until doc ps))
 
 pub begins : (doc : ℕ) (dead : List ℕ) (all done : List Posting) → done ≡ [] → PostingsAfter 0 all → IsPackingUntil doc dead all done all
 begins doc dead all done none after = record {

@@ -12,7 +12,7 @@ use Rattle.fts_words.specs.Order.{byte_order}
 use Rattle.fts_cache.proofs.Queues.{which_word}
 use Rattle.fts_cache.specs.Cache.{CacheState, postings_of}
 use Rattle.fts_cache.specs.Sorted.{lent_words}
-use Rattle.fts_cache.specs.Words.{postings_until}
+use Rattle.fts_ilist.specs.Cursor.{postings_until}
 use Rattle.fts_ids.specs.Ids.{has}
 use Rattle.fts_lists.specs.State.{State, ids_of}
 use Rattle.fts_lists.specs.declared.lists.DeleteList.TheVariants.{DeletedCache}

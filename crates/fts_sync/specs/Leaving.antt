@@ -9,7 +9,7 @@ use Rattle.fts_ilist.specs.Spelling.{Posting, PostingsAfter, last_id}
 use Rattle.fts_ilist.specs.Node.{Docs}
 use Rattle.fts_ilist.specs.Packing.{packed}
 use Rattle.fts_cache.specs.Cache.{CacheState, postings_of}
-use Rattle.fts_cache.specs.Words.{postings_until}
+use Rattle.fts_ilist.specs.Cursor.{postings_until}
 
 -- of a word's documents those up to an id that are not dead
 abbrev pub leaving : ℕ → List ℕ → List Posting → List Posting

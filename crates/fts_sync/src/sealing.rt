@@ -13,7 +13,7 @@ ghost use Rattle.fts_ilist.specs.Packing.{packed};
 ghost use Rattle.fts_sync.specs.Leaving.{leaving, leaving_nodes, filled_word, sealed_words};
 
 use fts_cache::Cache;
-use fts_ilist::{Cursor, Document, NodeGroup, Nodes, Packing, WordNodes};
+use fts_ilist::{Cursor, Document, NodeGroup, Nodes, Packing, WordNodes, pack_until};
 use fts_lists::{DeleteList, Lists};
 use fts_types::{DocId, Word};
 use std::alloc::{AllocError, Global};
@@ -29,18 +29,14 @@ fn put_alive(
         ≡ packing.old ++ filter (λ p. not (has (ids_of DeletedCache lists.now) p.id))
         (document.now ∷ [])) }
 {
-    // Mostly nobody died, and the list is not looked into.
-    if lists.is_empty(DeleteList::DeletedCache) {
-        return packing.push(document);
-    }
     if lists.contains(DeleteList::DeletedCache, document.id()) {
         return Ok(());
     }
     packing.push(document)
 }
 
-/// The nodes of the documents up to an id that are not dead.
-fn packed_until<'n>(
+/// The nodes of the documents up to an id that are not dead, each of which is looked up.
+fn alive_until<'n>(
     alloc: Global,
     documents: Cursor<'_>,
     doc: DocId,
@@ -58,6 +54,24 @@ fn packed_until<'n>(
         put_alive(&mut packing, &document, lists)?;
     }
     packing.nodes()
+}
+
+/// The nodes of the documents up to an id that are not dead.
+fn packed_until<'n>(
+    alloc: Global,
+    documents: Cursor<'_>,
+    doc: DocId,
+    lists: &Lists,
+) -> Result<NodeGroup<'n>, AllocError>
+    requires { ArePostings documents }
+    ensures { IfOk result (λ nodes. nodes
+        ≡ packed (leaving doc (ids_of DeletedCache lists.now) documents.entry)) }
+{
+    // Mostly nobody died since the last batch.
+    if lists.is_empty(DeleteList::DeletedCache) {
+        return pack_until(alloc, documents, doc);
+    }
+    alive_until(alloc, documents, doc, lists)
 }
 
 /// Puts a word behind the others, with the nodes of its documents up to an id that are not dead,

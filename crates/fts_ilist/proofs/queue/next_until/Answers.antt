@@ -3,9 +3,11 @@ use Rattle.std.proofs.lemmas.Bool.{eqb-true, eqb-false}
 use Rattle.std.proofs.lemmas.List.{take_rest}
 use Rattle.fts_ilist.specs.Spelling.{HasFirstId}
 use Rattle.fts_ilist.specs.Queue.{postings_behind}
+use Rattle.fts_ilist.specs.Cursor.{postings_until}
 use Rattle.fts_ilist.specs.Progress.{EndsBody}
 use Rattle.fts_ilist.proofs.Tails.{none_left}
 use Rattle.fts_ilist.proofs.Queues.{passes, all_from_first}
+use Rattle.fts_ilist.proofs.Until.{none_from_first}
 use Rattle.fts_ilist.proofs.Cursors.{tail_number, begins, body_of, first_at, begins_document}
 use Rattle.fts_ilist.proofs.queue.next_until.Goals as goal
 
@@ -13,6 +15,10 @@ pub returns-then-is_empty-clause-none : goal.returns-then-is_empty-clause-none
 returns-then-is_empty-clause-none c =
     let e = none_left c.args.last c.args.rest.now (eqb-true _ _ (sym c.is_empty.ensures ∙ c.if-is_empty.true)) in
     ap (postings_behind c.args.doc) e ∙ sym e
+
+pub returns-then-is_empty-clause-up_to : goal.returns-then-is_empty-clause-up_to
+returns-then-is_empty-clause-up_to c =
+    ap (postings_until c.args.doc) (none_left c.args.last c.args.rest.now (eqb-true _ _ (sym c.is_empty.ensures ∙ c.if-is_empty.true)))
 
 pub front_number-increase-requires : goal.front_number-increase-requires
 front_number-increase-requires c = tail_number c.args.last c.args.rest.now c.requires (omega (arith, eqb-false _ _ (sym c.is_empty.ensures ∙ c.if-is_empty.false)))
@@ -27,6 +33,13 @@ returns-then-id-doc-clause-none c =
     let some : 0 < length c.args.rest.now = omega (arith, eqb-false _ _ (sym c.is_empty.ensures ∙ c.if-is_empty.false)) in
     let b = begins c.args.last c.args.rest.now _ _ c.requires some c.front_number-increase.ensures.found in
     all_from_first c.args.doc (c.args.last + c.front_number-increase.result.0) c.args.last _ c.requires.after
+    (subst (λ ps. HasFirstId ps (c.args.last + c.front_number-increase.result.0)) b.same (first_at _ _ (omega (arith, b.above)) b.stands)) (omega (arith, c.if-id-doc.true))
+
+pub returns-then-id-doc-clause-up_to : goal.returns-then-id-doc-clause-up_to
+returns-then-id-doc-clause-up_to c =
+    let some : 0 < length c.args.rest.now = omega (arith, eqb-false _ _ (sym c.is_empty.ensures ∙ c.if-is_empty.false)) in
+    let b = begins c.args.last c.args.rest.now _ _ c.requires some c.front_number-increase.ensures.found in
+    none_from_first c.args.doc (c.args.last + c.front_number-increase.result.0) c.args.last _ c.requires.after
     (subst (λ ps. HasFirstId ps (c.args.last + c.front_number-increase.result.0)) b.same (first_at _ _ (omega (arith, b.above)) b.stands)) (omega (arith, c.if-id-doc.true))
 
 pub body_len-requires : goal.body_len-requires

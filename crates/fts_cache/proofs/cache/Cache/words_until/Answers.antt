@@ -1,7 +1,8 @@
 use Rattle.std.proofs.Common.{◌≡◌, ◌≢◌, ◌↔◌, ℕ, List, Some, true, [], sym, subst}
 use Rattle.std.proofs.lemmas.Result.{IfOk-weaker}
 use Rattle.fts_cache.specs.Cache.{postings_of}
-use Rattle.fts_cache.specs.Words.{number_in, queue_in, has_number, postings_until}
+use Rattle.fts_cache.specs.Words.{number_in, queue_in, has_number}
+use Rattle.fts_ilist.specs.Cursor.{postings_until}
 use Rattle.std.specs.List.{All, list_any}
 use Rattle.std.specs.Str.{bytes_eq}
 use Rattle.fts_ilist.specs.Spelling.{ArePostings}

@@ -4,7 +4,8 @@ use Rattle.std.specs.Str.{bytes_eq}
 use Rattle.std.proofs.lemmas.List.Sorted.{All-permutation}
 use Rattle.fts_ilist.specs.Spelling.{ArePostings}
 use Rattle.fts_cache.specs.Sorted.{lent_words}
-use Rattle.fts_cache.specs.Words.{number_in, queue_in, has_number, postings_until, IsLent}
+use Rattle.fts_cache.specs.Words.{number_in, queue_in, has_number, IsLent}
+use Rattle.fts_ilist.specs.Cursor.{postings_until}
 use Rattle.fts_cache.proofs.Shown.{sorted_entries, left_differ, left_are, all_lent}
 use Rattle.fts_cache.proofs.words.Words.leaving.Goals as goal
 

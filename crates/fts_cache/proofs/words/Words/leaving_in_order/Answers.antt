@@ -6,7 +6,8 @@ use Rattle.std.specs.Str.{bytes_eq}
 use Rattle.fts_words.specs.Order.{byte_order}
 use Rattle.fts_ilist.specs.Spelling.{ArePostings}
 use Rattle.fts_cache.specs.Sorted.{lent_words}
-use Rattle.fts_cache.specs.Words.{Entries, queue_in, postings_until, is_leaving_as, leaving_listed}
+use Rattle.fts_cache.specs.Words.{Entries, queue_in, is_leaving_as, leaving_listed}
+use Rattle.fts_ilist.specs.Cursor.{postings_until}
 use Rattle.fts_cache.proofs.Listed.{listed_are, sorted_filter}
 use Rattle.fts_cache.proofs.Shown.{all_lent}
 use Rattle.fts_cache.proofs.words.Words.leaving_in_order.Goals as goal

@@ -1,5 +1,5 @@
 use Rattle.fts_ilist.proofs.Packs.{packs_on}
-use Rattle.fts_ilist.proofs.packing.pack.Goals as goal
+use Rattle.fts_ilist.proofs.packing.packing_of.Goals as goal
 
 pub loop-document-preserved : goal.loop-document-preserved
 loop-document-preserved c =

@@ -1,7 +1,7 @@
 use Rattle.fts_lists.specs.State.{ids_of}
 use Rattle.fts_lists.specs.declared.lists.DeleteList.TheVariants.{DeletedCache}
 use Rattle.fts_sync.specs.Leaving.{IsPackingUntil}
-use Rattle.fts_sync.proofs.sealing.packed_until.Given as goal
+use Rattle.fts_sync.proofs.sealing.alive_until.Given as goal
 
 abbrev pub invariant-loop-document : goal.invariant-loop-document
 invariant-loop-document l = record {
