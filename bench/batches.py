@@ -18,9 +18,10 @@ CACHES = {"the default cache": [], "the largest cache": ["--cache-bytes", "80000
 
 
 def held(pid):
-    """The most memory that a process held since its program began, in megabytes."""
+    """The most memory that a process held since its program began, in millions of bytes."""
     with open(f"/proc/{pid}/status", encoding="ascii") as it:
-        return next(int(line.split()[1]) for line in it if line.startswith("VmHWM")) / 1024
+        size = next(line.split()[1] for line in it if line.startswith("VmHWM"))
+        return int(size) * 1024 / 1e6
 
 
 def inserts(texts, first):
