@@ -76,18 +76,35 @@ fn number_of(words: &Words, word: &[u8]) -> Option<usize>
     }
 }
 
-/// The number of a word, where it is one of the words, and the last id of its nodes, 0 where it has
-/// none.
-fn number_and_last(words: &Words, word: &[u8]) -> Option<(usize, DocId)>
-    ensures some { IfSome result
-        (λ p. is_key_at (keys_of words.now.entries) p.0 word.now ≡ true) }
-    ensures last { IfSome result (λ p. p.1 ≡ last_of 0 (nodes_in words.now.entries word.now)) }
+/// The last id of the nodes of the word with this number, 0 where it has none.
+fn last_at(words: &Words, number: usize, word: &[u8]) -> DocId
+    requires { is_key_at (keys_of words.now.entries) number word.now ≡ true }
+    ensures { result ≡ last_of 0 (nodes_in words.now.entries word.now) }
+{
+    match words.get_index(number) {
+        Some((_, list)) => list.last_id(),
+        None => unreachable!(),
+    }
+}
+
+/// The number behind a noted one, and the first where none is noted.
+fn next_number(noted: Option<&usize>) -> usize {
+    match noted {
+        Some(number) => number.saturating_add(1),
+        None => 0,
+    }
+}
+
+/// The number of a word as `number_of` gives it, without a look-up where it is the one that is
+/// guessed.
+fn number_near(words: &Words, guess: usize, word: &[u8]) -> Option<usize>
+    ensures some { IfSome result (λ n. is_key_at (keys_of words.now.entries) n word.now ≡ true) }
     ensures none { IfNone result (find word.now words.now.entries ≡ None) }
 {
-    match words.get_full(WordBytes { bytes: word }) {
-        Some((number, _, list)) => Some((number, list.last_id())),
-        None => None,
+    if is_word_at(words, guess, word) {
+        return Some(guess);
     }
+    number_of(words, word)
 }
 
 /// The number of a word as `number_of` gives it, without a look-up where it is the noted one.
@@ -95,12 +112,10 @@ fn noted_number(words: &Words, noted: Option<&usize>, word: &[u8]) -> Option<usi
     ensures some { IfSome result (λ n. is_key_at (keys_of words.now.entries) n word.now ≡ true) }
     ensures none { IfNone result (find word.now words.now.entries ≡ None) }
 {
-    if let Some(number) = noted {
-        if is_word_at(words, *number, word) {
-            return Some(*number);
-        }
+    match noted {
+        Some(number) => number_near(words, *number, word),
+        None => number_of(words, word),
     }
-    number_of(words, word)
 }
 
 /// Makes room for more nodes of the word with this number.
@@ -543,7 +558,8 @@ impl Table {
 
     /// Makes room for so many more nodes and bytes of a word, beside the room that there is. It
     /// gives the last id of the word's nodes, and 0 where it has none, so that one look-up does for
-    /// both.
+    /// both. None is needed where the word was entered just behind the one that room was made for
+    /// last: a batch has its words in byte order, and enters those that are new so.
     pub fn reserve(&mut self, word: &[u8], nodes: usize, bytes: usize) -> Result<DocId, AllocError>
         ensures stay { KeepsNodes self.old self.new word.now }
         ensures room { OnOk result (AddsRoom self.old self.new word.now
@@ -551,8 +567,9 @@ impl Table {
         ensures last { IfOk result (λ last. last ≡ last_of 0 (nodes_in self.old word.now)) }
     {
         self.notes.reserve(1)?;
-        match number_and_last(&self.words, word) {
-            Some((number, last)) => {
+        match number_near(&self.words, next_number(self.notes.back()), word) {
+            Some(number) => {
+                let last = last_at(&self.words, number, word);
                 reserve_at(&mut self.words, number, word, nodes, bytes)?;
                 self.notes.push_back(number).unwrap();
                 Ok(last)

@@ -195,7 +195,7 @@ fn let_go_all(
 fn is_leaving(queue: &PostingQueue, doc: u64) -> bool
     ensures { result ≡ leaves doc queue.now }
 {
-    match queue.docs().doc() {
+    match queue.first() {
         Some(first) => first <= doc,
         None => false,
     }

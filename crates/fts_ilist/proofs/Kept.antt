@@ -52,7 +52,7 @@ few_kept first last count bytes k = omega (arith, k.count_is, few_postings 0 (po
 
 -- ---- the first id
 
-or_first : (ds es : List Posting) (first id : ℕ) → ArePostings ds → first ≡ first_id ds → HasFirstId es id → first_or first id ≡ first_id (ds ++ es)
+pub or_first : (ds es : List Posting) (first id : ℕ) → ArePostings ds → first ≡ first_id ds → HasFirstId es id → first_or first id ≡ first_id (ds ++ es)
 or_first [] [] first id are e has = absurd has
 or_first [] (p ∷ es) first id are e has = ap (λ (w : ℕ). first_or w id) e ∙ sym has
 or_first (d ∷ ds) es first id are e has =

@@ -1,17 +1,19 @@
 -- Documents that come in at the back and leave at the front.
-use Rattle.std.proofs.Common.{◌≡◌, ◌↔◌, ℕ, ◌+◌, ◌-◌, ◌^◌, ◌<◌, ◌≤◌, List, [], ◌∷◌, ◌++◌, length, take, drop, get_or, append_assoc, Bool, cond, refl, sym, ap, subst, ◌∙◌, arith}
+use Rattle.std.proofs.Common.{◌≡◌, ◌↔◌, ◌≢◌, ℕ, ◌+◌, ◌-◌, ◌^◌, ◌<◌, ◌≤◌, List, [], ◌∷◌, ◌++◌, length, take, drop, get_or, append_assoc, Bool, cond, refl, sym, ap, subst, ◌∙◌, arith}
 use Rattle.std.proofs.lemmas.Bool.{lt-ltb, le-ltb}
 use Rattle.std.proofs.lemmas.List.{append-nil, length-drop, drop-append-le, drop_more, length-append}
 use Rattle.fts_ilist.specs.Number.{number_bytes}
-use Rattle.fts_ilist.specs.Spelling.{Posting, items_bytes, list_bytes, position_items, posting_items, postings_items, PositionsFrom, ArePositions, PostingsAfter, id_at_end, HasFirstId}
+use Rattle.fts_ilist.specs.Spelling.{Posting, items_bytes, list_bytes, position_items, posting_items, postings_items, PositionsFrom, ArePositions, PostingsAfter, id_at_end, first_id, HasFirstId}
 use Rattle.fts_ilist.specs.Spelling.Item.{document_end}
 use Rattle.fts_ilist.specs.Reading.{postings_in, IsTail}
-use Rattle.fts_ilist.specs.Progress.{ReadsDocument}
+use Rattle.fts_ilist.specs.Progress.{ReadsDocument, first_or}
 use Rattle.fts_ilist.specs.Queue.{postings_behind, StandsAt, Passes, IsQueue, HoldsBytes}
 use Rattle.fts_ilist.proofs.Codec.{position_fits, id_fits}
 use Rattle.fts_ilist.proofs.Groups.{length_number}
 use Rattle.fts_ilist.proofs.Items.{bytes_append}
-use Rattle.fts_ilist.proofs.Postings.{postings_in-bytes, postings_items-append, id_at_end-append, PostingsAfter-append, after_lower}
+use Rattle.fts_ilist.proofs.Kept.{or_first}
+use Rattle.fts_ilist.proofs.Lists.{id_grows}
+use Rattle.fts_ilist.proofs.Postings.{postings_in-bytes, postings_items-append, id_at_end-append, PostingsAfter-append, after_lower, id_limit}
 use Rattle.fts_ilist.proofs.Reader.{document_bytes}
 use Rattle.fts_ilist.proofs.Tails.{none_left, posting_in, document_step, document_tail}
 
@@ -31,6 +33,31 @@ all_from_first doc id before (p ∷ ps) h has lt =
     let above : doc < p.id = omega (arith, has) in
     ap (λ (b : Bool). cond b (p ∷ postings_behind doc ps) (postings_behind doc ps)) (lt-ltb doc p.id above)
     ∙ ap (λ (w : List Posting). p ∷ w) (all_behind doc p.id ps h.3 (omega arith))
+
+-- all of them, where the first does
+pub all_behind_first : (doc before : ℕ) (ps : List Posting) → PostingsAfter before ps → doc < first_id ps → postings_behind doc ps ≡ ps
+all_behind_first doc before [] h lt = refl
+all_behind_first doc before (p ∷ ps) h lt = all_from_first doc p.id before (p ∷ ps) h refl lt
+
+-- none of them, where the last doesn't
+pub none_behind : (doc before : ℕ) (ps : List Posting) → PostingsAfter before ps → id_at_end before ps ≤ doc → postings_behind doc ps ≡ []
+none_behind doc before [] h le = refl
+none_behind doc before (p ∷ ps) h le =
+    ap (λ (b : Bool). cond b (p ∷ postings_behind doc ps) (postings_behind doc ps)) (le-ltb doc p.id (omega (arith, le, id_grows p.id ps h.3)))
+    ∙ none_behind doc p.id ps h.3 le
+
+-- the first id as it is found
+pub first_found : (id : ℕ) (ps : List Posting) → HasFirstId ps id → id ≡ first_id ps
+first_found id [] has = absurd has
+first_found id (p ∷ ps) has = sym has
+
+pub has_first : (ps : List Posting) → first_id ps ≢ 0 → HasFirstId ps (first_id ps)
+has_first [] some = absurd (some refl)
+has_first (p ∷ ps) some = refl
+
+pub no_first : (before : ℕ) (ps : List Posting) → PostingsAfter before ps → first_id ps ≡ 0 → ps ≡ []
+no_first before [] h e = refl
+no_first before (p ∷ ps) h e = absurd (omega (arith, h.0, e))
 
 -- ---- past the first document
 
@@ -110,37 +137,49 @@ one_more_written ps i next n old out whole lt e written so_far =
 
 -- ---- the calls of a queue
 
-pub record IsQueueOf (bytes : List ℕ) (capacity start before last room : ℕ) (ps : List Posting) : Type 0 where
-  pub is_queue : IsQueue bytes capacity start before last room
+pub record IsQueueOf (bytes : List ℕ) (capacity start before first last room : ℕ) (ps : List Posting) : Type 0 where
+  pub is_queue : IsQueue bytes capacity start before first last room
   pub view : postings_in before (drop start bytes) ≡ ps
 
-pub no_queue : (bytes : List ℕ) (capacity : ℕ) → bytes ≡ [] → IsQueueOf bytes capacity 0 0 0 0 []
-no_queue bytes capacity e =
-    let none : postings_in 0 bytes ≡ [] = none_left 0 bytes (ap length e) in
-    let after : PostingsAfter 0 (postings_in 0 bytes) = subst (PostingsAfter 0) (sym none) tt in
+-- without documents the id before is the last one
+pub no_documents : (bytes : List ℕ) (capacity last room : ℕ) → bytes ≡ [] → last < 2 ^ 63 → room ≤ capacity → IsQueueOf bytes capacity 0 last 0 last room []
+no_documents bytes capacity last room e limit spare =
+    let none : postings_in last bytes ≡ [] = none_left last bytes (ap length e) in
+    let after : PostingsAfter last (postings_in last bytes) = subst (PostingsAfter last) (sym none) tt in
     record {
       is_queue = record {
-        stands = record { within = omega arith; tail = record { limit = omega arith; after = after; spelled = e ∙ ap (λ (w : List Posting). items_bytes (postings_items 0 w)) (sym none) } };
-        last_is = ap (id_at_end 0) (sym none);
-        spare = omega (arith, ap length e);
+        stands = record { within = omega arith; tail = record { limit = limit; after = after; spelled = e ∙ ap (λ (w : List Posting). items_bytes (postings_items last w)) (sym none) } };
+        first_is = ap first_id (sym none);
+        last_is = ap (id_at_end last) (sym none);
+        spare = omega (arith, ap length e, spare);
         lean = omega arith;
       };
       view = none;
     }
 
-pub queue_pushed : (bytes : List ℕ) (capacity start before last room : ℕ) (d : Posting) (new : List ℕ) (more left : ℕ) → IsQueue bytes capacity start before last room
+pub last_fits : (bytes : List ℕ) (capacity start before first last room : ℕ) → IsQueue bytes capacity start before first last room → last < 2 ^ 63
+last_fits bytes capacity start before first last room q =
+    let t = q.stands.tail in
+    omega (arith, q.last_is, id_limit before (postings_in before (drop start bytes)) t.limit t.after)
+
+pub no_queue : (bytes : List ℕ) (capacity : ℕ) → bytes ≡ [] → IsQueueOf bytes capacity 0 0 0 0 0 []
+no_queue bytes capacity e = no_documents bytes capacity 0 0 e (omega arith) (omega arith)
+
+pub queue_pushed : (bytes : List ℕ) (capacity start before first last room : ℕ) (d : Posting) (new : List ℕ) (more left : ℕ) → IsQueue bytes capacity start before first last room
     → last < d.id → d.id < 2 ^ 63 → ArePositions d.positions
     → new ≡ bytes ++ (number_bytes (d.id - last) ++ (items_bytes (position_items 0 d.positions) ++ 0 ∷ []))
     → length new + left ≤ more
-    → IsQueueOf new more start before d.id left (postings_in before (drop start bytes) ++ d ∷ [])
-queue_pushed bytes capacity start before last room d new more left q above limit are written spare =
+    → IsQueueOf new more start before (first_or first d.id) d.id left (postings_in before (drop start bytes) ++ d ∷ [])
+queue_pushed bytes capacity start before first last room d new more left q above limit are written spare =
     let s = q.stands in
+    let old = postings_in before (drop start bytes) in
     let document = number_bytes (d.id - last) ++ (items_bytes (position_items 0 d.positions) ++ 0 ∷ []) in
     let tail : drop start new ≡ drop start bytes ++ document = ap (drop start) written ∙ drop-append-le start bytes document s.within in
     let p = pushed_back before last (drop start bytes) d (drop start new) s.tail q.last_is above limit are tail in
     record {
       is_queue = record {
         stands = record { within = omega (arith, s.within, ap length written, length-append bytes document); tail = p.is_tail };
+        first_is = or_first old (d ∷ []) first d.id (after_lower 0 before old (omega arith) s.tail.after) q.first_is refl ∙ ap first_id (sym p.view);
         last_is = p.last_is ∙ ap (id_at_end before) (sym p.view);
         spare = spare;
         lean = omega (arith, q.lean, ap length written, length-append bytes document);
@@ -149,8 +188,8 @@ queue_pushed bytes capacity start before last room d new more left q above limit
     }
 
 -- no bytes are left exactly where there is no document
-pub empty_queue : (bytes : List ℕ) (capacity start before last room : ℕ) → IsQueue bytes capacity start before last room → (start ≡ length bytes) ↔ (postings_in before (drop start bytes) ≡ [])
-empty_queue bytes capacity start before last room q =
+pub empty_queue : (bytes : List ℕ) (capacity start before first last room : ℕ) → IsQueue bytes capacity start before first last room → (start ≡ length bytes) ↔ (postings_in before (drop start bytes) ≡ [])
+empty_queue bytes capacity start before first last room q =
     let t = q.stands.tail in (
       λ e. none_left before (drop start bytes) (omega (arith, length-drop start bytes)),
       λ none. omega (arith, q.stands.within, length-drop start bytes, ap length t.spelled, ap (λ (w : List Posting). length (items_bytes (postings_items before w))) none),
@@ -166,9 +205,9 @@ spelled_behind a b (p ∷ ps) h k =
     let low : p.id - a < 2 ^ 63 = omega (arith, h.1) in
     omega (arith, length-append (number_bytes (p.id - a)) body, length-append (number_bytes (p.id - b)) body, id_fits (p.id - a) low, length_number (p.id - b))
 
-pub holds_bytes : (bytes : List ℕ) (capacity start before last room : ℕ) → IsQueue bytes capacity start before last room
+pub holds_bytes : (bytes : List ℕ) (capacity start before first last room : ℕ) → IsQueue bytes capacity start before first last room
     → HoldsBytes (length (list_bytes (postings_in before (drop start bytes)))) (length bytes)
-holds_bytes bytes capacity start before last room q =
+holds_bytes bytes capacity start before first last room q =
     let ps = postings_in before (drop start bytes) in
     let t = q.stands.tail in
     let after : PostingsAfter 0 ps = after_lower 0 before ps (omega arith) t.after in

@@ -1,6 +1,6 @@
 -- What contracts see of a queue of documents.
 use Rattle.std.specs.Prelude.{◌≡◌, ℕ, ◌+◌, ◌*◌, ◌<◌, ◌≤◌, List, filter, nat_lt, length, drop}
-use Rattle.fts_ilist.specs.Spelling.{Posting, id_at_end}
+use Rattle.fts_ilist.specs.Spelling.{Posting, id_at_end, first_id}
 use Rattle.fts_ilist.specs.Reading.{postings_in, IsTail}
 use Rattle.fts_ilist.specs.Progress.{ReadsDocument}
 
@@ -37,8 +37,9 @@ pub record Passes (rest : List ℕ) (last doc end id : ℕ) : Type 0 where
   pub end_is : id_at_end last (postings_in last rest) ≡ id_at_end id (postings_in id (drop end rest))
 
 -- the fields of a queue
-pub record IsQueue (bytes : List ℕ) (capacity start before last room : ℕ) : Type 0 where
+pub record IsQueue (bytes : List ℕ) (capacity start before first last room : ℕ) : Type 0 where
   pub stands : StandsAt bytes start before
+  pub first_is : first ≡ first_id (postings_in before (drop start bytes))
   pub last_is : last ≡ id_at_end before (postings_in before (drop start bytes))
   pub spare : length bytes + room ≤ capacity
   -- at most half of the bytes are those of documents that left

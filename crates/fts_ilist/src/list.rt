@@ -82,7 +82,7 @@ impl Model for Ilist {
 }
 
 /// The first id of a list behind whose documents one more comes.
-fn first_with(first: u64, doc: u64) -> u64
+pub(crate) fn first_with(first: u64, doc: u64) -> u64
     ensures { result ≡ first_or first doc }
 {
     if first == 0 { doc } else { first }

@@ -1,10 +1,10 @@
 //! Documents that come in at the back, in room that was made for them, and leave at the front.
 ghost use Rattle.std.specs.Prelude.{◌≡◌, ◌+◌, ◌*◌, ◌^◌, ◌<◌, ◌≤◌, ◌++◌, ◌↔◌, [], ◌∷◌, length};
-ghost use Rattle.std.specs.Prelude.{drop, IsTrue, IfSome, IfNone, OnOk, OnErr, vec_len};
+ghost use Rattle.std.specs.Prelude.{take, drop, IsTrue, IfSome, IfNone, OnOk, OnErr, vec_len};
 ghost use Rattle.std.specs.Prelude.{vec_capacity};
 ghost use Rattle.fts_ilist.specs.Number.{number_bytes};
 ghost use Rattle.fts_ilist.specs.Spelling.{items_bytes, position_items, ArePositions, ArePostings};
-ghost use Rattle.fts_ilist.specs.Spelling.{id_at_end};
+ghost use Rattle.fts_ilist.specs.Spelling.{HasFirstId, first_id, id_at_end};
 ghost use Rattle.fts_ilist.specs.Reading.{postings_in, IsTail};
 ghost use Rattle.fts_ilist.specs.Spelling.{list_bytes};
 ghost use Rattle.fts_ilist.specs.Queue.{Queue, bytes_for, postings_behind, StandsAt, Passes};
@@ -12,6 +12,7 @@ ghost use Rattle.fts_ilist.specs.Queue.{HoldsBytes};
 ghost use Rattle.fts_ilist.specs.Cursor.{postings_until};
 
 use crate::cursor::Cursor;
+use crate::list::first_with;
 use crate::number::front_number;
 use crate::reading::{LAST_ID, body_len};
 use crate::writing::{bytes_for_document, put_posting};
@@ -34,6 +35,9 @@ pub struct PostingQueue {
     start: usize,
     // The id of the last document that left, or 0.
     before: u64,
+    // The id of the first document that is still in, or 0: who asks whether one leaves doesn't look
+    // into the bytes.
+    first: u64,
     // The id of the last document that came in, or 0.
     last: u64,
     // How many bytes were promised to documents that are still to come.
@@ -54,8 +58,8 @@ impl Model for PostingQueue {
       room = q.room;
     } };
 
-    ghost invariant = { λ q. IsQueue q.bytes.items (vec_capacity q.bytes) q.start q.before q.last
-        q.room };
+    ghost invariant = { λ q. IsQueue q.bytes.items (vec_capacity q.bytes) q.start q.before q.first
+        q.last q.room };
 }
 
 /// The place behind the documents up to `doc`, of those from a place on, and the id before it.
@@ -95,13 +99,26 @@ pub(crate) fn next_until(rest: &[u8], last: u64, doc: u64) -> Option<(usize, u64
     Some((len + body_len(&rest[len..]), id))
 }
 
+/// The id of the first document of these bytes behind an id, or 0 where there is none.
+fn first_in(bytes: &[u8], last: u64) -> u64
+    requires { IsTail last bytes.now }
+    ensures { result ≡ first_id (postings_in last bytes.now) }
+{
+    match Cursor::new(last, bytes).doc() {
+        Some(first) => first,
+        None => 0,
+    }
+}
+
 /// Takes the first `count` bytes out. The capacity stays.
 fn cut_front(bytes: &mut Vec<u8>, count: usize)
     requires { count ≤ vec_len bytes.old }
     ensures items { bytes.new.items ≡ drop count bytes.old.items }
     ensures capacity { vec_capacity bytes.new ≡ vec_capacity bytes.old }
 {
-    bytes.drain(..count);
+    let left = bytes.len() - count;
+    bytes.copy_within(count.., 0);
+    bytes.truncate(left);
 }
 
 /// Gives memory back where more than half of it would stay empty beside the room: what leaves a
@@ -126,6 +143,7 @@ impl PostingQueue {
             bytes: Vec::new(alloc),
             start: 0,
             before: 0,
+            first: 0,
             last: 0,
             room: 0,
         }
@@ -136,6 +154,21 @@ impl PostingQueue {
         ensures { IsTrue result ↔ (self.now.postings ≡ []) }
     {
         self.start == self.bytes.len()
+    }
+
+    /// The id of the first document, and None where there is none. It takes constant time, and no
+    /// look at the documents.
+    #[inline]
+    pub fn first(&self) -> Option<u64>
+        ensures none { IfNone result (self.now.postings ≡ []) }
+        ensures first { IfSome result (HasFirstId self.now.postings) }
+        ensures are { ArePostings self.now.postings }
+    {
+        if self.first == 0 {
+            None
+        } else {
+            Some(self.first)
+        }
     }
 
     /// The documents, by ascending ids. They are read in place, and no memory is taken.
@@ -198,19 +231,47 @@ impl PostingQueue {
         ensures room { self.new.room + bytes_for (length positions.now) ≡ self.old.room }
     {
         put_posting(&mut self.bytes, doc - self.last, positions);
+        self.first = first_with(self.first, doc);
         self.last = doc;
         self.room -= bytes_for_document(positions.len());
     }
 
-    /// Takes the documents up to `doc` out. It takes time for them alone, and for the bytes behind
-    /// them only where these are at most four times as many as those that left before.
+    /// Takes the documents up to `doc` out. Where none leaves, or all, it takes constant time; else
+    /// time for those that leave, and for the bytes behind them only where these are at most twice
+    /// as many as those that left before.
     pub fn drop_until(&mut self, doc: u64)
         ensures { self.new ≡ record self.old { postings = postings_behind doc self.old.postings } }
     {
+        if self.first > doc {
+            return;
+        }
+        if self.last <= doc {
+            self.clear();
+            return;
+        }
+        self.cut_until(doc);
+    }
+
+    /// Takes all documents out.
+    fn clear(&mut self)
+        ensures { self.new ≡ record self.old { postings = [] } }
+    {
+        self.bytes.clear();
+        self.start = 0;
+        self.before = self.last;
+        self.first = 0;
+        give_back(&mut self.bytes, self.room);
+    }
+
+    /// Takes the documents up to `doc` out, which it walks over.
+    fn cut_until(&mut self, doc: u64)
+        ensures { self.new ≡ record self.old { postings = postings_behind doc self.old.postings } }
+    {
         let (start, before) = place_behind(&self.bytes, self.start, self.before, doc);
+        self.first = first_in(&self.bytes[start..], before);
         self.start = start;
         self.before = before;
-        if start > (self.bytes.len() - start) / 4 {
+        if start > (self.bytes.len() - start) / 2 {
             cut_front(&mut self.bytes, start);
             self.start = 0;
             give_back(&mut self.bytes, self.room);

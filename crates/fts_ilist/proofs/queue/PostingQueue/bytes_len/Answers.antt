@@ -9,4 +9,4 @@ returns c =
     let i = c.self.inside in
     subst (λ n. HoldsBytes (length (list_bytes c.args.self.now.postings)) n) (sym (c.len.ensures ∙ i.bytes.ok.0))
     (subst (λ (q : Queue). HoldsBytes (length (list_bytes q.postings)) (length i.bytes.items)) c.self.view_is
-    (holds_bytes i.bytes.items _ i.start i.before i.last i.room c.self.invariant))
+    (holds_bytes i.bytes.items _ i.start i.before i.first i.last i.room c.self.invariant))

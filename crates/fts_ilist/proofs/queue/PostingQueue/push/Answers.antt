@@ -1,5 +1,6 @@
-use Rattle.std.proofs.Common.{◌+◌, ◌-◌, ◌≤◌, ◌<◌, ◌^◌, ◌++◌, ◌∷◌, [], length, vec_capacity, arith, ap, ◌∙◌}
+use Rattle.std.proofs.Common.{ℕ, ◌+◌, ◌-◌, ◌≤◌, ◌<◌, ◌^◌, ◌++◌, ◌∷◌, [], length, vec_capacity, arith, sym, ap, subst, ◌∙◌}
 use Rattle.fts_ilist.specs.Spelling.{Posting}
+use Rattle.fts_ilist.specs.Queue.{IsQueue}
 use Rattle.fts_ilist.proofs.Queues.{queue_pushed, few_positions}
 use Rattle.fts_ilist.proofs.queue.PostingQueue.push.Goals as goal
 
@@ -15,7 +16,8 @@ invariant_of-self c =
     let room = ap (λ q. q.room) c.self.view_is in
     let spare : length c.put_posting.new.out.items + (i.room - c.bytes_for_document.result) ≤ vec_capacity c.put_posting.new.out
     = omega (arith, room, c.put_posting.ensures.len, c.put_posting.ensures.capacity, c.self.invariant.spare, c.bytes_for_document.ensures, c.requires.room) in
-    (queue_pushed i.bytes.items _ i.start i.before i.last i.room d c.put_posting.new.out.items _ _ c.self.invariant above limit c.requires.positions c.put_posting.ensures.items spare).is_queue
+    subst (λ (first : ℕ). IsQueue c.put_posting.new.out.items (vec_capacity c.put_posting.new.out) i.start i.before first c.args.doc (i.room - c.bytes_for_document.result)) (sym c.first_with-self-inside.ensures)
+    (queue_pushed i.bytes.items _ i.start i.before i.first i.last i.room d c.put_posting.new.out.items _ _ c.self.invariant above limit c.requires.positions c.put_posting.ensures.items spare).is_queue
 
 pub returns-clause-postings : goal.returns-clause-postings
 returns-clause-postings c =
@@ -26,5 +28,5 @@ returns-clause-postings c =
     let room = ap (λ q. q.room) c.self.view_is in
     let spare : length c.put_posting.new.out.items + (i.room - c.bytes_for_document.result) ≤ vec_capacity c.put_posting.new.out
     = omega (arith, room, c.put_posting.ensures.len, c.put_posting.ensures.capacity, c.self.invariant.spare, c.bytes_for_document.ensures, c.requires.room) in
-    (queue_pushed i.bytes.items _ i.start i.before i.last i.room d c.put_posting.new.out.items _ _ c.self.invariant above limit c.requires.positions c.put_posting.ensures.items spare).view
+    (queue_pushed i.bytes.items _ i.start i.before i.first i.last i.room d c.put_posting.new.out.items _ _ c.self.invariant above limit c.requires.positions c.put_posting.ensures.items spare).view
     ∙ ap (λ q. q.postings ++ d ∷ []) c.self.view_is
