@@ -1,5 +1,5 @@
 -- Nodes that lie one behind the other in one run of bytes.
-use Rattle.std.proofs.Common.{◌≡◌, ℕ, zero, suc, ◌+◌, ◌-◌, ◌≤◌, ◌<◌, ◌^◌, List, [], ◌∷◌, ◌++◌, Some, slice_get, length, take, drop, refl, sym, ap, subst, ◌∙◌, append_assoc, arith}
+use Rattle.std.proofs.Common.{◌≡◌, ℕ, zero, suc, ◌-◌, ◌≤◌, ◌<◌, ◌^◌, List, [], ◌∷◌, ◌++◌, Some, slice_get, length, take, drop, refl, sym, ap, subst, ◌∙◌, append_assoc, arith}
 use Rattle.std.proofs.lemmas.List.{take-append-le, drop-append-le, length-append}
 use Rattle.std.proofs.Math.Seq.{take-length, drop-length, drop-append_seam}
 use Rattle.fts_ilist.specs.Number.{number_bytes}

@@ -1,5 +1,5 @@
 -- Documents up to an id, as their bytes stand.
-use Rattle.std.proofs.Common.{◌≡◌, ℕ, ◌+◌, ◌-◌, ◌^◌, ◌<◌, ◌≤◌, Bool, cond, if◌then◌else◌, List, [], ◌∷◌, ◌++◌, length, take, drop, append_assoc, refl, sym, ap, ap₂, subst, ◌∙◌, arith}
+use Rattle.std.proofs.Common.{◌≡◌, ◌≢◌, ℕ, ◌+◌, ◌-◌, ◌^◌, ◌<◌, ◌≤◌, Bool, cond, if◌then◌else◌, List, [], ◌∷◌, ◌++◌, length, take, drop, append_assoc, refl, sym, ap, ap₂, subst, ◌∙◌, arith}
 use Rattle.std.proofs.lemmas.Bool.{lt-leb, le-leb, ne_eqb}
 use Rattle.std.proofs.lemmas.List.{append-nil, length-append, length-drop, take_at, drop_at, drop-drop, take-append-drop}
 use Rattle.std.proofs.lemmas.List.Elements.{filter-append}
@@ -10,12 +10,16 @@ use Rattle.fts_ilist.specs.Reading.{postings_in, IsTail, IsKept}
 use Rattle.fts_ilist.specs.Progress.{EndsBody, ReadsDocument, first_or}
 use Rattle.fts_ilist.specs.Cursor.{postings_until, postings_at, IsInside, IsSpan}
 use Rattle.fts_ilist.specs.Queue.{Passes}
+use Rattle.fts_ilist.specs.Node.{head_size}
 use Rattle.fts_ilist.proofs.Codec.{id_fits}
 use Rattle.fts_ilist.proofs.Cursors.{inside_gives}
 use Rattle.fts_ilist.proofs.Kept.{kept_more, few_kept}
 use Rattle.fts_ilist.proofs.Lists.{IsMade, empty_made, pushed, id_grows}
 use Rattle.fts_ilist.proofs.Postings.{no_postings_in}
 use Rattle.fts_ilist.proofs.Tails.{document_first}
+
+no_cons : {p : Posting} {ps : List Posting} → p ∷ ps ≡ [] → ⊥
+no_cons e = absurd cc
 
 -- ---- which documents stand up to an id
 
@@ -38,6 +42,23 @@ none_at_first doc id bytes some c past =
     let p : Posting = record { id = id; positions = c.positions } in
     ap (postings_until doc) (inside_gives id bytes some c)
     ∙ none_from_first doc id 0 (p ∷ postings_in id c.behind) (some, c.limit, c.are_positions, c.tail.after) refl past
+
+-- the first document, where it is not, and those behind it
+first_until : (doc id : ℕ) (bytes : List ℕ) → 0 < id → (c : IsInside id bytes) → id ≤ doc
+    → postings_until doc (postings_at id bytes) ≡ record { id = id; positions = c.positions } ∷ postings_until doc (postings_in id c.behind)
+first_until doc id bytes some c up_to =
+    let p : Posting = record { id = id; positions = c.positions } in
+    let left = postings_until doc (postings_in id c.behind) in
+    ap (postings_until doc) (inside_gives id bytes some c)
+    ∙ ap (λ (b : Bool). cond b (p ∷ left) left) (le-leb id doc up_to)
+
+pub some_until : (doc id : ℕ) (bytes : List ℕ) → 0 < id → IsInside id bytes → id ≤ doc → postings_until doc (postings_at id bytes) ≢ []
+some_until doc id bytes some c up_to none = no_cons (sym (first_until doc id bytes some c up_to) ∙ none)
+
+pub head_until : (doc id : ℕ) (bytes : List ℕ) (head : ℕ) → 0 < id → IsInside id bytes → id ≤ doc → EndsBody bytes head
+    → head ≡ head_size (postings_until doc (postings_at id bytes))
+head_until doc id bytes head some c up_to ends =
+    ends c.positions c.behind c.are_positions c.body ∙ ap head_size (sym (first_until doc id bytes some c up_to))
 
 -- all, where the last does
 pub all_until : (doc low : ℕ) (ps : List Posting) → PostingsAfter low ps → id_at_end low ps ≤ doc → postings_until doc ps ≡ ps

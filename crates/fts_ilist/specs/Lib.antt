@@ -12,3 +12,4 @@ pub mod Node
 pub mod Packing
 pub mod NodeList
 pub mod Group
+pub mod Held

@@ -1,19 +1,22 @@
 //! The one reader of lists that are known to be right: it stands at a document, and goes on from
 //! there.
-ghost use Rattle.std.specs.Prelude.{◌≡◌, ◌+◌, ◌<◌, ◌≤◌, ◌++◌, List, [], drop, length, map, IfNone};
-ghost use Rattle.std.specs.Prelude.{IfSome, IfOk};
+ghost use Rattle.std.specs.Prelude.{◌≡◌, ◌≢◌, ◌+◌, ◌<◌, ◌≤◌, ◌++◌, List, [], drop, length, map};
+ghost use Rattle.std.specs.Prelude.{IfSome, IfNone, IfOk};
 ghost use Rattle.std.specs.Vec.{vec_len, vec_capacity};
 ghost use Rattle.std.specs.Iterator.{YieldsFirst, item_count};
+ghost use Rattle.fts_ilist.specs.Number.{number_bytes};
 ghost use Rattle.fts_ilist.specs.Spelling.{HasFirstId};
+ghost use Rattle.fts_ilist.specs.Node.{head_size};
 ghost use Rattle.fts_ilist.specs.Reading.{postings_in, IsTail};
 ghost use Rattle.fts_ilist.specs.Cursor.{postings_from, postings_until, first_positions, IsBelow};
-ghost use Rattle.fts_ilist.specs.Cursor.{IsInside, IsSpan};
+ghost use Rattle.fts_ilist.specs.Cursor.{postings_at, IsInside, IsSpan};
 
 use crate::documents::{Document, Positions};
-use crate::list::Ilist;
-use crate::number::{front_number, number_len, put_in_room};
+use crate::node::{HeldBytes, INLINE, Node};
+use crate::number::{NUMBER_ROOM, front_number, put_number};
 use crate::queue::next_until;
 use crate::reading::body_len;
+use smallvec::SmallVec;
 use std::alloc::{AllocError, Global};
 use std::iter::FusedIterator;
 use std::marker::Model;
@@ -41,10 +44,11 @@ impl<'a> Model for Cursor<'a> {
     ghost invariant = { λ c. IsCursor c.id c.rest.now };
 }
 
-/// Documents of a cursor, from the one at which it stands on: how many bytes spell them behind its
-/// id, the last of their ids, and their number.
+/// Documents of a cursor, from the one at which it stands on: how many bytes spell the first of
+/// them behind its id, how many all of them, the last of their ids, and their number.
 #[derive(Clone, Copy)]
 struct Span {
+    head: usize,
     len: usize,
     last: u64,
     count: usize,
@@ -55,9 +59,12 @@ fn span_until(id: u64, bytes: &[u8], doc: u64) -> Span
     requires positive { 0 < id }
     requires stands { IsInside id bytes.now }
     requires up_to { id ≤ doc }
-    ensures { IsSpan id bytes.now doc result.len result.last result.count }
+    ensures some { postings_until doc (postings_at id bytes.now) ≢ [] }
+    ensures head { result.head ≡ head_size (postings_until doc (postings_at id bytes.now)) }
+    ensures span { IsSpan id bytes.now doc result.len result.last result.count }
 {
-    let mut len = body_len(bytes);
+    let head = body_len(bytes);
+    let mut len = head;
     let mut last = id;
     let mut count = 1;
     while let Some((end, next)) = next_until(&bytes[len..], last, doc) {
@@ -65,7 +72,24 @@ fn span_until(id: u64, bytes: &[u8], doc: u64) -> Span
         last = next;
         count += 1;
     }
-    Span { len, last, count }
+    Span {
+        head,
+        len,
+        last,
+        count,
+    }
+}
+
+/// The bytes of a list: those of its first id, and those that spell the documents behind it.
+fn spelled(alloc: Global, first: u64, behind: &[u8]) -> Result<SmallVec<u8, INLINE>, AllocError>
+    ensures { IfOk result (λ bytes. bytes.items ≡ number_bytes first ++ behind.now) }
+{
+    let mut number = [0; NUMBER_ROOM];
+    let len = put_number(first, &mut number);
+    let mut bytes = SmallVec::with_capacity(alloc, len + behind.len())?;
+    bytes.extend_from_slice(&number[..len])?;
+    bytes.extend_from_slice(behind)?;
+    Ok(bytes)
 }
 
 impl<'a> Cursor<'a> {
@@ -154,27 +178,29 @@ impl<'a> Cursor<'a> {
         }
     }
 
-    /// The documents up to `doc`, from the one at which it stands on, as a list of their own. Their
-    /// bytes are copied as they stand, and the list takes no more memory than these.
-    pub fn list_until(&self, alloc: Global, doc: u64) -> Result<Ilist, AllocError>
-        ensures { IfOk result (λ list. list ≡ postings_until doc self.now) }
+    /// The documents up to `doc`, from the one at which it stands on, as a node of their own, where
+    /// there is one. Their bytes are copied as they stand, and the node takes no more memory than
+    /// these.
+    pub fn node_until<'n>(&self, alloc: Global, doc: u64) -> Result<Option<Node<'n>>, AllocError>
+        ensures some { IfOk result
+            (λ found. IfSome found (λ node. node ≡ postings_until doc self.now)) }
+        ensures none { IfOk result (λ found. IfNone found (postings_until doc self.now ≡ [])) }
     {
         if self.id == 0 {
-            return Ok(Ilist::new(alloc));
+            return Ok(None);
         }
         if self.id > doc {
-            return Ok(Ilist::new(alloc));
+            return Ok(None);
         }
         let span = span_until(self.id, self.rest, doc);
-        let mut bytes = Vec::with_capacity(alloc, number_len(self.id) + span.len)?;
-        put_in_room(&mut bytes, self.id);
-        bytes.extend_from_slice(&self.rest[..span.len]).unwrap();
-        Ok(Ilist {
-            bytes,
+        let bytes = spelled(alloc, self.id, &self.rest[..span.len])?;
+        Ok(Some(Node {
+            bytes: HeldBytes::Own { bytes },
             first: self.id,
             last: span.last,
             count: span.count,
-        })
+            head: span.head,
+        }))
     }
 
     /// Whether it stands at a document below `id`.

@@ -5,6 +5,7 @@ ghost use Rattle.fts_ilist.specs.Spelling.{Posting, ArePostings, HasFirstId, las
 ghost use Rattle.fts_ilist.specs.Node.{body_size, head_size};
 ghost use Rattle.fts_ilist.specs.Packing.{is_sound};
 ghost use Rattle.fts_ilist.specs.Group.{held_nodes};
+ghost use Rattle.fts_ilist.specs.Held.{held_bytes};
 
 use crate::cursor::Cursor;
 use crate::documents::Document;
@@ -12,36 +13,58 @@ use crate::list::{Ilist, first_of};
 use crate::node_list::NodeRef;
 use crate::reading::last_of;
 use fts_types::{DocId, Word};
+use smallvec::SmallVec;
 use std::alloc::{AllocError, Global};
-use std::borrow::CowSlice;
 use std::marker::Model;
 use std::{mem, slice};
+
+/// How many bytes of a node stand in the node itself. Most nodes of a batch have no more.
+pub(crate) const INLINE: usize = 24;
+
+/// Bytes that are a node's own, or lent.
+#[derive(Drop)]
+pub(crate) enum HeldBytes<'a> {
+    Own { bytes: SmallVec<u8, INLINE> },
+    Lent { bytes: &'a [u8] },
+}
+
+impl<'a> HeldBytes<'a> {
+    /// The bytes.
+    fn as_slice(&self) -> &[u8]
+        ensures { result.now ≡ held_bytes self.now }
+    {
+        match self {
+            HeldBytes::Own { bytes } => bytes.as_slice(),
+            HeldBytes::Lent { bytes } => bytes,
+        }
+    }
+}
 
 /// A row of an auxiliary table: the position list of some documents that have a word, the first and
 /// the last of their ids, and their number. Its bytes are its own, or lent.
 #[derive(Drop)]
 pub struct Node<'a> {
-    bytes: CowSlice<'a, u8, Global>,
-    first: u64,
-    last: u64,
+    pub(crate) bytes: HeldBytes<'a>,
+    pub(crate) first: u64,
+    pub(crate) last: u64,
     // The number of documents.
-    count: usize,
+    pub(crate) count: usize,
     // The bytes of the first document behind its id.
-    head: usize,
+    pub(crate) head: usize,
 }
 
 impl<'a> Model for Node<'a> {
     ghost use Rattle.std.specs.Prelude.{List};
-    ghost use Rattle.std.specs.Cow.{cow_slice_items};
     ghost use Rattle.fts_ilist.specs.Spelling.{Posting};
     ghost use Rattle.fts_ilist.specs.Reading.{postings_in};
     ghost use Rattle.fts_ilist.specs.NodeList.{IsNode};
+    ghost use Rattle.fts_ilist.specs.Held.{held_bytes};
 
     ghost Value = { List Posting };
 
-    ghost view = { λ n. postings_in 0 (cow_slice_items n.bytes) };
+    ghost view = { λ n. postings_in 0 (held_bytes n.bytes) };
 
-    ghost invariant = { λ n. IsNode n.first n.last n.count n.head (cow_slice_items n.bytes) };
+    ghost invariant = { λ n. IsNode n.first n.last n.count n.head (held_bytes n.bytes) };
 }
 
 /// The number of bytes of a document behind its id.
@@ -76,7 +99,9 @@ impl<'a> Node<'a> {
             count,
         } = list;
         Node {
-            bytes: CowSlice::Owned(bytes),
+            bytes: HeldBytes::Own {
+                bytes: SmallVec::from_vec(bytes),
+            },
             first,
             last,
             count,
@@ -99,7 +124,7 @@ impl<'a> Node<'a> {
                 let first = first_of(bytes);
                 let head = head_of(Cursor::new(0, bytes));
                 Some(Node {
-                    bytes: CowSlice::Borrowed(bytes),
+                    bytes: HeldBytes::Lent { bytes },
                     first,
                     last,
                     count,
@@ -191,6 +216,7 @@ impl<'a> Model for NodeGroup<'a> {
     ghost use Rattle.std.specs.Prelude.{List};
     ghost use Rattle.fts_ilist.specs.Node.{Docs};
     ghost use Rattle.fts_ilist.specs.Group.{held_nodes};
+ghost use Rattle.fts_ilist.specs.Held.{held_bytes};
 
     ghost Value = { List Docs };
 

@@ -183,6 +183,17 @@ pub fn pack(alloc: Global, docs: Cursor<'_>) -> Result<Vec<Ilist>, AllocError>
     packing_of(alloc, docs)?.finish()
 }
 
+/// A node as packing makes nodes of its documents: mostly it is the only one.
+fn packed_anew<'n>(alloc: Global, node: Node<'n>) -> Result<NodeGroup<'n>, AllocError>
+    requires { node ≢ [] }
+    ensures { IfOk result (λ nodes. nodes ≡ packed node.entry) }
+{
+    if node.bytes().len() <= NODE_LIMIT {
+        return Ok(NodeGroup::one(node));
+    }
+    packing_of(alloc, node.cursor())?.nodes()
+}
+
 /// The nodes of the documents up to `doc`. Where these fit one node, as most do, their bytes are
 /// copied as they stand.
 pub fn pack_until<'n>(
@@ -192,12 +203,8 @@ pub fn pack_until<'n>(
 ) -> Result<NodeGroup<'n>, AllocError>
     ensures { IfOk result (λ nodes. nodes ≡ packed (postings_until doc docs.entry)) }
 {
-    let list = docs.list_until(alloc, doc)?;
-    if list.is_empty() {
-        return Ok(NodeGroup::new(alloc));
+    match docs.node_until(alloc, doc)? {
+        Some(node) => packed_anew(alloc, node),
+        None => Ok(NodeGroup::new(alloc)),
     }
-    if list.bytes().len() <= NODE_LIMIT {
-        return Ok(NodeGroup::one(Node::new(list)));
-    }
-    packing_of(alloc, list.docs())?.nodes()
 }

@@ -1,4 +1,4 @@
-use Rattle.std.proofs.Common.{◌≡◌, ◌+◌, length, nat_le, sym, ap, ◌∙◌}
+use Rattle.std.proofs.Common.{◌+◌, length, nat_le, sym, ap, ◌∙◌}
 use Rattle.fts_ilist.specs.Number.{number_bytes}
 use Rattle.fts_ilist.specs.Packing.{node_size}
 use Rattle.fts_ilist.proofs.Loose.{size_kept, takes_none}

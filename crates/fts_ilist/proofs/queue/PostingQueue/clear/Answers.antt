@@ -1,4 +1,4 @@
-use Rattle.std.proofs.Common.{◌≡◌, ◌+◌, ◌^◌, ◌<◌, ◌≤◌, [], List, length, vec_len, vec_capacity, arith, ap, ◌∙◌}
+use Rattle.std.proofs.Common.{◌≡◌, ◌^◌, ◌<◌, [], List, vec_capacity, arith, ap, ◌∙◌}
 use Rattle.fts_ilist.specs.Spelling.{Posting}
 use Rattle.fts_ilist.specs.Queue.{Queue}
 use Rattle.fts_ilist.proofs.Queues.{no_documents, last_fits}

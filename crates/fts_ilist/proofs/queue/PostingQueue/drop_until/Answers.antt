@@ -1,4 +1,4 @@
-use Rattle.std.proofs.Common.{◌≡◌, ◌≤◌, List, [], arith, sym, ap, ◌∙◌}
+use Rattle.std.proofs.Common.{List, arith, sym, ap, ◌∙◌}
 use Rattle.fts_ilist.specs.Spelling.{Posting}
 use Rattle.fts_ilist.specs.Queue.{Queue, postings_behind}
 use Rattle.fts_ilist.proofs.Queues.{all_behind_first, none_behind}
