@@ -216,7 +216,6 @@ impl<'a> Model for NodeGroup<'a> {
     ghost use Rattle.std.specs.Prelude.{List};
     ghost use Rattle.fts_ilist.specs.Node.{Docs};
     ghost use Rattle.fts_ilist.specs.Group.{held_nodes};
-ghost use Rattle.fts_ilist.specs.Held.{held_bytes};
 
     ghost Value = { List Docs };
 
