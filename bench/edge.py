@@ -661,16 +661,18 @@ def script_over(room, toolchain):
     if toolchain:
         room.put(f"#!/bin/sh\n{toolchain}\n".encode(), "tools/rt")
         os.chmod(room.at("tools/rt"), 0o755)
-    return {"env": {**os.environ, "PATH": tools}, "cwd": room.path, "stdin": subprocess.DEVNULL}
+    env = {**os.environ, "PATH": tools}
+    env.pop("GLIBC_TUNABLES", None)
+    return {"env": env, "cwd": room.path, "stdin": subprocess.DEVNULL}
 
 
-# A toolchain that makes a program which tells its words and ends with 7, and that waits for another one at `high`.
+# A toolchain that makes a program which tells its words and its tunables and ends with 7, and that waits for another one at `high`.
 MADE_UP = """
 [ "$1" = run ] || case $PWD in
 */high) echo "rt: high: another copy of the repository is building this library; waiting for it, at most" >&2; exit 0 ;;
 *) exit 0 ;;
 esac
-printf '#!/bin/sh\\n[ $# -eq 0 ] && echo "fts: usage: .." >&2\\necho "$*"\\nexit 7\\n' >out/fts
+printf '#!/bin/sh\\n[ $# -eq 0 ] && echo "fts: usage: .." >&2\\necho "$* $GLIBC_TUNABLES"\\nexit 7\\n' >out/fts
 chmod +x out/fts
 exec out/fts
 """
@@ -683,10 +685,20 @@ def script_tells_how_far_the_build_is(room):
     wanted = ["building the program, which takes minutes the first time", "proving low, left: 2"]
     wanted += ["proving high, left: 1", "another build holds high; waiting for it to end", "proving fts, left: 0"]
     same(ran.stderr.splitlines(), ["fts: " + it for it in wanted], "the lines")
-    same((ran.returncode, ran.stdout), (7, "a b c\n"), "status and output")
+    same((ran.returncode, ran.stdout), (7, "a b c glibc.malloc.hugetlb=1\n"), "status and output")
     again = subprocess.run([room.at("tree/fts")], capture_output=True, text=True, **how)
     same((again.returncode, again.stderr), (7, "fts: usage: ..\n"), "a second start")
     return " | ".join(wanted)
+
+
+@case
+def script_keeps_tunables(room):
+    how = script_over(room, MADE_UP)
+    for tunables in ("glibc.malloc.hugetlb=0", ""):
+        how["env"]["GLIBC_TUNABLES"] = tunables
+        ran = subprocess.run([room.at("tree/fts"), "x"], capture_output=True, text=True, **how)
+        same((ran.returncode, ran.stdout), (7, f"x {tunables}\n"), "status and output")
+    return "those that were set, an empty text too"
 
 
 @case

@@ -9,6 +9,8 @@
 //!   lists of its words, looks these up in the tables, writes its entry, and cuts the cache's lists;
 //! - `apart-once`: the same, but a batch writes its entry at once, the tables take the lists from
 //!   there, and the places of the cuts are kept, so that no list is walked twice;
+//! - `apart-sorted`: as `apart`, but the words of the tables are sorted where a quarter of them came
+//!   since, and a batch tries the three places behind its last word's before it looks one up;
 //! - `joined`: one dictionary, whose words have both what is cached and their nodes;
 //! - `joined-once`: one dictionary, and an entry that is written at once.
 //!
@@ -163,6 +165,29 @@ impl Queue {
         out.extend_from_slice(&self.bytes[place..cut.at]);
     }
 
+    fn list_until(&self, cut: Cut) -> List {
+        let (first, place) = self.first();
+        let rest = &self.bytes[place..cut.at];
+        let mut few = [0; 24];
+        let mut at = 0;
+        for shift in [14, 7] {
+            if first >> shift > 0 {
+                few[at] = (first >> shift & 127) as u8;
+                at += 1;
+            }
+        }
+        few[at] = (first & 127) as u8 | 128;
+        at += 1;
+        if at + rest.len() > few.len() {
+            let mut many = Vec::with_capacity(at + rest.len());
+            many.extend_from_slice(&few[..at]);
+            many.extend_from_slice(rest);
+            return List::Many(many);
+        }
+        few[at..at + rest.len()].copy_from_slice(rest);
+        List::Few(few, at + rest.len())
+    }
+
     fn drop_until(&mut self, cut: Cut) {
         (self.start, self.before) = (cut.at, cut.last);
         let rest = self.bytes.len() - cut.at;
@@ -203,11 +228,26 @@ impl Run {
     }
 }
 
+/// Bytes that lie in their own value where they are few, as in the program.
+enum List {
+    Few([u8; 24], usize),
+    Many(Vec<u8>),
+}
+
+impl List {
+    fn bytes(&self) -> &[u8] {
+        match self {
+            List::Few(bytes, len) => &bytes[..*len],
+            List::Many(bytes) => bytes,
+        }
+    }
+}
+
 /// A word of a batch, with a list of its own, or with the place of its list in the entry.
 struct Part {
     word: Word,
     slot: u32,
-    list: Vec<u8>,
+    list: List,
     place: std::ops::Range<usize>,
     cut: Cut,
 }
@@ -221,7 +261,7 @@ fn put_head(entry: &mut Vec<u8>, word: &Word, size: usize) {
 /// The documents of a word up to one: copied, or written into the entry at once.
 fn part_of(word: Word, slot: u32, queue: &Queue, doc: u64, entry: Option<&mut Vec<u8>>) -> Part {
     let cut = queue.cut(doc);
-    let mut list = Vec::new();
+    let mut list = List::Few([0; 24], 0);
     let mut place = 0..0;
     if let Some(entry) = entry {
         put_head(entry, &word, 0);
@@ -231,8 +271,7 @@ fn part_of(word: Word, slot: u32, queue: &Queue, doc: u64, entry: Option<&mut Ve
         entry[start - 4..start].copy_from_slice(&size.to_be_bytes());
         place = start..entry.len();
     } else {
-        list.reserve_exact(cut.at - queue.start + 4);
-        queue.put_until(cut, &mut list);
+        list = queue.list_until(cut);
     }
     Part { word, slot, list, place, cut }
 }
@@ -240,7 +279,7 @@ fn part_of(word: Word, slot: u32, queue: &Queue, doc: u64, entry: Option<&mut Ve
 impl Part {
     fn list<'a>(&'a self, entry: &'a [u8]) -> &'a [u8] {
         if self.place.is_empty() {
-            &self.list
+            self.list.bytes()
         } else {
             &entry[self.place.clone()]
         }
@@ -252,11 +291,12 @@ fn entry_of(entry: Vec<u8>, parts: &[Part]) -> Vec<u8> {
     if !entry.is_empty() {
         return entry;
     }
-    let size = parts.iter().map(|part| 5 + part.word.len as usize + part.list.len()).sum();
-    let mut entry = Vec::with_capacity(size);
+    let size_of = |part: &Part| 5 + part.word.len as usize + part.list.bytes().len();
+    let mut entry = Vec::with_capacity(parts.iter().map(size_of).sum());
     for part in parts {
-        put_head(&mut entry, &part.word, part.list.len());
-        entry.extend_from_slice(&part.list);
+        let list = part.list.bytes();
+        put_head(&mut entry, &part.word, list.len());
+        entry.extend_from_slice(list);
     }
     entry
 }
@@ -281,6 +321,7 @@ struct Cached {
 #[derive(Default)]
 struct Apart {
     once: bool,
+    sorts: bool,
     numbers: Map<u32>,
     slots: Vec<Cached>,
     vacant: Vec<u32>,
@@ -288,6 +329,8 @@ struct Apart {
     order: BTreeMap<Word, u32>,
     places: Map<u32>,
     tables: Vec<(Word, Run)>,
+    // How many words the tables had when they were sorted.
+    sorted: usize,
     table_order: BTreeSet<Word>,
     // The numbers of each cached mail's words.
     notes: VecDeque<Vec<u32>>,
@@ -308,7 +351,29 @@ impl Apart {
         number
     }
 
-    fn place_of(&mut self, word: Word) -> usize {
+    fn sort_tables(&mut self) {
+        if !self.sorts || self.tables.len() <= self.sorted + self.sorted / 4 {
+            return;
+        }
+        self.tables.sort_unstable_by_key(|(word, _)| *word);
+        for (place, (word, _)) in self.tables.iter().enumerate() {
+            self.places.insert(*word, place as u32);
+        }
+        self.sorted = self.tables.len();
+    }
+
+    /// The place of a word of the tables, which is mostly one of the first behind the last word's.
+    fn place_near(&self, last: usize, word: &Word) -> Option<usize> {
+        let end = self.tables.len().min(last + 4);
+        (last + 1..end).find(|place| self.tables[*place].0 == *word)
+    }
+
+    fn place_of(&mut self, last: usize, word: Word) -> usize {
+        if self.sorts {
+            if let Some(place) = self.place_near(last, &word) {
+                return place;
+            }
+        }
         if let Some(place) = self.places.get(&word) {
             return *place as usize;
         }
@@ -353,9 +418,11 @@ impl Layout for Apart {
             let into = self.once.then_some(&mut entry);
             parts.push(part_of(word, slot, &self.slots[slot as usize].queue, doc, into));
         }
+        self.sort_tables();
         let mut places = Vec::with_capacity(parts.len());
+        let mut place = 0;
         for part in &parts {
-            let place = self.place_of(part.word);
+            place = self.place_of(place, part.word);
             self.tables[place].1.reserve(part.list(&entry).len());
             places.push(place);
         }
@@ -499,11 +566,13 @@ fn main() {
         None => standard,
     };
     let name = words.first().map_or("", String::as_str);
-    let once = name.ends_with("-once");
-    let mut index: Box<dyn Layout> = match name.trim_end_matches("-once") {
-        "apart" => Box::new(Apart { once, ..Apart::default() }),
-        "joined" => Box::new(Joined { once, ..Joined::default() }),
-        _ => panic!("model apart|apart-once|joined|joined-once [MAILS [CACHED]]"),
+    let (once, sorts) = (name.ends_with("-once"), name.ends_with("-sorted"));
+    let mut index: Box<dyn Layout> = match name {
+        "apart" | "apart-once" | "apart-sorted" => {
+            Box::new(Apart { once, sorts, ..Apart::default() })
+        }
+        "joined" | "joined-once" => Box::new(Joined { once, ..Joined::default() }),
+        _ => panic!("model apart|apart-once|apart-sorted|joined|joined-once [MAILS [CACHED]]"),
     };
     let (mails, cached) = (number(1, 10_000), number(2, 2_700));
     let names: Vec<Word> = (0..NAMES).map(name_of).collect();

@@ -17,7 +17,7 @@ import tempfile
 import time
 
 from batches import end, held, inserts
-from queries import MATCH, TOP, Fts, texts_of, word_of
+from queries import MATCH, TOP, Fts, as_script_does, texts_of, word_of
 
 WORD = word_of(20_000)
 TURNS = 3
@@ -37,9 +37,8 @@ def opened(program, folder):
     turns = []
     for _ in range(TURNS):
         began = time.monotonic()
-        fts = subprocess.Popen(
-            [program, folder, "run"], stdin=subprocess.PIPE, stdout=subprocess.PIPE
-        )
+        how = {"stdin": subprocess.PIPE, "stdout": subprocess.PIPE, "env": as_script_does()}
+        fts = subprocess.Popen([program, folder, "run"], **how)
         fts.stdin.write((MATCH % WORD).encode("ascii"))
         fts.stdin.flush()
         reply = fts.stdout.readline()

@@ -107,12 +107,17 @@ def kinds_of(texts):
     }
 
 
+def as_script_does():
+    """What ./fts sets for the program, unless it is set."""
+    return {"GLIBC_TUNABLES": "glibc.malloc.hugetlb=1", **os.environ}
+
+
 class Fts:
     def __init__(self, program, folder, *options):
         create = [program, folder, "create", "--columns", "body", *options]
         subprocess.run(create, check=True, stdout=subprocess.DEVNULL)
-        pipes = {"stdin": subprocess.PIPE, "stdout": subprocess.PIPE}
-        self.process = subprocess.Popen([program, folder, "run"], **pipes)
+        how = {"stdin": subprocess.PIPE, "stdout": subprocess.PIPE, "env": as_script_does()}
+        self.process = subprocess.Popen([program, folder, "run"], **how)
 
     def worked(self):
         """The nanoseconds that its processor worked."""
