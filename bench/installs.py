@@ -14,7 +14,7 @@ import statistics
 import subprocess
 import tempfile
 
-from queries import TOP, drawn
+from queries import TOP, as_script_does, drawn
 
 TRACING = "/sys/kernel/tracing"
 CALLS = {"room": "make_batch_room", "install": "tables::Tables::install_batch"}
@@ -54,8 +54,8 @@ def run(program, rows):
     with tempfile.TemporaryDirectory() as folder:
         base = os.path.join(folder, "db")
         subprocess.run([program, base, "create", "--columns", "body"], check=True, stdout=subprocess.DEVNULL)
-        pipes = {"stdin": subprocess.PIPE, "stdout": subprocess.DEVNULL}
-        with subprocess.Popen([program, base, "run"], **pipes) as process:
+        how = {"stdin": subprocess.PIPE, "stdout": subprocess.DEVNULL, "env": as_script_does()}
+        with subprocess.Popen([program, base, "run"], **how) as process:
             for row, text in enumerate(drawn(rows)):
                 line = "INSERT INTO docs (id, body) VALUES (%d, '%s')\n" % (row + 1, " ".join(text))
                 process.stdin.write(line.encode())
