@@ -26,8 +26,12 @@ use std::collections::{BTreeSet, VecDeque};
 use std::marker::Model;
 use std::ops::Bound;
 
-/// Words with their nodes, as they were entered.
+/// Words with their nodes, each at a place of its own.
 type Words = IndexMap<Word, NodeList>;
+
+/// How many places behind the last word's a batch tries before it looks a word up: it has its words
+/// in byte order, and the table's mostly stand in it.
+const TRIED: usize = 3;
 
 /// Words with their nodes. A word without nodes is there for its room alone, and counts as absent.
 #[derive(Drop)]
@@ -43,6 +47,8 @@ pub struct Table {
     notes: VecDeque<usize>,
     // Of how many words packing would change the nodes.
     loose: usize,
+    // How many words there were when they were last brought into byte order.
+    sorted: usize,
 }
 
 impl Model for Table {
@@ -105,6 +111,29 @@ fn number_near(words: &Words, guess: usize, word: &[u8]) -> Option<usize>
         return Some(guess);
     }
     number_of(words, word)
+}
+
+/// The number of a word as `number_of` gives it, without a look-up where it is one of the first
+/// from the guessed one on.
+fn number_from(words: &Words, guess: usize, word: &[u8]) -> Option<usize>
+    ensures some { IfSome result (λ n. is_key_at (keys_of words.now.entries) n word.now ≡ true) }
+    ensures none { IfNone result (find word.now words.now.entries ≡ None) }
+{
+    for number in guess..guess.saturating_add(TRIED) {
+        if is_word_at(words, number, word) {
+            return Some(number);
+        }
+    }
+    number_of(words, word)
+}
+
+/// Brings the places of the words into byte order. It takes memory for the words once more.
+fn sort(words: &mut Words) -> Result<(), AllocError>
+    ensures lists { (w : List ℕ) → list_in words.new.entries w ≡ list_in words.old.entries w }
+    ensures are { (w : List ℕ) → is_key words.new.entries w ≡ is_key words.old.entries w }
+    ensures loose { loose_count words.new.entries ≡ loose_count words.old.entries }
+{
+    words.sort_keys()
 }
 
 /// The number of a word as `number_of` gives it, without a look-up where it is the noted one.
@@ -500,6 +529,7 @@ impl Table {
             kept: 0,
             notes: VecDeque::new(alloc),
             loose: 0,
+            sorted: 0,
         }
     }
 
@@ -556,18 +586,47 @@ impl Table {
         self.kept = self.words.len();
     }
 
+    /// Brings the places of the words into byte order, where a quarter of them came since they were
+    /// in it, and no room is promised.
+    fn arrange(&mut self) -> Result<(), AllocError>
+        ensures lists { (w : List ℕ) → list_in self.new w ≡ list_in self.old w }
+        ensures are { (w : List ℕ) → is_key self.new w ≡ is_key self.old w }
+    {
+        if !self.notes.is_empty() {
+            return Ok(());
+        }
+        if self.words.len() <= self.sorted.saturating_add(self.sorted / 4) {
+            return Ok(());
+        }
+        self.kept = 0;
+        sort(&mut self.words)?;
+        self.sorted = self.words.len();
+        Ok(())
+    }
+
     /// Makes room for so many more nodes and bytes of a word, beside the room that there is. It
     /// gives the last id of the word's nodes, and 0 where it has none, so that one look-up does for
-    /// both. None is needed where the word was entered just behind the one that room was made for
-    /// last: a batch has its words in byte order, and enters those that are new so.
+    /// both. None is needed where the word stands just behind the one that room was made for last:
+    /// a batch has its words in byte order, and those of the table are brought into it as they come.
     pub fn reserve(&mut self, word: &[u8], nodes: usize, bytes: usize) -> Result<DocId, AllocError>
         ensures stay { KeepsNodes self.old self.new word.now }
         ensures room { OnOk result (AddsRoom self.old self.new word.now
             (record { nodes = nodes; bytes = bytes })) }
         ensures last { IfOk result (λ last. last ≡ last_of 0 (nodes_in self.old word.now)) }
     {
+        self.arrange()?;
+        self.reserve_near(word, nodes, bytes)
+    }
+
+    /// What `reserve` does, where the words stand.
+    fn reserve_near(&mut self, word: &[u8], nodes: usize, bytes: usize) -> Result<DocId, AllocError>
+        ensures stay { KeepsNodes self.old self.new word.now }
+        ensures room { OnOk result (AddsRoom self.old self.new word.now
+            (record { nodes = nodes; bytes = bytes })) }
+        ensures last { IfOk result (λ last. last ≡ last_of 0 (nodes_in self.old word.now)) }
+    {
         self.notes.reserve(1)?;
-        match number_near(&self.words, next_number(self.notes.back()), word) {
+        match number_from(&self.words, next_number(self.notes.back()), word) {
             Some(number) => {
                 let last = last_at(&self.words, number, word);
                 reserve_at(&mut self.words, number, word, nodes, bytes)?;

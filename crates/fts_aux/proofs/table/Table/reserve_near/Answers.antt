@@ -4,7 +4,7 @@ use Rattle.fts_aux.specs.Table.{list_in, room_of, IsTable}
 use Rattle.fts_aux.proofs.Kept.{table_appended, table_reserved, are_written}
 use Rattle.fts_aux.proofs.Finds.{list_written, list_other}
 use Rattle.fts_aux.proofs.Counts.{count_kept}
-use Rattle.fts_aux.proofs.table.Table.reserve.Goals as goal
+use Rattle.fts_aux.proofs.table.Table.reserve_near.Goals as goal
 
 pub invariant_of-self-in_err-reserve_at-in-Some : goal.invariant_of-self-in_err-reserve_at-in-Some
 invariant_of-self-in_err-reserve_at-in-Some c =
