@@ -10,7 +10,7 @@ ghost use Rattle.fts_ilist.specs.NodeList.{with_nodes, nodes_size, Takes};
 ghost use Rattle.fts_ilist.specs.Node.{last_of};
 ghost use Rattle.fts_aux.specs.Table.{find, list_in, nodes_in, is_key, is_key_at, room_of, no_room};
 ghost use Rattle.fts_ilist.specs.Front.{front};
-ghost use Rattle.fts_aux.specs.Table.{with_room, filled, filled_as, seen, IsListing, IsNext};
+ghost use Rattle.fts_aux.specs.Table.{filled, filled_as, seen, IsListing, IsNext};
 ghost use Rattle.fts_aux.specs.Table.{IsLast, IsListed, Becomes, Enters, Writes, no_list, Lists};
 ghost use Rattle.fts_aux.specs.Table.{IsNotedBut, IsFilledBut, AreFilledBut, AreFilled};
 ghost use Rattle.fts_aux.specs.Table.{Drops, AddsRoom, IsWithin, needs};
@@ -607,7 +607,7 @@ impl Table {
     /// Makes room for so many more nodes and bytes of a word, beside the room that there is. It
     /// gives the last id of the word's nodes, and 0 where it has none, so that one look-up does for
     /// both. None is needed where the word stands just behind the one that room was made for last:
-    /// a batch has its words in byte order, and those of the table are brought into it as they come.
+    /// a batch has its words in byte order, and most of the table's stand in it too.
     pub fn reserve(&mut self, word: &[u8], nodes: usize, bytes: usize) -> Result<DocId, AllocError>
         ensures stay { KeepsNodes self.old self.new word.now }
         ensures room { OnOk result (AddsRoom self.old self.new word.now

@@ -1,5 +1,5 @@
 //! Documents that are put into the queues of their words, and taken out of them.
-ghost use Rattle.std.specs.Prelude.{◌≡◌, ◌≢◌, ◌+◌, ◌<◌, ◌≤◌, ◌++◌, List, ℕ, [], ◌∷◌, length, map};
+ghost use Rattle.std.specs.Prelude.{◌≡◌, ◌+◌, ◌<◌, ◌≤◌, ◌++◌, List, ℕ, [], ◌∷◌, map};
 ghost use Rattle.std.specs.Prelude.{OnOk, true};
 ghost use Rattle.fts_ilist.specs.Queue.{postings_behind};
 ghost use Rattle.fts_cache.specs.Document.{bytes_in, bytes_of};

@@ -1,12 +1,12 @@
 //! The cache and its calls.
 ghost use Rattle.std.specs.Prelude.{◌≡◌, ◌≢◌, ℕ, ◌+◌, ◌^◌, ◌<◌, ◌≤◌, ◌↔◌, ◌++◌, List, [], ◌∷◌};
-ghost use Rattle.std.specs.Prelude.{length, max, map, filter, sum_by, nat_eq, IfOk, IfSome, IfNone};
-ghost use Rattle.std.specs.Prelude.{OnOk, OnErr, IsTrue, Some, true};
+ghost use Rattle.std.specs.Prelude.{length, max, map, sum_by, nat_eq, IfOk, IfSome, IfNone};
+ghost use Rattle.std.specs.Prelude.{OnOk, IsTrue, Some, true};
 ghost use Rattle.fts_ilist.specs.Spelling.{ArePostings};
 ghost use Rattle.fts_ilist.specs.Queue.{postings_behind};
-ghost use Rattle.fts_cache.specs.Document.{Document, document_size, document_postings, bytes_in};
+ghost use Rattle.fts_cache.specs.Document.{Document, document_size, document_postings};
 ghost use Rattle.fts_cache.specs.Document.{bytes_of};
-ghost use Rattle.fts_cache.specs.Cache.{CacheState, CachedDocument, postings_of, cache_size};
+ghost use Rattle.fts_cache.specs.Cache.{CacheState, postings_of, cache_size};
 ghost use Rattle.fts_cache.specs.Cache.{cached, cached_behind, SameContents, HasRoom, BeginsAbove};
 ghost use Rattle.fts_cache.specs.Cache.{IdsAscend, room_of, room_left, HoldsNoOther};
 ghost use Rattle.fts_cache.specs.Words.{queue_in, AreBehind};

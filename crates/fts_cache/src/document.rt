@@ -2,7 +2,7 @@
 ghost use Rattle.std.specs.Prelude.{◌≡◌, ◌+◌, ◌*◌, ◌^◌, ◌<◌, ◌≤◌, ◌==◌, ◌++◌, [], ◌∷◌, length};
 ghost use Rattle.std.specs.Prelude.{slice_get, slice_range, Some, IsTrue, ◌↔◌, OnOk, OnErr};
 ghost use Rattle.fts_ilist.specs.Spelling.{ArePositions};
-ghost use Rattle.fts_cache.specs.Document.{Document, WordPositions, document_size, EndsBefore};
+ghost use Rattle.fts_cache.specs.Document.{Document, document_size, EndsBefore};
 ghost use Rattle.fts_cache.specs.Document.{CanPush, IsDocument};
 ghost use Rattle.fts_cache.specs.Arena.{end_before, no_end};
 

@@ -1,19 +1,17 @@
 //! The cached words, each by a number of its own, and their queues.
-ghost use Rattle.std.specs.Prelude.{◌≡◌, ◌≢◌, ◌+◌, ◌-◌, ◌^◌, ◌<◌, ◌≤◌, ◌↔◌, ◌++◌};
+ghost use Rattle.std.specs.Prelude.{◌≡◌, ◌≢◌, ◌+◌, ◌-◌, ◌<◌, ◌≤◌, ◌↔◌, ◌++◌};
 ghost use Rattle.std.specs.Prelude.{List, ℕ, [], ◌∷◌, Some, None, length, map, IfOk, IfSome, OnOk};
 ghost use Rattle.std.specs.Prelude.{OnErr, IsTrue, true, nat_eq, if◌then◌else◌};
 ghost use Rattle.std.specs.Option.{option_map, option_to_list};
 ghost use Rattle.std.specs.List.{IsDistinct};
 ghost use Rattle.std.specs.Str.{bytes_eq};
-ghost use Rattle.indexmap.specs.IndexMap.{IsUnique};
 ghost use Rattle.fts_cache.specs.Sorted.{IsAmong, AscendByBytes, lent_words};
 ghost use Rattle.std.specs.List.{All, list_any};
 ghost use Rattle.std.specs.List.Sorted.{IsPermutation, IsSortedBy, IsStrictlySortedBy};
 ghost use Rattle.std.specs.Ordering.{is_lt};
 ghost use Rattle.fts_words.specs.Order.{byte_order};
-ghost use Rattle.fts_ilist.specs.Spelling.{ArePositions, ArePostings};
-ghost use Rattle.fts_ilist.specs.Queue.{Queue, bytes_for, postings_behind};
-ghost use Rattle.fts_cache.specs.Words.{Entries, slot_in, number_in, queue_at, queue_in, IsTable};
+ghost use Rattle.fts_ilist.specs.Spelling.{ArePostings};
+ghost use Rattle.fts_cache.specs.Words.{Entries, slot_in, number_in, queue_in, IsTable};
 ghost use Rattle.fts_cache.specs.Words.{Alters, CanTake, Enters, Changes, Stays, IsLess};
 ghost use Rattle.fts_cache.specs.Words.{LetsGo, GivesUp};
 ghost use Rattle.fts_cache.specs.Words.{IsDropped, with_more_room, without_room, with_posting};

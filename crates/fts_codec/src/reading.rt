@@ -1,6 +1,5 @@
 //! Readers of the front of some bytes: what stands there, and what stands behind it.
 
-ghost use Rattle.std.specs.Prelude.{length};
 ghost use Rattle.std.specs.Int.{w16, w32, w64};
 ghost use Rattle.fts_codec.specs.Reading.{Finds, behind_at, number_at, piece_at};
 

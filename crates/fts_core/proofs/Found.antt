@@ -8,8 +8,7 @@ use Rattle.fts_disk.specs.Device.{Files}
 use Rattle.fts_disk.specs.Crash.{Only}
 use Rattle.fts_disk.specs.Moments.{LeavesAsBefore, Looks}
 use Rattle.fts_disk.specs.declared.disk.Disk.{Ghosts}
-use Rattle.fts_log.proofs.Unique.{one_list}
-use Rattle.fts_steps.specs.State.{State, with_commits, with_entries, IsRows, IsIndex, IsCreated, index_magic, index_payloads}
+use Rattle.fts_steps.specs.State.{State, with_commits, with_entries, IsRows, IsIndex, IsCreated}
 use Rattle.fts_steps.specs.Fault.{IsIndexFaultAt}
 use Rattle.fts_steps.specs.Running.{Running, opened}
 use Rattle.fts_steps.specs.Crash.{MayHold, MayHoldIndex}

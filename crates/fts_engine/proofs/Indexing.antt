@@ -175,15 +175,6 @@ min_some settings right =
     let least = leb-true 1 settings.min (and_parts (nat_le 1 settings.min) (nat_le settings.min 16) min.0).0 in
     omega (arith, least)
 
--- and a greatest one of at most 84
-pub max_short : (settings : Settings) → AreSettings settings → settings.max ≤ 84
-max_short settings right =
-    let columns = chosen (is_right Columns settings) Columns (first_wrong_of (Min ∷ Max ∷ OptimizeWords ∷ CacheBytes ∷ BatchDocs ∷ []) settings) right in
-    let min = chosen (is_right Min settings) Min (first_wrong_of (Max ∷ OptimizeWords ∷ CacheBytes ∷ BatchDocs ∷ []) settings) columns.1 in
-    let max = chosen (is_right Max settings) Max (first_wrong_of (OptimizeWords ∷ CacheBytes ∷ BatchDocs ∷ []) settings) min.1 in
-    let most = leb-true settings.max 84 (and_parts (nat_le 10 settings.max) (nat_le settings.max 84) max.0).1 in
-    omega (arith, most)
-
 -- an index that made the next batch is right for the state behind it
 pub batch_right : (settings : Settings) (right : AreSettings settings) (rows : Rows) (old new : Index) (commits : List Commit) (s : IndexState) (limit through synced : ℕ) (batch : Batch)
     → IsIndexOf settings rows old commits s → IsBatch (rules_of settings) limit (turns_from no_rows commits) s through synced batch

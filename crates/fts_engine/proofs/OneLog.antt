@@ -1,5 +1,5 @@
 -- Reading the records of a log, one call after another.
-use Rattle.std.proofs.Common.{◌≡◌, ℕ, IsTrue, refl, subst, ◌∙◌, arith}
+use Rattle.std.proofs.Common.{ℕ, IsTrue, refl, subst, ◌∙◌, arith}
 use Rattle.fts_disk.specs.declared.disk.Disk.{Ghosts}
 use Rattle.fts_faults.specs.Count.{Rose, CountsFault}
 use Rattle.fts_log.specs.Records.{AreRead, AreAsMany}

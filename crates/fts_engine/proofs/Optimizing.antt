@@ -5,7 +5,7 @@ use Rattle.std.proofs.lemmas.List.{map-append}
 use Rattle.std.proofs.lemmas.List.Elements.{All-head, All-tail, All-from_recursion}
 use Rattle.std.proofs.lemmas.List.Folds.{list_any-append}
 use Rattle.std.proofs.lemmas.Slice.Eq.{bytes_eq-Decides}
-use Rattle.std.specs.Prelude.{Bool, true, false, nat_lt, fold, None, All}
+use Rattle.std.specs.Prelude.{true, false, nat_lt, fold, None, All}
 use Rattle.std.specs.List.{AllByRecursion, flat_map}
 use Rattle.std.specs.Map.{keys_of}
 use Rattle.std.specs.Str.{bytes_eq}
@@ -16,14 +16,14 @@ use Rattle.fts_disk.specs.Device.{Files}
 use Rattle.fts_disk.specs.Crash.{Images}
 use Rattle.fts_disk.specs.declared.disk.Disk.{Ghosts}
 use Rattle.fts_types.specs.declared.limits.Limits.{Limits}
-use Rattle.fts_log.specs.Record.{IsLog, log_end}
+use Rattle.fts_log.specs.Record.{IsLog}
 use Rattle.fts_log.specs.Crash.{IsBeforeOrAfter}
 use Rattle.fts_log.specs.Log.{magic_of}
 use Rattle.fts_ilist.specs.Node.{Docs, NodesAfter}
 use Rattle.fts_words.specs.Indexed.{Rules}
 use Rattle.fts_types.specs.Rules.{rules_of}
 use Rattle.fts_entries.specs.Entry.{Batch, IndexEntry, IndexState, sealed, begun, worked, finished, after_entry}
-use Rattle.fts_entries.specs.Pass.{IsStep, IsIdle, IsPackedNode, entry_words, next_steps, words_named}
+use Rattle.fts_entries.specs.Pass.{IsStep, IsIdle, IsPackedNode, entry_words, next_steps}
 use Rattle.fts_entries.proofs.Stepping.{one_step, no_step, is_named, named_is}
 use Rattle.fts_ixcodec.specs.Payload as payload
 use Rattle.fts_ixcodec.specs.Payload.{entry_payload, list_payload, word_payload, IsEntry, IsGroup, IsNode, FitsRecord}
@@ -34,7 +34,7 @@ use Rattle.fts_index.specs.declared.index.Index.{Index}
 use Rattle.fts_steps.specs.State.{State, turns_of, index_state, index_magic, index_payloads, index_end_after, with_entries, HasEntries, IsRight}
 use Rattle.fts_steps.specs.Running.{Running, next_optimized}
 use Rattle.fts_steps.specs.Crash.{MayHoldIndex}
-use Rattle.fts_steps.specs.Step.{Answer, to_optimize, full, passed, step_of, optimize_answer, plain_answer}
+use Rattle.fts_steps.specs.Step.{to_optimize, full, passed, step_of, optimize_answer, plain_answer}
 use Rattle.fts_steps.specs.declared.optimize.OptimizeStep.TheVariants.{Nothing}
 use Rattle.fts_steps.proofs.Growing.{step_stands, step_leaves, step_right}
 use Rattle.fts_engine.specs.declared.engine.Engine.{Engine}

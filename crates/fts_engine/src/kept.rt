@@ -39,7 +39,7 @@ pub struct NextKept {
 }
 
 impl Kept {
-    ghost use Rattle.std.specs.Prelude.{◌≡◌, ◌≤◌, ℕ, length, IfOk, IfErr, OnOk, Ok};
+    ghost use Rattle.std.specs.Prelude.{◌≡◌, ◌≤◌, length, IfOk, IfErr, OnOk, Ok};
     ghost use Rattle.std.specs.Prelude.{List, [], ◌∷◌, ◌++◌, Some};
     ghost use Rattle.fts_types.specs.Rules.{rules_of};
     ghost use Rattle.fts_commits.specs.Commit.{Commit, Rows as RowList, after_commit, no_rows};

@@ -1,4 +1,4 @@
-ghost use Rattle.std.specs.Prelude.{◌≡◌, ◌≢◌, ◌+◌, ◌<◌, ◌≤◌, ◌++◌, ℕ, List, [], ◌∷◌, length, take};
+ghost use Rattle.std.specs.Prelude.{◌≡◌, ◌+◌, ◌<◌, ◌≤◌, ◌++◌, ℕ, List, [], ◌∷◌, length, take};
 ghost use Rattle.std.specs.Prelude.{IsTrue, IsErrOf, IfOk, OnOk, Ok, None, Some, true, false};
 ghost use Rattle.std.specs.Prelude.{slice_index_or};
 ghost use Rattle.fts_log.specs.Records.{Hold, records_magic};

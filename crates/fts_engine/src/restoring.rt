@@ -31,7 +31,7 @@ pub struct Restoring {
 }
 
 impl Restoring {
-    ghost use Rattle.std.specs.Prelude.{◌+◌, ◌≤◌, ℕ, length, IfErr, IsErrOf, OnOk, Ok};
+    ghost use Rattle.std.specs.Prelude.{◌+◌, ◌≤◌, length, IfErr, IsErrOf, OnOk, Ok};
     ghost use Rattle.fts_commits.specs.Commit.{Commit, after_commit, no_rows};
     ghost use Rattle.fts_commits.specs.Turn.{turns_from};
     ghost use Rattle.fts_commits.specs.Fits.{IsCommit};

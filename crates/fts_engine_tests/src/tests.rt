@@ -1,4 +1,4 @@
-ghost use Rattle.std.specs.Prelude.{◌≡◌, ◌≤◌, ℕ, length, IfOk, IfSome};
+ghost use Rattle.std.specs.Prelude.{◌≤◌, IfOk};
 ghost use Rattle.fts_commits.specs.Fits.{IsText, FitsColumns, FitsNumbers};
 ghost use Rattle.fts_commits.specs.Fits.{CanCommit};
 

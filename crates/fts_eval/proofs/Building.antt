@@ -8,7 +8,7 @@ use Rattle.fts_types.specs.Row.{Row}
 use Rattle.fts_meaning.specs.declared.sign.Sign.{Sign}
 use Rattle.fts_meaning.specs.declared.sign.Sign.TheVariants.{Optional, Required, Excluded}
 use Rattle.fts_meaning.specs.Tree as tree
-use Rattle.fts_meaning.specs.Tree.{Terms, group, none, more}
+use Rattle.fts_meaning.specs.Tree.{Terms, group, more}
 use Rattle.fts_meaning.specs.Holds.{stays, some_stays, term_holds, none_excluded, each_required, has_required, some_optional, is_required, is_optional, is_excluded, sign_of_term}
 use Rattle.fts_meaning.specs.Leaf.{Leaf, leaf_of, operands, operands_of}
 use Rattle.fts_meaning.specs.View.{Candidate, Postings, is_looked_into, candidate_of, postings_of, columns_at}

@@ -1,14 +1,13 @@
 -- From what a view says to what the rows say.
-use Rattle.std.proofs.Common.{◌≡◌, ℕ, ◌+◌, Bool, true, false, not, ◌&&◌, ◌||◌, List, [], ◌∷◌, filter, map, nat_eq, refl, sym, ap, ◌∙◌, ⊎_elim, arith}
+use Rattle.std.proofs.Common.{◌≡◌, ℕ, ◌+◌, Bool, true, false, not, ◌&&◌, ◌||◌, List, [], ◌∷◌, filter, map, nat_eq, refl, sym, ap, ◌∙◌, ⊎_elim}
 use Rattle.std.specs.List.{list_any}
 use Rattle.std.proofs.lemmas.Bool.{cases_Bool, cases_eq, false≢true, ne_eqb, eq-eqb}
-use Rattle.fts_ids.specs.Ids.{has, AscendFrom}
-use Rattle.fts_ids.proofs.Ascending.{AscendFrom-sooner, has_below}
+use Rattle.fts_ids.specs.Ids.{AscendFrom}
 use Rattle.fts_words.specs.Indexed.{Rules, is_indexable, placed_words}
 use Rattle.fts_types.specs.Row.{Row}
 use Rattle.fts_meaning.specs.Tree.{Operand, word, prefix, phrase, distance, Term, Terms, leaf, group, none, more}
 use Rattle.fts_meaning.specs.Holds.{operand_holds, stays, some_stays, term_holds, none_excluded, each_required, has_required, some_optional, list_holds, is_required, is_optional, sign_of_term}
-use Rattle.fts_meaning.specs.View.{candidate_of, ids_where, texts_at, columns_at}
+use Rattle.fts_meaning.specs.View.{candidate_of, texts_at, columns_at}
 
 docs : List Row → List ℕ
 docs rows = map (λ (row : Row). row.doc) rows

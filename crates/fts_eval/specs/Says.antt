@@ -1,5 +1,5 @@
 -- What a view says of a document id.
-use Rattle.std.specs.Prelude.{ℕ, Bool, true, false, not, ◌&&◌, ◌||◌, List, [], ◌∷◌, map, nat_eq, if◌then◌else◌}
+use Rattle.std.specs.Prelude.{ℕ, Bool, true, false, not, ◌&&◌, ◌||◌, List, map, if◌then◌else◌}
 use Rattle.std.specs.List.{list_any, list_all}
 use Rattle.fts_ids.specs.Ids.{has}
 use Rattle.fts_query.specs.declared.view.Candidate.{Candidate as Kept}

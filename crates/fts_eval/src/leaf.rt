@@ -1,4 +1,4 @@
-ghost use Rattle.std.specs.Prelude.{◌≡◌, ◌++◌, [], map, filter, IfOk, OnOk};
+ghost use Rattle.std.specs.Prelude.{◌≡◌, ◌++◌, map, filter, IfOk, OnOk};
 ghost use Rattle.fts_words.specs.Indexed.{is_indexable};
 ghost use Rattle.fts_types.specs.Rules.{rules_of};
 ghost use Rattle.fts_meaning.specs.Leaf.{words_leaf, leaf_of, operands, operands_of, leaves};

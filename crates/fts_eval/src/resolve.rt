@@ -1,4 +1,4 @@
-ghost use Rattle.std.specs.Prelude.{◌≡◌, List, [], ◌++◌, map, not, IfOk, OnOk};
+ghost use Rattle.std.specs.Prelude.{◌≡◌, List, [], map, not, IfOk, OnOk};
 ghost use Rattle.fts_words.specs.Indexed.{Rules};
 ghost use Rattle.fts_types.specs.Row.{Row};
 ghost use Rattle.fts_meaning.specs.Leaf as meaning_leaf;

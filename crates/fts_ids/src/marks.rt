@@ -1,5 +1,5 @@
 //! Unions and what is common, by marks, one for each number up to the largest id.
-ghost use Rattle.std.specs.Prelude.{◌≡◌, ◌<◌, ◌≤◌, ◌||◌, ℕ, All, IfOk, length, true};
+ghost use Rattle.std.specs.Prelude.{◌≡◌, ◌<◌, ◌||◌, ℕ, All, IfOk, length, true};
 ghost use Rattle.std.specs.List.{filter};
 ghost use Rattle.fts_ids.specs.Ids.{Ascend, has, common};
 ghost use Rattle.fts_ids.specs.Marks.{is_marked, some_has, AreUpTo};

@@ -1,8 +1,7 @@
-ghost use Rattle.std.specs.Prelude.{◌≡◌, ◌+◌, ◌≤◌, ◌||◌, ℕ, All, IfOk, IfSome, OnOk, Some, ◌++◌};
+ghost use Rattle.std.specs.Prelude.{◌≡◌, ◌+◌, ◌≤◌, ◌||◌, ℕ, All, IfOk, Some, ◌++◌};
 ghost use Rattle.std.specs.Prelude.{nat_eq, length, slice_index, ◌<◌};
 ghost use Rattle.std.specs.List.{list_any};
 ghost use Rattle.fts_ids.specs.Ids.{Ascend, AscendFrom, has};
-ghost use Rattle.fts_ids.specs.Union.{IsUniting};
 
 use crate::marks::{DENSE, by_marks, largest};
 use fts_types::DocId;

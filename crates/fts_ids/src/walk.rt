@@ -1,6 +1,5 @@
 //! A walk over ids that ascend.
 ghost use Rattle.std.specs.Prelude.{◌≡◌, ◌<◌, ◌≤◌, ℕ, length, IfSome};
-ghost use Rattle.std.specs.List.Sorted.{IsStrictlyIncreasing};
 ghost use Rattle.fts_ids.specs.Ids.{has, AscendFrom, PassesBelow, Ascend};
 
 use fts_types::DocId;

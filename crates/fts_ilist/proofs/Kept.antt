@@ -3,7 +3,7 @@ use Rattle.std.proofs.Common.{◌≡◌, ℕ, ◌+◌, ◌-◌, ◌<◌, ◌≤�
 use Rattle.std.proofs.lemmas.Bool.{ne_eqb}
 use Rattle.std.proofs.lemmas.List.{length-append, drop_all}
 use Rattle.fts_ilist.specs.Number.{number_bytes}
-use Rattle.fts_ilist.specs.Spelling.{Posting, items_bytes, posting_items, postings_items, list_bytes, position_items, ArePositions, PostingsAfter, ArePostings, first_id, id_at_end, HasFirstId}
+use Rattle.fts_ilist.specs.Spelling.{Posting, items_bytes, posting_items, postings_items, list_bytes, position_items, ArePostings, first_id, HasFirstId}
 use Rattle.fts_ilist.specs.Reading.{items_after, postings_of, postings_in, IsDocument, IsKept}
 use Rattle.fts_ilist.specs.Reading.State.{between}
 use Rattle.fts_ilist.specs.Progress.{ReadsDocument, first_or}

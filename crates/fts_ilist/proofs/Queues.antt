@@ -1,5 +1,5 @@
 -- Documents that come in at the back and leave at the front.
-use Rattle.std.proofs.Common.{◌≡◌, ◌↔◌, ◌≢◌, ℕ, ◌+◌, ◌-◌, ◌^◌, ◌<◌, ◌≤◌, List, [], ◌∷◌, ◌++◌, length, take, drop, get_or, append_assoc, Bool, cond, refl, sym, ap, subst, ◌∙◌, arith}
+use Rattle.std.proofs.Common.{◌≡◌, ◌↔◌, ℕ, ◌+◌, ◌-◌, ◌^◌, ◌<◌, ◌≤◌, List, [], ◌∷◌, ◌++◌, length, take, drop, get_or, append_assoc, Bool, cond, refl, sym, ap, subst, ◌∙◌, arith}
 use Rattle.std.proofs.lemmas.Bool.{lt-ltb, le-ltb}
 use Rattle.std.proofs.lemmas.List.{append-nil, length-drop, drop-append-le, drop_more, length-append}
 use Rattle.fts_ilist.specs.Number.{number_bytes}
@@ -45,19 +45,6 @@ none_behind doc before [] h le = refl
 none_behind doc before (p ∷ ps) h le =
     ap (λ (b : Bool). cond b (p ∷ postings_behind doc ps) (postings_behind doc ps)) (le-ltb doc p.id (omega (arith, le, id_grows p.id ps h.3)))
     ∙ none_behind doc p.id ps h.3 le
-
--- the first id as it is found
-pub first_found : (id : ℕ) (ps : List Posting) → HasFirstId ps id → id ≡ first_id ps
-first_found id [] has = absurd has
-first_found id (p ∷ ps) has = sym has
-
-pub has_first : (ps : List Posting) → first_id ps ≢ 0 → HasFirstId ps (first_id ps)
-has_first [] some = absurd (some refl)
-has_first (p ∷ ps) some = refl
-
-pub no_first : (before : ℕ) (ps : List Posting) → PostingsAfter before ps → first_id ps ≡ 0 → ps ≡ []
-no_first before [] h e = refl
-no_first before (p ∷ ps) h e = absurd (omega (arith, h.0, e))
 
 -- ---- past the first document
 

@@ -1,5 +1,5 @@
 //! Documents packed into nodes.
-ghost use Rattle.std.specs.Prelude.{◌≡◌, ◌<◌, ◌↔◌, List, [], ◌∷◌, ◌++◌, map, true, IfOk, OnOk};
+ghost use Rattle.std.specs.Prelude.{◌≡◌, ◌<◌, ◌↔◌, List, [], ◌∷◌, ◌++◌, true, IfOk, OnOk};
 ghost use Rattle.std.specs.Prelude.{◌≢◌, OnErr};
 ghost use Rattle.std.specs.List.{All};
 ghost use Rattle.fts_ilist.specs.Spelling.{Posting, ArePostings, last_id};

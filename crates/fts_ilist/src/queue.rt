@@ -1,9 +1,8 @@
 //! Documents that come in at the back, in room that was made for them, and leave at the front.
-ghost use Rattle.std.specs.Prelude.{◌≡◌, ◌+◌, ◌*◌, ◌^◌, ◌<◌, ◌≤◌, ◌++◌, ◌↔◌, [], ◌∷◌, length};
-ghost use Rattle.std.specs.Prelude.{take, drop, IsTrue, IfSome, IfNone, OnOk, OnErr, vec_len};
+ghost use Rattle.std.specs.Prelude.{◌≡◌, ◌+◌, ◌<◌, ◌≤◌, ◌++◌, ◌↔◌, [], ◌∷◌, length};
+ghost use Rattle.std.specs.Prelude.{drop, IsTrue, IfSome, IfNone, OnOk, OnErr, vec_len};
 ghost use Rattle.std.specs.Prelude.{vec_capacity};
-ghost use Rattle.fts_ilist.specs.Number.{number_bytes};
-ghost use Rattle.fts_ilist.specs.Spelling.{items_bytes, position_items, ArePositions, ArePostings};
+ghost use Rattle.fts_ilist.specs.Spelling.{ArePositions, ArePostings};
 ghost use Rattle.fts_ilist.specs.Spelling.{HasFirstId, first_id, id_at_end};
 ghost use Rattle.fts_ilist.specs.Reading.{postings_in, IsTail};
 ghost use Rattle.fts_ilist.specs.Spelling.{list_bytes};

@@ -1,5 +1,5 @@
 //! Reading lists from left to right, each item tried where it stands.
-ghost use Rattle.std.specs.Prelude.{◌≡◌, ◌+◌, ◌^◌, ◌<◌, ◌≤◌, ◌++◌, ◌↔◌, List, ℕ, length, drop};
+ghost use Rattle.std.specs.Prelude.{◌≡◌, ◌+◌, ◌^◌, ◌<◌, ◌≤◌, ◌++◌, ◌↔◌, ℕ, length, drop};
 ghost use Rattle.std.specs.Prelude.{slice_index, IsTrue, IfOk, IfErr};
 ghost use Rattle.fts_ilist.specs.Number.{number_bytes, BeginsWithNumber};
 ghost use Rattle.fts_ilist.specs.Reading.{postings_in};

@@ -1,5 +1,5 @@
 //! What views of an index list.
-ghost use Rattle.std.specs.Prelude.{◌≡◌, ◌≢◌, ◌||◌, [], ℕ, List, map, IfOk};
+ghost use Rattle.std.specs.Prelude.{◌≡◌, ◌≢◌, ◌||◌, [], ℕ, List, IfOk};
 ghost use Rattle.std.specs.List.{AllByRecursion};
 ghost use Rattle.fts_types.specs.Rules.{rules_of};
 ghost use Rattle.fts_commits.specs.Turn.{Turn};

@@ -1,5 +1,5 @@
 //! The steps of OPTIMIZE.
-ghost use Rattle.std.specs.Prelude.{◌≡◌, ◌↔◌, ℕ, true, false, List, IsTrue, IfOk};
+ghost use Rattle.std.specs.Prelude.{◌≡◌, ◌↔◌, true, false, List, IsTrue, IfOk};
 ghost use Rattle.fts_commits.specs.Turn.{Turn};
 ghost use Rattle.fts_ilist.specs.Spelling.{Posting};
 ghost use Rattle.fts_words.specs.Indexed.{Rules};

@@ -1,5 +1,5 @@
 //! Batches that are read again from an index log.
-ghost use Rattle.std.specs.Prelude.{◌≡◌, ◌≢◌, ◌+◌, ◌≤◌, ◌∷◌, ◌++◌, [], ℕ, List, length, map};
+ghost use Rattle.std.specs.Prelude.{◌≡◌, ◌+◌, ◌≤◌, ◌∷◌, ◌++◌, [], List, length, map};
 ghost use Rattle.std.specs.Prelude.{◌&&◌, nat_le, IfOk, IsErr, IsErrOf, OnOk, OnErr, Ok, true};
 ghost use Rattle.std.specs.List.{list_all};
 ghost use Rattle.std.specs.List.Sorted.{IsStrictlySortedBy};

@@ -3,7 +3,7 @@ ghost use Rattle.std.specs.Prelude.{◌≡◌, ◌+◌, ◌<◌, ◌≤◌, ℕ,
 ghost use Rattle.std.specs.Prelude.{◌&&◌, nat_le};
 ghost use Rattle.std.specs.List.{take_while};
 ghost use Rattle.fts_ids.specs.Ids.{has, Ascend};
-ghost use Rattle.fts_lists.specs.State.{ids_of, room_of};
+ghost use Rattle.fts_lists.specs.State.{room_of};
 ghost use Rattle.fts_lists.specs.declared.lists.DeleteList.TheVariants.{Deleted, DeletedCache};
 ghost use Rattle.fts_index.specs.Index.{pending_seen};
 ghost use Rattle.fts_index.specs.Parts.{counted_within, deaths_through, MovesDead};

@@ -1,4 +1,4 @@
-ghost use Rattle.std.specs.Prelude.{◌≡◌, ◌<◌, ◌^◌, ◌∷◌, [], ℕ, List, map, IfOk, OnOk};
+ghost use Rattle.std.specs.Prelude.{◌≡◌, ◌<◌, ◌^◌, [], ℕ, List, map, IfOk, OnOk};
 ghost use Rattle.fts_types.specs.Rules.{rules_of};
 ghost use Rattle.fts_types.specs.Row.{row_of};
 ghost use Rattle.fts_entries.specs.Rows.{CanIndex};

@@ -1,4 +1,4 @@
-ghost use Rattle.std.specs.Prelude.{◌≡◌, ◌↔◌, ◌≤◌, ℕ, List, Contains, IsErr, is_err, if◌then◌else◌};
+ghost use Rattle.std.specs.Prelude.{◌≡◌, ◌↔◌, ◌≤◌, Contains, IsErr, is_err, if◌then◌else◌};
 ghost use Rattle.fts_faults.specs.Count.{HasCause, Rose};
 
 use fts_faults::Failed;

@@ -1,4 +1,4 @@
-ghost use Rattle.std.specs.Prelude.{◌≡◌, ◌++◌, ◌∷◌, ◌+◌, ◌-◌, ◌*◌, ◌^◌, ◌<◌, ◌≤◌, ◌↔◌, ◌⊎◌, ℕ};
+ghost use Rattle.std.specs.Prelude.{◌≡◌, ◌++◌, ◌∷◌, ◌+◌, ◌-◌, ◌*◌, ◌^◌, ◌<◌, ◌≤◌, ◌⊎◌, ℕ};
 ghost use Rattle.std.specs.Prelude.{List, [], length, take, min, vec_len, IsTrue, IfOk, OnOk};
 ghost use Rattle.std.specs.Prelude.{OnErr, max};
 ghost use Rattle.fts_faults.specs.Count.{CountsFault};

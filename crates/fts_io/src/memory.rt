@@ -1,5 +1,5 @@
-ghost use Rattle.std.specs.Prelude.{◌≡◌, ◌++◌, ◌≤◌, ◌<◌, ◌-◌, ◌^◌, min, ℕ, true, List, [], length};
-ghost use Rattle.std.specs.Prelude.{take, drop, IsTrue, IfOk, OnErr};
+ghost use Rattle.std.specs.Prelude.{◌≡◌, ◌++◌, ◌≤◌, ◌<◌, ◌-◌, ◌^◌, min, true, [], length};
+ghost use Rattle.std.specs.Prelude.{take, IfOk, OnErr};
 ghost use Rattle.fts_faults.specs.Count.{HasCause};
 
 use crate::calls::Calls;

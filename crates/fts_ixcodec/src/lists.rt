@@ -1,5 +1,4 @@
 //! Nodes at the front of some bytes.
-ghost use Rattle.std.specs.Prelude.{◌≡◌};
 ghost use Rattle.fts_codec.specs.Reading.{Finds};
 ghost use Rattle.fts_ixcodec.specs.Fault.{Gives};
 ghost use Rattle.fts_ixcodec.specs.Reading.{node_with, node_in, list_at};

@@ -1,12 +1,12 @@
 -- Merges from the back.
-use Rattle.std.proofs.Common.{◌≡◌, suc, zero, length, take, drop, set, get_or, ℕ, ◌+◌, ◌-◌, ◌<◌, ◌≤◌, Bool, true, false, ◌||◌, List, [], ◌∷◌, ◌++◌, nat_eq, refl, sym, ap, subst, ◌∙◌, arith, inl, inr, ◌⊎◌, ⊎_elim}
-use Rattle.std.proofs.lemmas.Bool.{false≢true, eqb-true, eq-eqb}
+use Rattle.std.proofs.Common.{◌≡◌, length, take, drop, set, get_or, ℕ, ◌+◌, ◌-◌, ◌<◌, ◌≤◌, Bool, true, false, ◌||◌, List, [], ◌∷◌, ◌++◌, nat_eq, refl, sym, ap, subst, ◌∙◌, arith}
+use Rattle.std.proofs.lemmas.Bool.{false≢true, eq-eqb}
 use Rattle.std.proofs.lemmas.List.{take_more, drop-set, take-set-le, length-take-le, length-set, get_or-take, drop_all, take_all, take-take}
 use Rattle.std.proofs.lemmas.List.Folds.{list_any-append}
 use Rattle.fts_lists.specs.Ids.{with_id, with_ids}
 use Rattle.fts_ids.specs.Ids.{has, AscendFrom}
 use Rattle.fts_lists.specs.Merging.{IsMerging}
-use Rattle.fts_ids.proofs.Ascending.{same_ids, one_of, below_at, at_most, AscendFrom-take, AscendFrom-join}
+use Rattle.fts_ids.proofs.Ascending.{same_ids, below_at, at_most, AscendFrom-take, AscendFrom-join}
 use Rattle.fts_lists.proofs.Ascending.{has-with_id, AscendFrom-with_id}
 
 or_left : (a b : Bool) → a ≡ true → (a || b) ≡ true

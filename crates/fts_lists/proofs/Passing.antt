@@ -1,6 +1,6 @@
 -- Ascending ids, searched and filtered in place.
 use mir.Val.{bool_byte}
-use Rattle.std.proofs.Common.{◌≡◌, ◌∙◌, set, cond, suc, length, drop, get_or, ℕ, ◌+◌, ◌<◌, ◌≤◌, Bool, true, false, List, [], ◌∷◌, nat_eq, sym, ap, subst, ◌∙◌, arith, inl, inr, is_ok, Result, Ok, Err}
+use Rattle.std.proofs.Common.{◌≡◌, ◌∙◌, set, suc, length, drop, get_or, ℕ, ◌+◌, ◌<◌, ◌≤◌, Bool, true, false, List, [], ◌∷◌, nat_eq, sym, ap, subst, ◌∙◌, arith, inl, inr, is_ok, Result, Ok, Err}
 use Rattle.std.specs.List.Sorted.{IsStrictlyIncreasing}
 use Rattle.std.proofs.lemmas.Bool.{cases_lt, ne_eqb, eq-eqb}
 use Rattle.std.specs.List.Sorted.{IsBinarySearchResult}

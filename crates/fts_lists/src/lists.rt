@@ -4,7 +4,7 @@ ghost use Rattle.std.specs.Prelude.{IsTrue, IsOk, IfOk, OnOk, OnErr};
 ghost use Rattle.std.specs.Option.{option_copied};
 ghost use Rattle.fts_lists.specs.Ids.{with_id, with_ids, without};
 ghost use Rattle.fts_ids.specs.Ids.{has, Ascend};
-ghost use Rattle.fts_lists.specs.State.{held, ids_of, room_of, ChangesOnly, opened, closed};
+ghost use Rattle.fts_lists.specs.State.{ids_of, room_of, ChangesOnly, opened, closed};
 
 use crate::ids::IdSet;
 use crate::marked::MarkedIds;

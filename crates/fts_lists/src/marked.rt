@@ -1,7 +1,7 @@
 //! A set of ids, kept ascending, that tells of most ids in one look whether it has them.
-ghost use Rattle.std.specs.Prelude.{◌≡◌, ◌-◌, ◌<◌, ◌≤◌, ◌↔◌, ℕ, [], length, cond, IsOk, IfOk};
+ghost use Rattle.std.specs.Prelude.{◌≡◌, ◌-◌, ◌<◌, ◌≤◌, ℕ, [], length, cond, IsOk};
 ghost use Rattle.std.specs.Prelude.{OnOk, OnErr};
-ghost use Rattle.fts_ids.specs.Ids.{has, Ascend, AscendFrom};
+ghost use Rattle.fts_ids.specs.Ids.{has, Ascend};
 ghost use Rattle.fts_ids.specs.Marks.{is_marked};
 ghost use Rattle.fts_lists.specs.Ids.{with_ids, without, AreMarked};
 

@@ -1,10 +1,9 @@
 //! A set of ids, kept ascending.
-ghost use Rattle.std.specs.Prelude.{◌≡◌, ◌+◌, ◌-◌, ◌<◌, ◌≤◌, ◌↔◌, ℕ, [], ◌∷◌, ◌++◌, length, take};
-ghost use Rattle.std.specs.Prelude.{drop, IsTrue, IsOk, OnOk, OnErr};
+ghost use Rattle.std.specs.Prelude.{◌≡◌, ◌+◌, ◌-◌, ◌<◌, ◌≤◌, [], ◌∷◌, ◌++◌, length, take};
+ghost use Rattle.std.specs.Prelude.{drop, IsOk, OnOk, OnErr};
 ghost use Rattle.std.specs.Vec.{vec_len, vec_capacity};
-ghost use Rattle.fts_lists.specs.Ids.{with_id, with_ids, without};
+ghost use Rattle.fts_lists.specs.Ids.{with_ids, without};
 ghost use Rattle.fts_ids.specs.Ids.{has, Ascend, AscendFrom};
-ghost use Rattle.fts_lists.specs.Merging.{IsMerging};
 
 use crate::merge::{Merging, merge_next};
 use fts_ids::IdWalk;

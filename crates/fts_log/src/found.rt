@@ -1,5 +1,5 @@
 //! What an opening found.
-ghost use Rattle.std.specs.Prelude.{◌≡◌, ℕ, ◌+◌, ◌-◌, ◌^◌, ◌<◌, ◌≤◌, length, slice_index};
+ghost use Rattle.std.specs.Prelude.{◌≡◌, ◌+◌, ◌-◌, ◌^◌, ◌<◌, ◌≤◌, length, slice_index};
 ghost use Rattle.fts_log.specs.Place.{start_of, AreWithin, IsSpaced};
 
 use std::alloc::Global;

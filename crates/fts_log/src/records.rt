@@ -30,7 +30,7 @@ pub struct Records<D: Disk> {
 impl<D: Disk> Records<D> {
     ghost use Rattle.fts_log.specs.Records.{Hold, AreRead, AreAsMany, records_device};
     ghost use Rattle.fts_log.specs.Records.{records_magic, record_count};
-    ghost use Rattle.fts_log.specs.Log.{StandsFor, device_of, device_left, magic_of, limit_of};
+    ghost use Rattle.fts_log.specs.Log.{StandsFor, device_left, magic_of, limit_of};
     ghost use Rattle.fts_log.specs.Log.{found_count, count_of};
     ghost use Rattle.fts_log.specs.Record.{IsBrokenBehind, gate_at};
 

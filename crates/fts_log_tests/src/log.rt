@@ -1,4 +1,4 @@
-ghost use Rattle.std.specs.Prelude.{◌^◌, ◌<◌, [], length, IfOk, OnOk};
+ghost use Rattle.std.specs.Prelude.{◌^◌, ◌<◌, [], length, IfOk};
 ghost use Rattle.fts_log.specs.Log.{StandsFor};
 
 use fts_disk::{Call, Disk, Kind, MemDisk};

@@ -1,11 +1,11 @@
 ghost use Rattle.std.specs.Prelude.{◌≡◌, ◌+◌, ◌-◌, ◌<◌, ◌≤◌, ◌^◌, [], ◌∷◌, ◌++◌, length};
-ghost use Rattle.std.specs.Prelude.{slice_index, IfOk, OnOk, IsSome};
+ghost use Rattle.std.specs.Prelude.{IfOk, OnOk, IsSome};
 ghost use Rattle.fts_meaning.specs.Quote.{closing_quote};
-ghost use Rattle.fts_meaning.specs.Tree.{opening, closing, single, written, written_term};
-ghost use Rattle.fts_meaning.specs.Token.{sign_of, stray_at, quoted, word_operand, tokens_at};
+ghost use Rattle.fts_meaning.specs.Tree.{opening, closing, single, written};
+ghost use Rattle.fts_meaning.specs.Token.{sign_of, quoted, word_operand, tokens_at};
 ghost use Rattle.fts_meaning.specs.Token.{tokens_from};
 ghost use Rattle.fts_meaning.specs.Nesting.{Nests};
-ghost use Rattle.fts_query.specs.View.{operand_view, term_view, terms_view};
+ghost use Rattle.fts_query.specs.View.{operand_view, terms_view};
 ghost use Rattle.fts_query.specs.Built.{written_so_far, height_of};
 ghost use Rattle.fts_query.specs.Ahead.{word_from};
 

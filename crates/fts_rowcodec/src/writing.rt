@@ -1,5 +1,5 @@
 //! Writers at the head of a buffer: each says how many bytes it wrote. None takes memory.
-ghost use Rattle.std.specs.Prelude.{◌≡◌, ◌<◌, ◌≤◌, ◌∷◌, [], All, None, slice_index_or, length};
+ghost use Rattle.std.specs.Prelude.{◌<◌, ◌≤◌, ◌∷◌, [], All, None, slice_index_or, length};
 ghost use Rattle.std.specs.List.{flat_map};
 ghost use Rattle.std.specs.Int.{w64, to_be_bytes};
 ghost use Rattle.fts_commits.specs.declared.change.Change.TheVariants.{Insert, Update};

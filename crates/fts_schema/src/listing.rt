@@ -1,5 +1,5 @@
 //! The text of a listing.
-ghost use Rattle.std.specs.Prelude.{◌≡◌, ◌∷◌, [], decimal, map, IfOk, OnOk};
+ghost use Rattle.std.specs.Prelude.{◌≡◌, decimal, map, IfOk, OnOk};
 ghost use Rattle.fts_schema.specs.Listing.{group_front as the_group_front, document_rows};
 ghost use Rattle.fts_schema.specs.Listing.{group_rows, word_rows, words_rows, config_rows};
 ghost use Rattle.fts_schema.specs.Listing.{header_of as the_header_of, rows_of};

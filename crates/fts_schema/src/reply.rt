@@ -1,6 +1,6 @@
 ghost use Rattle.std.specs.Prelude.{◌≡◌, ◌∷◌, ◌++◌, [], ℕ, List, true, false, codes, string_bytes};
 ghost use Rattle.std.specs.Prelude.{OnOk, IfOk, IfSome, IfNone};
-ghost use Rattle.fts_schema.specs.Reply.{text_of, is_fixed, ids_text, pass_text as the_pass_text};
+ghost use Rattle.fts_schema.specs.Reply.{text_of, is_fixed, pass_text as the_pass_text};
 
 use crate::ids::push_ids;
 use crate::listing::listing_text;

@@ -1,5 +1,5 @@
 -- Changes that wait in a transaction, and their commit.
-use Rattle.std.proofs.Common.{◌≡◌, ◌⊎◌, inl, inr, ℕ, ◌+◌, ◌<◌, ◌≤◌, Bool, true, false, nat_lt, List, [], ◌∷◌, ◌++◌, length, refl, ap, sym, subst, ◌∙◌, arith, Option, Some, None, Ok, Err}
+use Rattle.std.proofs.Common.{◌≡◌, ◌⊎◌, inl, inr, ℕ, ◌+◌, ◌<◌, Bool, true, false, nat_lt, List, [], ◌∷◌, ◌++◌, length, refl, ap, sym, subst, ◌∙◌, arith, Option, Some, None, Ok, Err}
 use Rattle.std.proofs.lemmas.Bool.Decides.{nat_tests}
 use Rattle.std.proofs.lemmas.List.{length_push}
 use Rattle.std.proofs.lemmas.List.Elements.{All-head, All-push}
@@ -39,10 +39,6 @@ commit_asks told (change ∷ all) some = refl
 pub can_all : (columns : ℕ) (all : List Change) → FitsTable columns (Some all) → (all ≡ [] → ⊥) → CanCommit columns all
 can_all columns all (inl none) some = absurd (some none)
 can_all columns all (inr can) some = can
-
-pub few_open : (columns : ℕ) (all : List Change) → FitsTable columns (Some all) → length all ≤ 1000
-few_open columns all (inl none) = subst (λ (some : List Change). length some ≤ 1000) (sym none) (omega arith)
-few_open columns all (inr can) = can.made.few
 
 -- one change more
 module _ (columns : ℕ) (all : List Change) (change : Change) (fits : FitsTable columns (Some all)) (can : CanCommit columns (change ∷ [])) where

@@ -1,5 +1,5 @@
 //! The statements of the index: SYNC, and listings.
-ghost use Rattle.std.specs.Prelude.{◌≡◌, ◌∷◌, ◌++◌, [], List, codes, IfOk};
+ghost use Rattle.std.specs.Prelude.{◌≡◌, ◌∷◌, ◌++◌, [], codes, IfOk};
 ghost use Rattle.fts_types.specs.declared.settings.Settings.{Settings};
 ghost use Rattle.fts_steps.specs.Step.{to_list, flushed};
 ghost use Rattle.fts_steps.specs.Answers.{error_answer_of};

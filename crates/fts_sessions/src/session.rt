@@ -1,4 +1,4 @@
-ghost use Rattle.std.specs.Prelude.{◌≡◌, ℕ, None, length, max, IfOk};
+ghost use Rattle.std.specs.Prelude.{◌≡◌, ℕ, None, length, max};
 ghost use Rattle.fts_io.specs.Text.{whole};
 ghost use Rattle.fts_steps.specs.Step.{to_find};
 ghost use Rattle.fts_query.specs.View.{tree_of};

@@ -1,4 +1,4 @@
-ghost use Rattle.std.specs.Prelude.{◌≡◌, ◌⊎◌, ◌↔◌, ℕ, List, Ok, Err, Some, None, IsTrue, IfOk, map};
+ghost use Rattle.std.specs.Prelude.{◌≡◌, ◌⊎◌, ◌↔◌, ℕ, Ok, Err, Some, None, IsTrue, IfOk, map};
 ghost use Rattle.fts_sql.specs.declared.statement.Statement.{Statement};
 ghost use Rattle.fts_sql.specs.Line.{IsBlank};
 ghost use Rattle.fts_sql.specs.Statement.{IsStatement};

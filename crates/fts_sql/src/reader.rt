@@ -1,4 +1,4 @@
-ghost use Rattle.std.specs.Prelude.{◌≡◌, ◌∷◌, [], length, map, true, IfOk, IfSome};
+ghost use Rattle.std.specs.Prelude.{◌≡◌, ◌∷◌, [], true, IfOk};
 ghost use Rattle.std.specs.Option.{option_map};
 ghost use Rattle.fts_sql.specs.Reading.{token_of};
 ghost use Rattle.fts_sql.specs.Table.{parts_of};

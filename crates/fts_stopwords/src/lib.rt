@@ -6,7 +6,7 @@
 //! A look-up costs one load of eight bytes and one comparison.
 #![tactic(auto)]
 
-ghost use Rattle.std.specs.Prelude.{◌≡◌, ◌<◌, ◌≤◌, ◌↔◌, length, map, IsTrue, Contains};
+ghost use Rattle.std.specs.Prelude.{◌≡◌, ◌≤◌, ◌↔◌, length, map, IsTrue, Contains};
 ghost use Rattle.fts_words.specs.Byte.{lowered};
 ghost use Rattle.fts_words.specs.RawWords.{bytes_of};
 ghost use Rattle.fts_words.specs.Stopwords.{default_stopwords};

@@ -1,6 +1,6 @@
 //! The words of a text, from the bounds of words in a block of its places: the first place of each,
 //! and the one behind it.
-ghost use Rattle.std.specs.Prelude.{◌≡◌, ℕ, ◌+◌, ◌<◌, ◌≤◌, List, [], length, IsFalse, IfNone};
+ghost use Rattle.std.specs.Prelude.{◌≡◌, ℕ, ◌+◌, ◌<◌, ◌≤◌, [], length, IsFalse, IfNone};
 ghost use Rattle.std.specs.Prelude.{IfSome};
 ghost use Rattle.fts_words.specs.RawWords.{raw_words_from};
 ghost use Rattle.fts_token.specs.Bounds.{is_inside, is_bound, IsAhead, IsNextBound, IsFound};

@@ -6,8 +6,6 @@ ghost use Rattle.fts_io.specs.Text.{whole};
 ghost use Rattle.fts_steps.specs.Running.{Running};
 ghost use Rattle.fts_sessions.specs.Transaction.{FitsTable};
 ghost use Rattle.fts_sessions.specs.Direct.{direct_sight};
-ghost use Rattle.fts_engine.specs.Stands.{Holds};
-ghost use Rattle.fts_types.specs.Limits.{standard_limits};
 ghost use Rattle.fts_schema.specs.Summary.{summary_text};
 ghost use Rattle.fts_top.specs.Generate.{as_lines, script_of, IsPlayed, PlaysLine, Generates};
 ghost use Rattle.fts_top.specs.Generate.{IsSummary, Writes};

@@ -1,9 +1,9 @@
 //! The sessions of a script.
 ghost use Rattle.std.specs.Prelude.{◌≡◌, [], ℕ, Some, false, length};
 ghost use Rattle.std.specs.Prelude.{IfOk, IfErr, IfSome, IfNone, OnOk, OnErr};
-ghost use Rattle.fts_io.specs.Text.{whole, too_long};
+ghost use Rattle.fts_io.specs.Text.{whole};
 ghost use Rattle.fts_sessions.specs.declared.session.Session.{Session};
-ghost use Rattle.fts_top.specs.Kept.{met_of, mets_of, mets, AreKept, AllFit, IsPlace, IsOneMore};
+ghost use Rattle.fts_top.specs.Kept.{mets_of, mets, AreKept, AllFit, IsPlace, IsOneMore};
 ghost use Rattle.fts_top.specs.Sessions.{IsOf, is_met, open_in, leaving, Serves};
 
 use fts_io::Gate;

@@ -1,8 +1,8 @@
 //! A counter that threads raise under the turn.
-ghost use Rattle.std.specs.Prelude.{◌≡◌, ◌+◌, ◌^◌, ◌<◌, ◌≤◌, ◌++◌, ℕ, List, length, sum_by};
+ghost use Rattle.std.specs.Prelude.{◌≡◌, ◌+◌, ◌^◌, ◌<◌, ◌≤◌, length, sum_by};
 ghost use Rattle.std.specs.Prelude.{vec_capacity, IfSome};
 ghost use Rattle.fts_turn.specs.Histories.{Begins};
-ghost use Rattle.fts_turn.specs.Promises.{seat_number, seat_gave, seat_seen, seats_of, opening_of};
+ghost use Rattle.fts_turn.specs.Promises.{seat_gave, seat_seen, seats_of, opening_of};
 ghost use Rattle.fts_turn.specs.Promises.{IsAtRest, IsSameSeat, IsSeat, Numbered};
 ghost use denote.Param.Send.{IsSync};
 

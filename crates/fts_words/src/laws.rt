@@ -1,4 +1,4 @@
-ghost use Rattle.std.specs.Prelude.{◌≡◌, ℕ, ◌+◌, ◌-◌, ◌<◌, ◌≤◌, ◌⊎◌, ◌↔◌, List, All, Contains};
+ghost use Rattle.std.specs.Prelude.{◌≡◌, ℕ, ◌<◌, ◌≤◌, ◌⊎◌, ◌↔◌, List, All, Contains};
 ghost use Rattle.std.specs.Prelude.{IsTrue};
 ghost use Rattle.fts_words.specs.declared.span.Span.{Span};
 ghost use Rattle.fts_words.specs.Byte.{word_at};

@@ -1,9 +1,9 @@
 //! What a crash may have left, picked by a number.
-ghost use Rattle.std.specs.Prelude.{◌≡◌, ◌⊎◌, ◌+◌, ◌<◌, ◌≤◌, List, ℕ, true, false, length, take};
-ghost use Rattle.std.specs.Prelude.{min, All, IsTrue, ◌↔◌, IfOk, OnOk, slice_index_or};
+ghost use Rattle.std.specs.Prelude.{◌≡◌, ◌⊎◌, ◌+◌, ◌<◌, ◌≤◌, ℕ, true, false, length, take};
+ghost use Rattle.std.specs.Prelude.{min, All, IfOk, OnOk, slice_index_or};
 ghost use Rattle.fts_disk.specs.Device.{OnFile, Torn, Shortened};
 ghost use Rattle.fts_disk.specs.Contents.{contents};
-ghost use Rattle.fts_disk.specs.Replay.{overwritten, settles, seen_after, step_seen, images_at};
+ghost use Rattle.fts_disk.specs.Replay.{overwritten, settles, seen_after, step_seen};
 ghost use Rattle.fts_disk.specs.Replay.{IsOfFile, IsLeftIn, StepsOnDisk};
 
 use super::Call;

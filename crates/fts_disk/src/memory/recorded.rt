@@ -1,5 +1,5 @@
 //! The files of a device in memory, with a record of the calls on them.
-ghost use Rattle.std.specs.Prelude.{◌≡◌, ◌+◌, ◌<◌, ◌≤◌, ◌++◌, ◌∷◌, [], false, length, take, drop};
+ghost use Rattle.std.specs.Prelude.{◌≡◌, ◌+◌, ◌<◌, ◌≤◌, ◌++◌, ◌∷◌, [], false, length, take};
 ghost use Rattle.std.specs.Prelude.{All, IsTrue, IfOk, OnOk, OnErr};
 ghost use Rattle.fts_disk.specs.Device.{OnFile, Written, Torn, Shortened};
 ghost use Rattle.fts_disk.specs.Crash.{Within, Follows, Only, Elapses};

@@ -1,4 +1,4 @@
-use Rattle.std.proofs.Common.{◌≡◌, ℕ, length, subst, arith, ◌∙◌}
+use Rattle.std.proofs.Common.{◌≡◌, ℕ, length, subst, arith}
 use Rattle.fts_engine.specs.Loading.{IsLoaded, IsWrongEntry}
 use Rattle.fts_engine.specs.Kept.{kept_settings, kept_rows}
 use Rattle.fts_engine.proofs.Loading.{within_all}

@@ -1,4 +1,4 @@
-use Rattle.std.proofs.Common.{◌≡◌, List, ℕ, IsTrue}
+use Rattle.std.proofs.Common.{List, ℕ, IsTrue}
 use Rattle.fts_log.specs.Records.{Hold}
 use Rattle.fts_engine.specs.Loading.{IsLoaded}
 use Rattle.fts_engine.specs.Reading.{ReadsOne}

@@ -1,4 +1,4 @@
-use Rattle.std.proofs.Common.{◌≡◌, ◌<◌, length, arith, ap}
+use Rattle.std.proofs.Common.{length, arith, ap}
 use Rattle.std.proofs.lemmas.List.Folds.{list_any_at}
 use Rattle.fts_ids.specs.Ids.{has}
 use Rattle.fts_ids.proofs.marks.by_marks.Goals as goal

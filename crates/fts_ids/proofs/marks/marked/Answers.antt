@@ -1,4 +1,4 @@
-use Rattle.std.proofs.Common.{arith, get_or, false}
+use Rattle.std.proofs.Common.{false}
 use Rattle.fts_ids.proofs.Marking.{marked_yes, marked_no, marked_ascends}
 use Rattle.fts_ids.proofs.marks.marked.Goals as goal
 use Rattle.fts_ids.proofs.marks.marked.Goals.{then-marks-place+in_ok-push, else-marks-place}

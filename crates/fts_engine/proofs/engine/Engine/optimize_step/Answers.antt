@@ -1,24 +1,22 @@
-use Rattle.std.proofs.Common.{◌≡◌, ℕ, ◌<◌, List, [], ◌∷◌, ◌++◌, length, refl, sym, ap, subst, ◌∙◌, arith}
-use Rattle.std.specs.Prelude.{Err, fold, IfOk, IsTrue, Option, Some, false}
+use Rattle.std.proofs.Common.{◌≡◌, ℕ, ◌<◌, List, [], ◌∷◌, ◌++◌, refl, sym, ap, subst, ◌∙◌, arith}
+use Rattle.std.specs.Prelude.{Err, fold, IsTrue, Option, Some}
 use Rattle.fts_disk.proofs.Runs.{leaves_weaker}
 use Rattle.fts_disk.specs.declared.disk.Disk.{Ghosts}
 use Rattle.fts_log.specs.Log as log
 use Rattle.fts_log.specs.Log.{device_of}
 use Rattle.fts_log.specs.Record.{log_end}
 use Rattle.fts_log.specs.Frame.{payload_of}
-use Rattle.fts_entries.specs.Entry.{IndexEntry, IndexState, after_entry}
-use Rattle.fts_entries.specs.Pass.{IsStep}
+use Rattle.fts_entries.specs.Entry.{IndexState, after_entry}
 use Rattle.fts_index.specs.declared.passing.PassPlan.{PassPlan}
 use Rattle.fts_index.specs.declared.passing.PassPlan.TheVariants.{Begin, Word, Finish}
 use Rattle.fts_index.specs.Passing.{step_entry, PlansStep, HasPackedNodes, ArePacked}
 use Rattle.fts_steps.specs.State.{index_magic, index_payloads, turns_of}
 use Rattle.fts_steps.specs.Running.{Running, optimized, optimize_failed, next_optimized}
 use Rattle.fts_steps.specs.Crash.{MayHoldIndex}
-use Rattle.fts_steps.specs.Step.{Answer, to_optimize, full, passed, step_of, stopped, no_memory, writes, changes_of, is_disk_fault}
+use Rattle.fts_steps.specs.Step.{Answer, to_optimize, full, passed, step_of, stopped, no_memory, writes, changes_of}
 use Rattle.fts_steps.specs.declared.optimize.OptimizeStep.{OptimizeStep}
 use Rattle.fts_steps.specs.declared.optimize.OptimizeStep.TheVariants.{Nothing}
 use Rattle.fts_engine.specs.declared.engine.Engine.{Engine}
-use Rattle.fts_engine.specs.declared.kept.Kept.{Kept}
 use Rattle.fts_engine.specs.Kept.{IsIndexed}
 use Rattle.fts_engine.specs.Stands.{Stands, engine_limits}
 use Rattle.fts_engine.proofs.Committing.{keeps_with, as_before, one_more, same_end, not_past}
