@@ -3,7 +3,7 @@ use Rattle.std.specs.Prelude.{◌≡◌, ℕ, zero, suc, ◌<◌, ◌^◌, Bool,
 use Rattle.std.specs.Prelude.{length, Option, Some, None, Result, Ok, Err}
 use Rattle.std.specs.List.{list_all}
 use Rattle.std.specs.Int.{w16, w32, w64, is_in_range}
-use Rattle.fts_codec.specs.Reading.{behind_at, number_at, piece_at, many_at}
+use Rattle.fts_codec.specs.Reading.{◌>>=◌, behind_at, number_at, piece_at, many_at}
 use Rattle.fts_types.specs.declared.settings.Settings.{Settings}
 use Rattle.fts_commits.specs.Commit.{Commit}
 use Rattle.fts_commits.specs.Text.{is_text_byte}
