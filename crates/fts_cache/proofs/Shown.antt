@@ -6,7 +6,6 @@ use Rattle.std.specs.List.{All, IsDistinct, cons_option, list_any, AllByRecursio
 use Rattle.std.specs.List.Sorted.{IsSortedBy, IsStrictlySortedBy, IsPermutation}
 use Rattle.std.specs.Option.{option_to_list, option_map, IfSome}
 use Rattle.std.specs.Cmp.{IsStrictWeakOrder}
-use Rattle.std.proofs.lemmas.Option.{IfSome_then}
 use Rattle.std.proofs.lemmas.List.{append-nil, map-append}
 use Rattle.std.proofs.lemmas.List.Elements.{All-push}
 use Rattle.std.specs.Ordering.{is_lt, is_eq, ordering_reverse}
@@ -18,12 +17,14 @@ use Rattle.std.proofs.lemmas.Cmp.{nat_list_cmp_total}
 use Rattle.std.proofs.lemmas.List.Sorted.{ranks_by, sorted_far, list_any-IsPermutation, IsPermutation-map}
 use Rattle.std.proofs.lemmas.Map.Keys.{IsDistinct-IsPermutation}
 use Rattle.std.proofs.lemmas.Map.Text.{is_eq-slice_cmp}
-use Rattle.fts_ilist.specs.Spelling.{Posting, ArePostings, PostingsAfter, HasFirstId}
+use Rattle.fts_ilist.specs.Spelling.{Posting, PostingsAfter, HasFirstId}
 use Rattle.fts_ilist.specs.Queue.{Queue}
 use Rattle.fts_cache.specs.declared.words.CachedWord.{CachedWord}
-use Rattle.fts_cache.specs.Words.{Entries, Slots, slot_in, number_in, queue_in, IsTable, has_number, leaves, leaving_word, leaving_words, IsLent}
+use Rattle.fts_cache.specs.Words.{Entries, Slots, slot_in, number_in, queue_in, IsTable, has_number, leaves, leaving_word, leaving_words, IsSealed, sealed_word}
+use Rattle.std.specs.Map.{keys_of}
+use Rattle.fts_ilist.specs.Node.{Docs}
+use Rattle.fts_ilist.specs.Packing.{packed}
 use Rattle.fts_ilist.specs.Cursor.{postings_until}
-use Rattle.fts_cache.specs.Sorted.{lent_words}
 use Rattle.fts_cache.proofs.Queues.{which_word, is_same}
 use Rattle.fts_cache.proofs.Table.{which_number, some_is, none_is_not, queue_of_number}
 
@@ -90,60 +91,69 @@ flips x y =
     (which_word y x))
     (which_word x y)
 
--- ---- words with their documents
+-- ---- words with their nodes
 
 abbrev Entry : Type 0
-Entry = Bor (List ℕ) × List Posting
+Entry = List ℕ × List Docs
 
-head_entry : (x : List ℕ) (es : List Entry) → ((j : ℕ) (d : Entry) → j < length es → is_lt (byte_order (get_or es j d).0.now x) ≡ false)
-    → AllByRecursion (λ (y : List ℕ). bytes_eq x y ≡ false) (lent_words es) → AllByRecursion (λ (y : List ℕ). byte_order x y ≡ Less) (lent_words es)
+head_entry : (x : List ℕ) (es : List Entry) → ((j : ℕ) (d : Entry) → j < length es → is_lt (byte_order (get_or es j d).0 x) ≡ false)
+    → AllByRecursion (λ (y : List ℕ). bytes_eq x y ≡ false) (keys_of es) → AllByRecursion (λ (y : List ℕ). byte_order x y ≡ Less) (keys_of es)
 head_entry x [] far differ = tt
 head_entry x (e ∷ es) far differ =
-    (less_from x e.0.now (far 0 e (omega arith)) differ.0, head_entry x es (λ j d lt. far (suc j) d (omega (arith, lt))) differ.1)
+    (less_from x e.0 (far 0 e (omega arith)) differ.0, head_entry x es (λ j d lt. far (suc j) d (omega (arith, lt))) differ.1)
 
-strict_entries : (es : List Entry) → ((i j : ℕ) (d : Entry) → i ≤ j → j < length es → is_lt (byte_order (get_or es j d).0.now (get_or es i d).0.now) ≡ false)
-    → IsDistinct bytes_eq (lent_words es) → IsStrictlySortedBy byte_order (lent_words es)
+strict_entries : (es : List Entry) → ((i j : ℕ) (d : Entry) → i ≤ j → j < length es → is_lt (byte_order (get_or es j d).0 (get_or es i d).0) ≡ false)
+    → IsDistinct bytes_eq (keys_of es) → IsStrictlySortedBy byte_order (keys_of es)
 unfolding IsDistinct IsStrictlySortedBy
 strict_entries [] far u = tt
 strict_entries (e ∷ es) far u =
-    (head_entry e.0.now es (λ j d lt. far 0 (suc j) d (omega arith) (omega (arith, lt))) u.0, strict_entries es (λ i j d le lt. far (suc i) (suc j) d (omega (arith, le)) (omega (arith, lt))) u.1)
+    (head_entry e.0 es (λ j d lt. far 0 (suc j) d (omega arith) (omega (arith, lt))) u.0, strict_entries es (λ i j d le lt. far (suc i) (suc j) d (omega (arith, le)) (omega (arith, lt))) u.1)
 
-pub entries_rank : IsStrictWeakOrder (λ (v w : Entry). is_lt (byte_order v.0.now w.0.now))
-entries_rank = ranks_by nat_list_cmp_total (λ (e : Entry). e.0.now)
+pub entries_rank : IsStrictWeakOrder (λ (v w : Entry). is_lt (byte_order v.0 w.0))
+entries_rank = ranks_by nat_list_cmp_total (λ (e : Entry). e.0)
 
-pub sorted_entries : (found sorted : List Entry) → IsDistinct bytes_eq (lent_words found)
-    → IsPermutation found sorted → IsSortedBy (λ (v w : Entry). is_lt (byte_order v.0.now w.0.now)) sorted → IsStrictlySortedBy byte_order (lent_words sorted)
+pub sorted_entries : (found sorted : List Entry) → IsDistinct bytes_eq (keys_of found)
+    → IsPermutation found sorted → IsSortedBy (λ (v w : Entry). is_lt (byte_order v.0 w.0)) sorted → IsStrictlySortedBy byte_order (keys_of sorted)
 sorted_entries found sorted differ moved up =
-    let word : Entry → List ℕ = λ e. e.0.now in
+    let word : Entry → List ℕ = λ e. e.0 in
     strict_entries sorted
-    (λ i j d le lt. sorted_far (λ (v w : Entry). is_lt (byte_order v.0.now w.0.now)) entries_rank sorted up i j d le lt)
+    (λ i j d le lt. sorted_far (λ (v w : Entry). is_lt (byte_order v.0 w.0)) entries_rank sorted up i j d le lt)
     (IsDistinct-IsPermutation bytes_eq flips (map word found) (map word sorted) (IsPermutation-map word found sorted moved) differ)
 
-among_entries : (found sorted : List Entry) → IsPermutation found sorted → (w : List ℕ) → list_any (bytes_eq w) (lent_words sorted) ≡ list_any (bytes_eq w) (lent_words found)
+among_entries : (found sorted : List Entry) → IsPermutation found sorted → (w : List ℕ) → list_any (bytes_eq w) (keys_of sorted) ≡ list_any (bytes_eq w) (keys_of found)
 among_entries found sorted moved w =
-    let word : Entry → List ℕ = λ e. e.0.now in
+    let word : Entry → List ℕ = λ e. e.0 in
     sym (list_any-IsPermutation (bytes_eq w) (map word found) (map word sorted) (IsPermutation-map word found sorted moved))
 
--- what is lent is what its word has
-pub lent_is : (es : Entries) (word : List ℕ) (ps : List Posting) → IsTable es → IsLent es.slots word ps → ps ≡ (queue_in es word).postings
-lent_is es word ps t l =
-    let number : number_in es word ≡ Some l.number = ap (number_in es) (sym l.word_is) ∙ t.known l.number l.slot l.at in
-    l.postings_are ∙ sym (ap (λ (q : Queue). q.postings) (queue_of_number es word l.number l.slot number l.at))
+-- the nodes that are given are those of their word's documents
+sealed_is : (es : Entries) (doc : ℕ) (word : List ℕ) (nodes : List Docs) → IsTable es → IsSealed es.slots doc word nodes → nodes ≡ packed (postings_until doc (queue_in es word).postings)
+sealed_is es doc word nodes t s =
+    let number : number_in es word ≡ Some s.number = ap (number_in es) (ap (λ (e : Entry). e.0) s.same) ∙ t.known s.number s.slot s.at in
+    ap (λ (e : Entry). e.1) s.same ∙ sym (ap (λ (q : Queue). packed (postings_until doc q.postings)) (queue_of_number es word s.number s.slot number s.at))
 
--- of all that are lent
-pub all_lent : (es : Entries) (lent : List Entry) → IsTable es → All (λ (e : Entry). IsLent es.slots e.0.now e.1) lent → All (λ (e : Entry). (e.1 ≡ (queue_in es e.0.now).postings) × ArePostings e.1) lent
-all_lent es lent t all = λ k d less. (lent_is es (get_or lent k d).0.now (get_or lent k d).1 t (all k d less), (all k d less).are)
+-- of all that are given
+pub all_sealed : (es : Entries) (doc : ℕ) (given : List Entry) → IsTable es → All (λ (e : Entry). IsSealed es.slots doc e.0 e.1) given
+    → All (λ (e : Entry). e.1 ≡ packed (postings_until doc (queue_in es e.0).postings)) given
+all_sealed es doc given t all = λ k d less. sealed_is es doc (get_or given k d).0 (get_or given k d).1 t (all k d less)
 
-pub lent_from : (slots : Slots) (n : ℕ) (s : CachedWord) (o : Option Entry) → slot_in slots n ≡ Some s → IfSome o (λ e. (s.word ≡ e.0.now) × (e.1 ≡ s.queue.postings) × ArePostings e.1) → IfSome o (λ e. IsLent slots e.0.now e.1)
-lent_from slots n s o at h = IfSome_then o h (λ e is. record { number = n; slot = s; at = at; word_is = is.0; postings_are = is.1; are = is.2 })
+abbrev Slot : Type 0
+Slot = Bor CachedWord
+
+abbrev pub sealed_in : ℕ → Option Slot → Option Entry
+sealed_in doc o = option_map (λ s. sealed_word doc s.now) o
+
+-- what a slot gives is sealed
+pub sealed_from : (slots : Slots) (doc n : ℕ) (o : Option Slot) → IfSome o (λ s. slot_in slots n ≡ Some s.now) → IfSome (sealed_in doc o) (λ e. IsSealed slots doc e.0 e.1)
+sealed_from slots doc n None h = h
+sealed_from slots doc n (Some s) h = record { number = n; slot = s.now; at = h; same = refl }
 
 -- one more word, or none
-pub lent_more : (es : List Entry) (o : Option Entry) → lent_words (es ++ option_to_list o) ≡ lent_words es ++ option_to_list (option_map (λ (e : Entry). e.0.now) o)
-lent_more es o = map-append (λ (e : Entry). e.0.now) es (option_to_list o) ∙ ap (λ (ws : List (List ℕ)). lent_words es ++ ws) (by o)
+pub keys_more : (doc : ℕ) (es : List Entry) (o : Option Slot) → keys_of (es ++ option_to_list (sealed_in doc o)) ≡ keys_of es ++ option_to_list (option_map (λ (s : Slot). s.now.word) o)
+keys_more doc es o = map-append (λ (e : Entry). e.0) es (option_to_list (sealed_in doc o)) ∙ ap (λ (ws : List (List ℕ)). keys_of es ++ ws) (by o)
   where
-    by : (o : Option Entry) → lent_words (option_to_list o) ≡ option_to_list (option_map (λ (e : Entry). e.0.now) o)
+    by : (o : Option Slot) → keys_of (option_to_list (sealed_in doc o)) ≡ option_to_list (option_map (λ (s : Slot). s.now.word) o)
     by None = refl
-    by (Some e) = refl
+    by (Some s) = refl
 
 pub all_more : (P : Entry → Type 0) (es : List Entry) (o : Option Entry) → All P es → IfSome o P → All P (es ++ option_to_list o)
 all_more P es None all h = subst (All P) (sym (append-nil es)) all
@@ -266,10 +276,10 @@ left_differ es doc (n ∷ ns) t u = by (leaving_word doc (slot_in es.slots n)) r
         let number : number_in es v ≡ Some n = ap (number_in es) (sym l.word) ∙ t.known n l.s l.at in
         subst (λ (o : Option (List ℕ)). IsDistinct bytes_eq (cons_option o (leaving_words es.slots doc ns))) (sym f) (apart es doc ns v n t number u.0, rest)
 
-pub left_are : (es : Entries) (doc : ℕ) (ns : List ℕ) (found sorted : List Entry) → IsTable es → lent_words found ≡ leaving_words es.slots doc ns → IsPermutation found sorted
-    → (w : List ℕ) → (list_any (bytes_eq w) (lent_words sorted) ≡ true) ↔ ((n : ℕ) × (number_in es w ≡ Some n) × (has_number n ns ≡ true) × (postings_until doc (queue_in es w).postings ≢ []))
+pub left_are : (es : Entries) (doc : ℕ) (ns : List ℕ) (found sorted : List Entry) → IsTable es → keys_of found ≡ leaving_words es.slots doc ns → IsPermutation found sorted
+    → (w : List ℕ) → (list_any (bytes_eq w) (keys_of sorted) ≡ true) ↔ ((n : ℕ) × (number_in es w ≡ Some n) × (has_number n ns ≡ true) × (postings_until doc (queue_in es w).postings ≢ []))
 left_are es doc ns found sorted t is moved w =
-    let same : list_any (bytes_eq w) (lent_words sorted) ≡ list_any (bytes_eq w) (leaving_words es.slots doc ns)
+    let same : list_any (bytes_eq w) (keys_of sorted) ≡ list_any (bytes_eq w) (leaving_words es.slots doc ns)
     = among_entries found sorted moved w ∙ ap (list_any (bytes_eq w)) is in
     (λ e. left_from es doc ns w t (sym same ∙ e), λ h. same ∙ left_to es doc ns w h.0 t h.1 h.2 h.3)
 

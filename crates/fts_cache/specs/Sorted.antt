@@ -5,7 +5,6 @@ use Rattle.std.specs.List.{list_any}
 use Rattle.std.specs.List.Sorted.{IsStrictlySortedBy}
 use Rattle.std.specs.Str.{bytes_eq}
 use Rattle.fts_words.specs.Order.{byte_order}
-use Rattle.fts_ilist.specs.Spelling.{Posting}
 
 -- the word is among these
 abbrev pub IsAmong : List ℕ → List (Bor (List ℕ)) → Type 0
@@ -14,7 +13,3 @@ IsAmong word words = IsTrue (list_any (bytes_eq word) (map (λ w. w.now) words))
 -- the words ascend in the order of their bytes, and no two are the same
 abbrev pub AscendByBytes : List (Bor (List ℕ)) → Type 0
 AscendByBytes words = IsStrictlySortedBy byte_order (map (λ w. w.now) words)
-
--- the words that a call lends with their documents
-abbrev pub lent_words : List (Bor (List ℕ) × List Posting) → List (List ℕ)
-lent_words entries = map (λ e. e.0.now) entries

@@ -1,16 +1,19 @@
 -- The cached words, each by its number, and their queues.
 use Rattle.std.specs.Prelude.{◌≡◌, ◌≢◌, ℕ, ◌+◌, ◌-◌, ◌^◌, ◌<◌, ◌≤◌, Bool, ◌&&◌, nat_eq, nat_lt, filter}
-use Rattle.std.specs.Prelude.{List, [], ◌∷◌, ◌++◌, length, if◌then◌else◌}
+use Rattle.std.specs.Borrow.{Bor}
+use Rattle.std.specs.Prelude.{List, [], ◌∷◌, ◌++◌, length, map, if◌then◌else◌}
 use Rattle.std.specs.Prelude.{Option, Some, None, slice_index_or, filter_map, true, false}
 use Rattle.std.specs.List.{list_any}
 use Rattle.std.specs.BTreeMap.{BTreeMap, get}
 use Rattle.std.specs.Map.{lookup, keys_of}
 use Rattle.std.specs.Option.{unwrap_or, option_map, option_map_or}
 use Rattle.std.specs.Str.{bytes_eq}
-use Rattle.fts_ilist.specs.Spelling.{Posting, ArePositions, ArePostings}
+use Rattle.fts_ilist.specs.Spelling.{Posting, ArePositions}
 use Rattle.fts_words.specs.Order.{byte_order}
 use Rattle.fts_ilist.specs.Queue.{Queue, bytes_for, postings_behind}
 use Rattle.fts_ilist.specs.Cursor.{postings_until}
+use Rattle.fts_ilist.specs.Node.{Docs}
+use Rattle.fts_ilist.specs.Packing.{packed}
 use Rattle.fts_cache.specs.Document.{WordPositions, Document, postings_from, document_postings, bytes_in}
 use Rattle.fts_cache.specs.declared.words.CachedWord.{CachedWord}
 
@@ -224,11 +227,17 @@ has_documents entries w = nat_lt 0 (length (queue_in entries w).postings)
 abbrev pub with_documents : Entries → List (List ℕ) → List (List ℕ)
 with_documents entries words = filter (λ w. has_documents entries w) words
 
--- what was lent is a word with a number, with its documents
-pub record IsLent (slots : Slots) (word : List ℕ) (postings : List Posting) : Type 0 where
+-- a word with the nodes of its documents up to an id
+abbrev pub sealed_word : ℕ → CachedWord → List ℕ × List Docs
+sealed_word doc s = (s.word, packed (postings_until doc s.queue.postings))
+
+-- words that are lent with their documents, with the nodes of these up to an id
+abbrev pub sealed_all : ℕ → List (Bor (List ℕ) × List Posting) → List (List ℕ × List Docs)
+sealed_all doc lent = map (λ e. (e.0.now, packed (postings_until doc e.1))) lent
+
+-- what is given is a word with a number, with the nodes of its documents up to an id
+pub record IsSealed (slots : Slots) (doc : ℕ) (word : List ℕ) (nodes : List Docs) : Type 0 where
   pub number : ℕ
   pub slot : CachedWord
   pub at : slot_in slots number ≡ Some slot
-  pub word_is : slot.word ≡ word
-  pub postings_are : postings ≡ slot.queue.postings
-  pub are : ArePostings postings
+  pub same : (word, nodes) ≡ sealed_word doc slot

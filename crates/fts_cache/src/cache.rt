@@ -12,7 +12,9 @@ ghost use Rattle.fts_cache.specs.Cache.{IdsAscend, room_of, room_left, HoldsNoOt
 ghost use Rattle.fts_cache.specs.Words.{queue_in, AreBehind};
 ghost use Rattle.fts_ilist.specs.Cursor.{postings_until};
 ghost use Rattle.fts_cache.specs.Kept.{kept, NoteWords, NotesUntil};
-ghost use Rattle.fts_cache.specs.Sorted.{IsAmong, AscendByBytes, lent_words};
+ghost use Rattle.fts_cache.specs.Sorted.{IsAmong, AscendByBytes};
+ghost use Rattle.std.specs.Map.{keys_of};
+ghost use Rattle.fts_ilist.specs.Packing.{packed};
 ghost use Rattle.std.specs.List.{IsDistinct, All, list_any};
 ghost use Rattle.std.specs.List.Sorted.{IsStrictlySortedBy};
 ghost use Rattle.std.specs.Str.{bytes_eq};
@@ -21,7 +23,7 @@ ghost use Rattle.fts_words.specs.Order.{begins_with, byte_order};
 use crate::adding::{add_document, drop_all, drop_left, release_promised, reserve_documents};
 use crate::document::DocWords;
 use crate::words::Words;
-use fts_ilist::Cursor;
+use fts_ilist::{Cursor, Nodes};
 use std::alloc::{AllocError, Global};
 use std::collections::VecDeque;
 use std::marker::Model;
@@ -287,19 +289,19 @@ impl Cache {
         self.words.prefix(prefix)
     }
 
-    /// The words of the documents up to `doc`, in the order of their bytes, each once, with its
-    /// `postings`, of which the first are those up to `doc`. They lie in the cache's allocator.
+    /// The words of the documents up to `doc`, in the order of their bytes, each once, with the
+    /// nodes of its documents up to `doc`. They lie in the cache's allocator.
     ///
-    /// It costs those documents' words and a sort of them, or a walk over the cache's words, where
-    /// these are few beside them; no word is looked up.
-    pub fn words_until(&self, doc: u64) -> Result<Vec<(&[u8], Cursor<'_>)>, AllocError>
-        ensures words { IfOk result (λ words. (w : List ℕ)
-            → IsTrue (list_any (bytes_eq w) (lent_words words.items))
+    /// It costs those documents' words and their postings, and a sort of the words, or a walk over
+    /// the cache's words, where these are few beside them; no word is looked up.
+    pub fn nodes_until<'n>(&self, doc: u64) -> Result<Nodes<'n>, AllocError>
+        ensures words { IfOk result (λ nodes. (w : List ℕ)
+            → IsTrue (list_any (bytes_eq w) (keys_of nodes.items))
             ↔ (postings_until doc (postings_of self.now w) ≢ [])) }
         ensures ascending { IfOk result
-            (λ words. IsStrictlySortedBy byte_order (lent_words words.items)) }
-        ensures documents { IfOk result (λ words. All (λ e.
-            (e.1 ≡ postings_of self.now e.0.now) × ArePostings e.1) words.items) }
+            (λ nodes. IsStrictlySortedBy byte_order (keys_of nodes.items)) }
+        ensures nodes { IfOk result (λ nodes. All (λ e.
+            e.1 ≡ packed (postings_until doc (postings_of self.now e.0))) nodes.items) }
     {
         if self.words.listed_len() / 2 <= noted_len(&self.documents, doc) {
             return self.words.leaving_in_order(doc);

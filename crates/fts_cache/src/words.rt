@@ -5,7 +5,7 @@ ghost use Rattle.std.specs.Prelude.{OnErr, IsTrue, true, nat_eq, if◌then◌els
 ghost use Rattle.std.specs.Option.{option_map, option_to_list};
 ghost use Rattle.std.specs.List.{IsDistinct};
 ghost use Rattle.std.specs.Str.{bytes_eq};
-ghost use Rattle.fts_cache.specs.Sorted.{IsAmong, AscendByBytes, lent_words};
+ghost use Rattle.fts_cache.specs.Sorted.{IsAmong, AscendByBytes};
 ghost use Rattle.std.specs.List.{All, list_any};
 ghost use Rattle.std.specs.List.Sorted.{IsPermutation, IsSortedBy, IsStrictlySortedBy};
 ghost use Rattle.std.specs.Ordering.{is_lt};
@@ -21,10 +21,12 @@ ghost use Rattle.fts_cache.specs.Words.{leaving_word, leaving_words, has_documen
 ghost use Rattle.fts_ilist.specs.Front.{front};
 ghost use Rattle.fts_words.specs.Order.{begins_with};
 ghost use Rattle.fts_cache.specs.Words.{with_documents, is_spent, is_spent_at, IsUsedBut, IsListed};
-ghost use Rattle.fts_cache.specs.Words.{AreKept, IsLent, KeepsBut, is_leaving_as, leaving_listed};
+ghost use Rattle.fts_cache.specs.Words.{AreKept, IsSealed, KeepsBut, is_leaving_as, leaving_listed};
+ghost use Rattle.fts_cache.specs.Words.{sealed_all, sealed_word};
+ghost use Rattle.fts_ilist.specs.Packing.{packed};
 ghost use Rattle.std.specs.Map.{keys_of};
 
-use fts_ilist::{Cursor, PostingQueue};
+use fts_ilist::{Cursor, Nodes, PostingQueue, WordNodes, pack_until};
 use fts_types::{Word, WordBytes};
 use indexmap::IndexMap;
 use slab::Slab;
@@ -33,7 +35,15 @@ use std::cmp::Ordering;
 use std::collections::BTreeMap;
 use std::collections::btree_map::{Iter, Range};
 use std::marker::Model;
+use std::mem;
 use std::ops::Bound;
+
+/// How many words are looked at together before their nodes are made, so that the processor fetches
+/// what they hold side by side.
+const TOGETHER: usize = 32;
+
+/// Words that are lent, each with its documents.
+type Lent<'a> = Vec<(&'a [u8], Cursor<'a>)>;
 
 /// A word, and its documents.
 #[derive(Drop)]
@@ -199,77 +209,93 @@ fn is_leaving(queue: &PostingQueue, doc: u64) -> bool
     }
 }
 
-/// A word with its documents, where it has one up to `doc`.
-fn lent(cached: &CachedWord, doc: u64) -> Option<(&[u8], Cursor<'_>)>
-    ensures word { option_map (λ e. e.0.now) result ≡ leaving_word doc (Some cached.now) }
-    ensures documents { IfSome result (λ e. (cached.now.word ≡ e.0.now)
-        × (e.1 ≡ cached.now.queue.postings) × ArePostings e.1) }
-{
-    if !is_leaving(&cached.queue, doc) {
-        return None;
-    }
-    Some((cached.word.as_bytes(), cached.queue.docs()))
-}
-
-/// The word with this number and its documents, where it has one up to `doc`.
-fn leaving(slots: &Slab<CachedWord>, number: u32, doc: u64) -> Option<(&[u8], Cursor<'_>)>
-    ensures word { option_map (λ e. e.0.now) result
+/// The word with this number, where it has a document up to `doc`.
+fn leaving(slots: &Slab<CachedWord>, number: u32, doc: u64) -> Option<&CachedWord>
+    ensures word { option_map (λ s. s.now.word) result
         ≡ leaving_word doc (slot_in slots.now.slots number) }
-    ensures lent { IfSome result (λ e. IsLent slots.now.slots e.0.now e.1) }
+    ensures slot { IfSome result (λ s. slot_in slots.now.slots number ≡ Some s.now) }
 {
     match slots.get(number as usize) {
-        Some(cached) => lent(cached, doc),
-        None => None,
+        Some(cached) if is_leaving(&cached.queue, doc) => Some(cached),
+        _ => None,
     }
 }
 
-/// Those of the words with these numbers that have a document up to `doc`, with their documents.
-fn all_leaving<'a>(
-    alloc: Global,
-    slots: &'a Slab<CachedWord>,
-    numbers: &[u32],
-    doc: u64,
-) -> Result<Vec<(&'a [u8], Cursor<'a>)>, AllocError>
-    ensures words { IfOk result (λ words. lent_words words.items
-        ≡ leaving_words slots.now.slots doc numbers.now) }
-    ensures lent { IfOk result (λ words. All (λ e. IsLent slots.now.slots e.0.now e.1)
-        words.items) }
+/// Puts words that are lent with their documents behind others, each with the nodes of its
+/// documents up to `doc`.
+fn seal_all(nodes: &mut Nodes<'_>, lent: Lent<'_>, doc: u64) -> Result<(), AllocError>
+    ensures { OnOk result (nodes.new.items
+        ≡ nodes.old.items ++ sealed_all doc lent.entry.items) }
 {
-    let mut words = Vec::new(alloc);
-    for number in numbers {
-        push_some(&mut words, leaving(slots, *number, doc))?;
-    }
-    Ok(words)
-}
-
-/// Puts a word with its documents behind the others, where there is one.
-fn push_some<'a>(
-    words: &mut Vec<(&'a [u8], Cursor<'a>)>,
-    word: Option<(&'a [u8], Cursor<'a>)>,
-) -> Result<(), AllocError>
-    ensures { OnOk result (words.new.items ≡ words.old.items ++ option_to_list word.entry) }
-{
-    if let Some(word) = word {
-        words.push(word)?;
+    let alloc = *nodes.allocator();
+    for entry in lent {
+        let (word, documents) = entry;
+        let packed = pack_until(alloc, documents, doc)?;
+        nodes.push(WordNodes::new(Word::copied(alloc, word)?, packed))?;
     }
     Ok(())
 }
 
-/// The word with its documents, where this is its number and it has a document up to `doc`.
+/// Lends a word with its documents, where there is one. Where so many are lent as are looked at
+/// together, they come behind the others.
+fn put_leaving<'a>(
+    nodes: &mut Nodes<'_>,
+    lent: &mut Lent<'a>,
+    cached: Option<&'a CachedWord>,
+    doc: u64,
+) -> Result<(), AllocError>
+    ensures { OnOk result (nodes.new.items ++ sealed_all doc lent.new.items
+        ≡ (nodes.old.items ++ sealed_all doc lent.old.items)
+        ++ option_to_list (option_map (λ s. sealed_word doc s.now) cached.entry)) }
+{
+    let Some(cached) = cached else {
+        return Ok(());
+    };
+    lent.push((cached.word.as_bytes(), cached.queue.docs()))?;
+    if lent.len() < TOGETHER {
+        return Ok(());
+    }
+    let next = Vec::with_capacity(*nodes.allocator(), TOGETHER)?;
+    seal_all(nodes, mem::replace(lent, next), doc)
+}
+
+/// Those of the words with these numbers that have a document up to `doc`, each with the nodes of
+/// these documents.
+fn all_leaving<'n>(
+    alloc: Global,
+    slots: &Slab<CachedWord>,
+    numbers: &[u32],
+    doc: u64,
+) -> Result<Nodes<'n>, AllocError>
+    ensures words { IfOk result (λ nodes. keys_of nodes.items
+        ≡ leaving_words slots.now.slots doc numbers.now) }
+    ensures sealed { IfOk result (λ nodes. All (λ e. IsSealed slots.now.slots doc e.0 e.1)
+        nodes.items) }
+{
+    let mut nodes = Vec::new(alloc);
+    let mut lent = Vec::new(alloc);
+    for number in numbers {
+        put_leaving(&mut nodes, &mut lent, leaving(slots, *number, doc), doc)?;
+    }
+    seal_all(&mut nodes, lent, doc)?;
+    Ok(nodes)
+}
+
+/// The word with this number, where it is this one and has a document up to `doc`.
 fn leaving_as<'a>(
     slots: &'a Slab<CachedWord>,
     word: &[u8],
     number: u32,
     doc: u64,
-) -> Option<(&'a [u8], Cursor<'a>)>
-    ensures word { option_map (λ e. e.0.now) result
+) -> Option<&'a CachedWord>
+    ensures word { option_map (λ s. s.now.word) result
         ≡ (if is_leaving_as slots.now.slots doc (word.now, number) then Some word.now else None) }
-    ensures lent { IfSome result (λ e. IsLent slots.now.slots e.0.now e.1) }
+    ensures slot { IfSome result (λ s. slot_in slots.now.slots number ≡ Some s.now) }
 {
     match leaving(slots, number, doc) {
-        Some((found, documents)) => {
-            if word == found {
-                return Some((found, documents));
+        Some(cached) => {
+            if word == cached.word.as_bytes() {
+                return Some(cached);
             }
             None
         }
@@ -277,39 +303,43 @@ fn leaving_as<'a>(
     }
 }
 
-/// Those of the words in byte order that have a document up to `doc`, with their documents.
-fn all_listed<'a>(
+/// Those of the words in byte order that have a document up to `doc`, each with the nodes of these
+/// documents.
+fn all_listed<'n>(
     alloc: Global,
-    slots: &'a Slab<CachedWord>,
-    rest: Iter<'a, Word, u32>,
+    slots: &Slab<CachedWord>,
+    rest: Iter<'_, Word, u32>,
     doc: u64,
-) -> Result<Vec<(&'a [u8], Cursor<'a>)>, AllocError>
-    ensures words { IfOk result (λ words. lent_words words.items
+) -> Result<Nodes<'n>, AllocError>
+    ensures words { IfOk result (λ nodes. keys_of nodes.items
         ≡ leaving_listed slots.now.slots doc rest.entry) }
-    ensures lent { IfOk result (λ words. All (λ e. IsLent slots.now.slots e.0.now e.1)
-        words.items) }
+    ensures sealed { IfOk result (λ nodes. All (λ e. IsSealed slots.now.slots doc e.0 e.1)
+        nodes.items) }
 {
     let mut rest = rest;
-    let mut words = Vec::new(alloc);
+    let mut nodes = Vec::new(alloc);
+    let mut lent = Vec::new(alloc);
     while let Some((word, number)) = rest.next() {
-        push_some(&mut words, leaving_as(slots, word.as_bytes(), *number, doc))?;
+        let cached = leaving_as(slots, word.as_bytes(), *number, doc);
+        put_leaving(&mut nodes, &mut lent, cached, doc)?;
     }
-    Ok(words)
+    seal_all(&mut nodes, lent, doc)?;
+    Ok(nodes)
 }
 
 /// How two words are ordered: as their bytes are.
-fn by_bytes(word: &(&[u8], Cursor<'_>), other: &(&[u8], Cursor<'_>)) -> Ordering
-    ensures { result ≡ byte_order word.now.0.now other.now.0.now }
+fn by_bytes(word: &WordNodes<'_>, other: &WordNodes<'_>) -> Ordering
+    ensures { result ≡ byte_order word.now.0 other.now.0 }
 {
-    word.0.cmp(&other.0)
+    word.word().cmp(other.word())
 }
 
 /// Sorts words by their bytes. It takes no memory.
-fn sort_words(words: &mut Vec<(&[u8], Cursor<'_>)>)
-    ensures same { IsPermutation words.old.items words.new.items }
-    ensures sorted { IsSortedBy (λ v w. is_lt (byte_order v.0.now w.0.now)) words.new.items }
+fn sort_words(nodes: &mut Nodes<'_>)
+    ensures same { IsPermutation nodes.old.items nodes.new.items }
+    ensures sorted { IsSortedBy (λ v w. is_lt (byte_order v.0 w.0)) nodes.new.items }
 {
-    words.sort_unstable_by(|a, b| by_bytes(a, b));
+    nodes.sort_unstable_by(|a, b| by_bytes(a, b));
 }
 
 /// The words at the front of the rest that begin so, and that a document has.
@@ -503,33 +533,33 @@ impl Words {
     }
 
     /// Those of the words with these numbers that have a document up to `doc`, in the order of
-    /// their bytes, each with its documents.
-    pub fn leaving(&self, numbers: &[u32], doc: u64) -> Result<Vec<(&[u8], Cursor<'_>)>, AllocError>
+    /// their bytes, each with the nodes of these documents.
+    pub fn leaving<'n>(&self, numbers: &[u32], doc: u64) -> Result<Nodes<'n>, AllocError>
         requires { IsDistinct nat_eq numbers.now }
-        ensures words { IfOk result (λ words. (w : List ℕ)
-            → IsTrue (list_any (bytes_eq w) (lent_words words.items))
+        ensures words { IfOk result (λ nodes. (w : List ℕ)
+            → IsTrue (list_any (bytes_eq w) (keys_of nodes.items))
             ↔ ((n : ℕ) × (number_in self.now w ≡ Some n) × (has_number n numbers.now ≡ true)
             × (postings_until doc (queue_in self.now w).postings ≢ []))) }
         ensures ascending { IfOk result
-            (λ words. IsStrictlySortedBy byte_order (lent_words words.items)) }
-        ensures documents { IfOk result (λ words. All (λ e.
-            (e.1 ≡ (queue_in self.now e.0.now).postings) × ArePostings e.1) words.items) }
+            (λ nodes. IsStrictlySortedBy byte_order (keys_of nodes.items)) }
+        ensures nodes { IfOk result (λ nodes. All (λ e.
+            e.1 ≡ packed (postings_until doc (queue_in self.now e.0).postings)) nodes.items) }
     {
-        let mut words = all_leaving(self.allocator(), &self.slots, numbers, doc)?;
-        sort_words(&mut words);
-        Ok(words)
+        let mut nodes = all_leaving(self.allocator(), &self.slots, numbers, doc)?;
+        sort_words(&mut nodes);
+        Ok(nodes)
     }
 
-    /// The words that have a document up to `doc`, in the order of their bytes, each with its
-    /// documents. It is a walk over all words.
-    pub fn leaving_in_order(&self, doc: u64) -> Result<Vec<(&[u8], Cursor<'_>)>, AllocError>
-        ensures words { IfOk result (λ words. (w : List ℕ)
-            → IsTrue (list_any (bytes_eq w) (lent_words words.items))
+    /// The words that have a document up to `doc`, in the order of their bytes, each with the nodes
+    /// of these documents. It is a walk over all words.
+    pub fn leaving_in_order<'n>(&self, doc: u64) -> Result<Nodes<'n>, AllocError>
+        ensures words { IfOk result (λ nodes. (w : List ℕ)
+            → IsTrue (list_any (bytes_eq w) (keys_of nodes.items))
             ↔ (postings_until doc (queue_in self.now w).postings ≢ [])) }
         ensures ascending { IfOk result
-            (λ words. IsStrictlySortedBy byte_order (lent_words words.items)) }
-        ensures documents { IfOk result (λ words. All (λ e.
-            (e.1 ≡ (queue_in self.now e.0.now).postings) × ArePostings e.1) words.items) }
+            (λ nodes. IsStrictlySortedBy byte_order (keys_of nodes.items)) }
+        ensures nodes { IfOk result (λ nodes. All (λ e.
+            e.1 ≡ packed (postings_until doc (queue_in self.now e.0).postings)) nodes.items) }
     {
         all_listed(self.allocator(), &self.slots, self.order.iter(), doc)
     }

@@ -148,13 +148,19 @@ fn a_prefix_finds_the_words_that_are_held(rt: HostRuntime) -> Result<(), Fail> {
     Ok(())
 }
 
-// The words of the documents up to this one are these.
-fn leave(rt: &impl Abort, cache: &Cache, doc: u64, expected: &[&[u8]]) -> Result<(), Fail> {
-    let found = cache.words_until(doc)?;
+// The words of the documents up to this one are these, each with so many of them.
+fn leave(
+    rt: &impl Abort,
+    cache: &Cache,
+    doc: u64,
+    expected: &[(&[u8], usize)],
+) -> Result<(), Fail> {
+    let found = cache.nodes_until(doc)?;
     assert_eq!(rt; found.len(), expected.len());
-    for ((word, documents), other) in found.iter().zip(expected.iter()) {
-        assert_eq!(rt; word, other);
-        assert_eq!(rt; documents.doc(), cache.postings(word).doc());
+    for (word, other) in found.iter().zip(expected.iter()) {
+        assert_eq!(rt; word.word(), other.0);
+        assert_eq!(rt; word.nodes().len(), 1);
+        assert_eq!(rt; word.nodes()[0].count(), other.1);
     }
     Ok(())
 }
@@ -163,11 +169,11 @@ fn leave(rt: &impl Abort, cache: &Cache, doc: u64, expected: &[&[u8]]) -> Result
 fn the_words_of_the_first_documents_are_told(rt: HostRuntime) -> Result<(), Fail> {
     let mut cache = filled(&rt, rt.alloc())?;
     leave(&rt, &cache, 2, &[])?;
-    leave(&rt, &cache, 3, &[b"apple", b"pear"])?;
-    leave(&rt, &cache, 4, &[b"apple", b"apples", b"pear"])?;
+    leave(&rt, &cache, 3, &[(b"apple", 1), (b"pear", 1)])?;
+    leave(&rt, &cache, 4, &[(b"apple", 2), (b"apples", 1), (b"pear", 1)])?;
     cache.drop_until(4);
     leave(&rt, &cache, 899, &[])?;
-    leave(&rt, &cache, 900, &[b"apply", b"pear"])?;
+    leave(&rt, &cache, 900, &[(b"apply", 1), (b"pear", 1)])?;
     Ok(())
 }
 

@@ -1,13 +1,16 @@
 -- Documents up to an id, one after another.
-use Rattle.std.proofs.Common.{◌≡◌, ℕ, ◌<◌, ◌≤◌, Bool, true, false, cond, not, filter, List, [], ◌∷◌, ◌++◌, append_assoc, append-nil, refl, sym, ap, subst, ◌∙◌, arith}
-use Rattle.std.proofs.lemmas.Bool.{lt-leb, le-leb}
+use Rattle.std.proofs.Common.{◌≡◌, ℕ, ◌<◌, ◌≤◌, Bool, true, false, cond, not, ◌||◌, if◌then◌else◌, filter, List, [], ◌∷◌, ◌++◌, append_assoc, append-nil, refl, sym, ap, subst, ◌∙◌, arith}
+use Rattle.std.proofs.lemmas.Bool.{lt-leb, le-leb, true≢false}
 use Rattle.std.proofs.lemmas.List.Elements.{filter-append}
+use Rattle.std.proofs.lemmas.List.Folds.{list_any-append}
 use Rattle.fts_ids.specs.Ids.{has}
 use Rattle.fts_ilist.specs.Spelling.{Posting, PostingsAfter, last_id, id_at_end}
 use Rattle.fts_ilist.proofs.Postings.{id_at_end-append}
 use Rattle.fts_ilist.proofs.Until.{none_until}
 use Rattle.fts_ilist.specs.Cursor.{postings_until}
-use Rattle.fts_sync.specs.Leaving.{leaving, IsPackingUntil}
+use Rattle.fts_ilist.specs.Node.{Docs}
+use Rattle.fts_ilist.specs.Packing.{has_place, packed_from, packed, joined}
+use Rattle.fts_sync.specs.Leaving.{leaving, some_dead, IsPackingUntil}
 
 all_alive : (ps : List Posting) → filter (λ p. not (has [] p.id)) ps ≡ ps
 all_alive [] = refl
@@ -16,6 +19,58 @@ all_alive (p ∷ ps) = ap (λ (w : List Posting). p ∷ w) (all_alive ps)
 -- where nobody died
 pub none_dead : (doc : ℕ) (dead : List ℕ) (ps : List Posting) → dead ≡ [] → postings_until doc ps ≡ leaving doc dead ps
 none_dead doc dead ps none = sym (ap (λ (ids : List ℕ). leaving doc ids ps) none ∙ all_alive (postings_until doc ps))
+
+-- where none of them did
+pub none_of_dead : (dead : List ℕ) (ps : List Posting) → some_dead dead ps ≡ false → filter (λ p. not (has dead p.id)) ps ≡ ps
+none_of_dead dead [] none = refl
+none_of_dead dead (p ∷ ps) none = by (has dead p.id) (some_dead dead ps) (none_of_dead dead ps) none
+  where
+    by : (here behind : Bool) → (behind ≡ false → filter (λ p. not (has dead p.id)) ps ≡ ps) → (here || behind) ≡ false
+        → cond (not here) (p ∷ filter (λ p. not (has dead p.id)) ps) (filter (λ p. not (has dead p.id)) ps) ≡ p ∷ ps
+    by true behind rest alive = absurd (true≢false alive)
+    by false behind rest alive = ap (λ (qs : List Posting). p ∷ qs) (rest alive)
+
+-- one that died is found, or it did not and the rest is looked at
+pub found_dead : (dead : List ℕ) (all rest : List Posting) (d : Posting) (left : List Posting) → some_dead dead rest ≡ some_dead dead all → rest ≡ d ∷ left → has dead d.id ≡ true → true ≡ some_dead dead all
+found_dead dead all rest d left same steps died =
+    sym (sym same ∙ ap (some_dead dead) steps ∙ ap (λ (b : Bool). b || some_dead dead left) died)
+
+pub found_alive : (dead : List ℕ) (all rest : List Posting) (d : Posting) (left : List Posting) → some_dead dead rest ≡ some_dead dead all → rest ≡ d ∷ left → has dead d.id ≡ false → some_dead dead left ≡ some_dead dead all
+found_alive dead all rest d left same steps alive =
+    sym (ap (some_dead dead) steps ∙ ap (λ (b : Bool). b || some_dead dead left) alive) ∙ same
+
+joined_step : (dead : List ℕ) (rest : List Docs) (n : Docs) (left : List Docs) → rest ≡ n ∷ left → some_dead dead (joined rest) ≡ (some_dead dead n || some_dead dead (joined left))
+joined_step dead rest n left steps = ap (λ (ns : List Docs). some_dead dead (joined ns)) steps ∙ list_any-append (λ p. has dead p.id) n (joined left)
+
+-- the same of nodes
+pub node_dead : (dead : List ℕ) (all rest : List Docs) (n : Docs) (left : List Docs) → some_dead dead (joined rest) ≡ some_dead dead (joined all) → rest ≡ n ∷ left → true ≡ some_dead dead n
+    → true ≡ some_dead dead (joined all)
+node_dead dead all rest n left same steps died =
+    sym (sym same ∙ joined_step dead rest n left steps ∙ ap (λ (b : Bool). b || some_dead dead (joined left)) (sym died))
+
+pub node_alive : (dead : List ℕ) (all rest : List Docs) (n : Docs) (left : List Docs) → some_dead dead (joined rest) ≡ some_dead dead (joined all) → rest ≡ n ∷ left → false ≡ some_dead dead n
+    → some_dead dead (joined left) ≡ some_dead dead (joined all)
+node_alive dead all rest n left same steps alive =
+    sym (joined_step dead rest n left steps ∙ ap (λ (b : Bool). b || some_dead dead (joined left)) (sym alive)) ∙ same
+
+joined_from : (limit : ℕ) (node ps : List Posting) → joined (packed_from limit node ps) ≡ node ++ ps
+joined_from limit node [] = refl
+joined_from limit node (p ∷ ps) = by (has_place limit node p) (joined_from limit (node ++ p ∷ []) ps) (joined_from limit (p ∷ []) ps)
+  where
+    by : (b : Bool) → joined (packed_from limit (node ++ p ∷ []) ps) ≡ (node ++ p ∷ []) ++ ps → joined (packed_from limit (p ∷ []) ps) ≡ p ∷ ps
+        → joined (if b then packed_from limit (node ++ p ∷ []) ps else node ∷ packed_from limit (p ∷ []) ps) ≡ node ++ p ∷ ps
+    by true more next = more ∙ append_assoc node (p ∷ []) ps
+    by false more next = ap (λ (l : List Posting). node ++ l) next
+
+-- packed documents are all there, in their order
+pub joined_packed : (ps : List Posting) → joined (packed ps) ≡ ps
+joined_packed [] = refl
+joined_packed (p ∷ ps) = joined_from 8192 (p ∷ []) ps
+
+-- nodes none of whose documents died are those of what leaves
+pub none_of_nodes : (doc : ℕ) (dead : List ℕ) (ps : List Posting) (nodes : List Docs) → nodes ≡ packed (postings_until doc ps) → some_dead dead (joined nodes) ≡ false → nodes ≡ packed (leaving doc dead ps)
+none_of_nodes doc dead ps nodes made none =
+    made ∙ ap packed (sym (none_of_dead dead (postings_until doc ps) (sym (ap (some_dead dead) (ap joined made ∙ joined_packed (postings_until doc ps))) ∙ none)))
 
 pub begins : (doc : ℕ) (dead : List ℕ) (all done : List Posting) → done ≡ [] → PostingsAfter 0 all → IsPackingUntil doc dead all done all
 begins doc dead all done none after = record {

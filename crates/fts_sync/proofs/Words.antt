@@ -5,21 +5,20 @@ use Rattle.std.specs.List.Sorted.{IsStrictlySortedBy}
 use Rattle.std.specs.Map.{keys_of}
 use Rattle.std.proofs.lemmas.Bool.{false≢true, true≢false, cases_Bool}
 use Rattle.std.proofs.lemmas.Grind.{flat_map-append}
-use Rattle.std.specs.Borrow.{Bor}
 use Rattle.std.proofs.lemmas.Map.Text.{is_eq-slice_cmp}
 use Rattle.std.proofs.lemmas.Map.Keys.{sorted_head, sorted_tail}
 use Rattle.fts_words.specs.Order.{byte_order}
-use Rattle.fts_cache.proofs.Queues.{which_word}
+use Rattle.fts_cache.proofs.Queues.{which_word, is_same}
 use Rattle.fts_cache.specs.Cache.{CacheState, postings_of}
-use Rattle.fts_cache.specs.Sorted.{lent_words}
 use Rattle.fts_ilist.specs.Cursor.{postings_until}
 use Rattle.fts_ids.specs.Ids.{has}
 use Rattle.fts_lists.specs.State.{State, ids_of}
 use Rattle.fts_lists.specs.declared.lists.DeleteList.TheVariants.{DeletedCache}
-use Rattle.fts_ilist.specs.Spelling.{Posting, ArePostings}
+use Rattle.fts_ilist.specs.Spelling.{Posting}
 use Rattle.fts_ilist.specs.Node.{Docs, nodes_for}
-use Rattle.fts_ilist.specs.Packing.{packed}
-use Rattle.fts_sync.specs.Leaving.{leaving, filled_word, filled_words, leaving_nodes, sealed_words}
+use Rattle.fts_ilist.specs.Packing.{packed, joined}
+use Rattle.fts_sync.specs.Leaving.{filled_word, filled_words, leaving_nodes, IsMade}
+use Rattle.fts_sync.proofs.Until.{none_dead, joined_packed}
 
 apart : (v w : List ℕ) → byte_order v w ≡ Less → bytes_eq v w ≡ false
 apart v w less = sym (is_eq-slice_cmp v w) ∙ ap is_eq less
@@ -115,17 +114,46 @@ module _ (nodes : List ℕ → List Docs) where
           right true b e = absurd (true≢false e)
           right false b e = e
 
+-- a word that has nodes
+pub one_filled : (word : List ℕ) (docs : List Docs) → docs ≢ [] → (word, docs) ∷ [] ≡ filled_word word docs
+one_filled word [] some = absurd (some refl)
+one_filled word (n ∷ ns) some = refl
+
+-- words that have their nodes, each some
+pub filled_are : (nodes : List ℕ → List Docs) (es : List (List ℕ × List Docs)) → AllByRecursion (λ (e : List ℕ × List Docs). (e.1 ≡ nodes e.0) × (e.1 ≢ [])) es → es ≡ filled_words nodes (keys_of es)
+filled_are nodes [] h = refl
+filled_are nodes (e ∷ es) h = ap₂ (λ (x y : List (List ℕ × List Docs)). x ++ y) (one_filled e.0 e.1 h.0.1 ∙ ap (filled_word e.0) h.0.0) (filled_are nodes es h.1)
+
 -- ---- the words that leave a cache
 
--- where each word is lent with its documents
-pub sealed_are : (cache : CacheState) (doc : ℕ) (lists : State) (entries : List (Bor (List ℕ) × List Posting))
-    → AllByRecursion (λ (e : Bor (List ℕ) × List Posting). (e.1 ≡ postings_of cache e.0.now) × ArePostings e.1) entries
-    → sealed_words doc (ids_of DeletedCache lists) entries ≡ filled_words (leaving_nodes cache doc lists) (lent_words entries)
-sealed_are cache doc lists [] h = refl
-sealed_are cache doc lists (e ∷ es) h =
-    ap₂ (λ (x y : List (List ℕ × List Docs)). x ++ y)
-    (ap (λ (ps : List Posting). filled_word e.0.now (packed (leaving doc (ids_of DeletedCache lists) ps))) h.0.0)
-    (sealed_are cache doc lists es h.1)
+-- they have nodes, since each has a document
+pub made_are : (cache : CacheState) (doc : ℕ) (es : List (List ℕ × List Docs))
+    → AllByRecursion (λ (e : List ℕ × List Docs). e.1 ≡ packed (postings_until doc (postings_of cache e.0))) es
+    → ((w : List ℕ) → list_any (bytes_eq w) (keys_of es) ≡ true → postings_until doc (postings_of cache w) ≢ [])
+    → AllByRecursion (λ (e : List ℕ × List Docs). IsMade cache doc e.0 e.1) es
+made_are cache doc [] h among = tt
+made_are cache doc (e ∷ es) h among = (
+  record {
+    same = h.0;
+    some = λ none. among e.0 (here (bytes_eq e.0 e.0) (list_any (bytes_eq e.0) (keys_of es)) (is_same e.0)) (sym (joined_packed (postings_until doc (postings_of cache e.0))) ∙ ap joined (sym h.0 ∙ none));
+  },
+  made_are cache doc es h.1 (λ w there. among w (behind (bytes_eq w e.0) (list_any (bytes_eq w) (keys_of es)) there)),
+)
+  where
+    here : (a b : Bool) → a ≡ true → (a || b) ≡ true
+    here true b same = refl
+    here false b same = absurd (false≢true same)
+
+    behind : (a b : Bool) → b ≡ true → (a || b) ≡ true
+    behind true b there = refl
+    behind false b there = there
+
+-- where nobody died
+pub undead : (cache : CacheState) (doc : ℕ) (lists : State) → ids_of DeletedCache lists ≡ [] → (es : List (List ℕ × List Docs)) → AllByRecursion (λ (e : List ℕ × List Docs). IsMade cache doc e.0 e.1) es
+    → AllByRecursion (λ (e : List ℕ × List Docs). (e.1 ≡ leaving_nodes cache doc lists e.0) × (e.1 ≢ [])) es
+undead cache doc lists none [] h = tt
+undead cache doc lists none (e ∷ es) h =
+    ((h.0.same ∙ ap packed (none_dead doc (ids_of DeletedCache lists) (postings_of cache e.0) none), h.0.some), undead cache doc lists none es h.1)
 
 pub exact_for : (cache : CacheState) (doc : ℕ) (lists : State) (ws : List (List ℕ)) → IsStrictlySortedBy byte_order ws
     → ((w : List ℕ) → (list_any (bytes_eq w) ws ≡ true) ↔ (postings_until doc (postings_of cache w) ≢ [])) → (word : List ℕ)

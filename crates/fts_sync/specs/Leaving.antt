@@ -1,7 +1,6 @@
 -- What leaves a cache with a batch.
-use Rattle.std.specs.Prelude.{◌≡◌, ℕ, not, List, [], ◌∷◌, ◌++◌, ◌≤◌, filter}
-use Rattle.std.specs.List.{flat_map}
-use Rattle.std.specs.Borrow.{Bor}
+use Rattle.std.specs.Prelude.{◌≡◌, ◌≢◌, ℕ, Bool, not, List, [], ◌∷◌, ◌++◌, ◌≤◌, filter}
+use Rattle.std.specs.List.{flat_map, list_any}
 use Rattle.fts_ids.specs.Ids.{has}
 use Rattle.fts_lists.specs.State.{State, ids_of}
 use Rattle.fts_lists.specs.declared.lists.DeleteList.TheVariants.{DeletedCache}
@@ -28,9 +27,14 @@ filled_word word (n ∷ ns) = (word, n ∷ ns) ∷ []
 abbrev pub filled_words : (List ℕ → List Docs) → List (List ℕ) → List (List ℕ × List Docs)
 filled_words nodes words = flat_map (λ word. filled_word word (nodes word)) words
 
--- words with their documents: the nodes of those up to an id that are not dead, for the words that have some
-abbrev pub sealed_words : ℕ → List ℕ → List (Bor (List ℕ) × List Posting) → List (List ℕ × List Docs)
-sealed_words doc dead entries = flat_map (λ e. filled_word e.0.now (packed (leaving doc dead e.1))) entries
+-- whether one of the documents is dead
+abbrev pub some_dead : List ℕ → List Posting → Bool
+some_dead dead ps = list_any (λ p. has dead p.id) ps
+
+-- a word of a cache with the nodes of its documents up to an id, of which there is one
+pub record IsMade (cache : CacheState) (doc : ℕ) (word : List ℕ) (nodes : List Docs) : Type 0 where
+  pub same : nodes ≡ packed (postings_until doc (postings_of cache word))
+  pub some : nodes ≢ []
 
 -- some documents are packed, and these are left
 pub record IsPackingUntil (doc : ℕ) (dead : List ℕ) (all done rest : List Posting) : Type 0 where

@@ -9,14 +9,22 @@ ghost use Rattle.fts_lists.specs.State.{ids_of};
 ghost use Rattle.fts_lists.specs.declared.lists.DeleteList.TheVariants.{DeletedCache};
 ghost use Rattle.fts_ilist.specs.Spelling.{ArePostings, last_id};
 ghost use Rattle.fts_ilist.specs.Node.{nodes_for};
-ghost use Rattle.fts_ilist.specs.Packing.{packed};
-ghost use Rattle.fts_sync.specs.Leaving.{leaving, leaving_nodes, filled_word, sealed_words};
+ghost use Rattle.fts_ilist.specs.Packing.{packed, joined};
+ghost use Rattle.fts_sync.specs.Leaving.{leaving, leaving_nodes, filled_word, filled_words};
+ghost use Rattle.fts_sync.specs.Leaving.{some_dead, IsMade};
 
 use fts_cache::Cache;
-use fts_ilist::{Cursor, Document, NodeGroup, Nodes, Packing, WordNodes, pack_until};
+use fts_ilist::{Cursor, Document, Node, NodeGroup, Nodes, Packing, WordNodes};
 use fts_lists::{DeleteList, Lists};
 use fts_types::{DocId, Word};
 use std::alloc::{AllocError, Global};
+
+/// Whether a document died before it was flushed.
+fn is_dead(document: &Document<'_>, lists: &Lists) -> bool
+    ensures { result ≡ has (ids_of DeletedCache lists.now) document.now.id }
+{
+    lists.contains(DeleteList::DeletedCache, document.id())
+}
 
 /// Puts a document behind the others, unless it is dead.
 fn put_alive(
@@ -29,7 +37,7 @@ fn put_alive(
         ≡ packing.old ++ filter (λ p. not (has (ids_of DeletedCache lists.now) p.id))
         (document.now ∷ [])) }
 {
-    if lists.contains(DeleteList::DeletedCache, document.id()) {
+    if is_dead(document, lists) {
         return Ok(());
     }
     packing.push(document)
@@ -56,62 +64,73 @@ fn alive_until<'n>(
     packing.nodes()
 }
 
-/// The nodes of the documents up to an id that are not dead.
-fn packed_until<'n>(
-    alloc: Global,
-    documents: Cursor<'_>,
-    doc: DocId,
-    lists: &Lists,
-) -> Result<NodeGroup<'n>, AllocError>
-    requires { ArePostings documents }
-    ensures { IfOk result (λ nodes. nodes
-        ≡ packed (leaving doc (ids_of DeletedCache lists.now) documents.entry)) }
+/// Whether one of the documents is dead. Each is looked up.
+fn has_dead(documents: Cursor<'_>, lists: &Lists) -> bool
+    ensures { result ≡ some_dead (ids_of DeletedCache lists.now) documents.entry }
 {
-    // Mostly nobody died since the last batch.
-    if lists.is_empty(DeleteList::DeletedCache) {
-        return pack_until(alloc, documents, doc);
+    for document in documents {
+        if is_dead(&document, lists) {
+            return true;
+        }
     }
-    alive_until(alloc, documents, doc, lists)
+    false
 }
 
-/// Puts a word behind the others, with the nodes of its documents up to an id that are not dead,
-/// where it has some.
-fn put_word(
-    nodes: &mut Nodes<'_>,
-    word: &[u8],
-    documents: Cursor<'_>,
+/// Whether one of the nodes has a dead document.
+fn have_dead(nodes: &[Node<'_>], lists: &Lists) -> bool
+    ensures { result ≡ some_dead (ids_of DeletedCache lists.now) (joined nodes.now) }
+{
+    for node in nodes {
+        if has_dead(node.cursor(), lists) {
+            return true;
+        }
+    }
+    false
+}
+
+/// Puts a word of the cache behind the others, with the nodes of its documents up to an id that are
+/// not dead, where it has some. These are its nodes as they are, where nobody of them died.
+fn put_word<'n>(
+    nodes: &mut Nodes<'n>,
+    word: WordNodes<'n>,
+    cache: &Cache,
     doc: DocId,
     lists: &Lists,
 ) -> Result<(), AllocError>
-    requires { ArePostings documents }
-    ensures { OnOk result (nodes.new.items ≡ nodes.old.items ++ filled_word word.now
-        (packed (leaving doc (ids_of DeletedCache lists.now) documents.entry))) }
+    requires { IsMade cache.now doc word.0 word.1 }
+    ensures { OnOk result (nodes.new.items ≡ nodes.old.items
+        ++ filled_word word.entry.0 (leaving_nodes cache.now doc lists.now word.entry.0)) }
 {
-    let alloc = *nodes.allocator();
-    let packed = packed_until(alloc, documents, doc, lists)?;
-    if packed.is_empty() {
+    if !have_dead(word.nodes(), lists) {
+        nodes.push(word)?;
         return Ok(());
     }
-    nodes.push(WordNodes::new(Word::copied(alloc, word)?, packed))?;
+    let alloc = *nodes.allocator();
+    let alive = alive_until(alloc, cache.postings(word.word()), doc, lists)?;
+    if alive.is_empty() {
+        return Ok(());
+    }
+    let name = Word::copied(alloc, word.word())?;
+    nodes.push(WordNodes::new(name, alive))?;
     Ok(())
 }
 
-/// Words, each with the nodes of its documents up to an id that are not dead. A word without such
-/// a document is left out.
-fn sealed<'n>(
+/// The words of the cache, each with the nodes of its documents up to an id that are not dead. A
+/// word without such a document is left out.
+fn all_alive<'n>(
     alloc: Global,
-    words: Vec<(&[u8], Cursor<'_>)>,
+    words: Nodes<'n>,
+    cache: &Cache,
     doc: DocId,
     lists: &Lists,
 ) -> Result<Nodes<'n>, AllocError>
-    requires { All (λ e. ArePostings e.1) words.items }
+    requires { All (λ e. IsMade cache.now doc e.0 e.1) words.items }
     ensures { IfOk result (λ nodes. nodes.items
-        ≡ sealed_words doc (ids_of DeletedCache lists.now) words.entry.items) }
+        ≡ filled_words (leaving_nodes cache.now doc lists.now) (keys_of words.entry.items)) }
 {
     let mut nodes = Vec::with_capacity(alloc, words.len())?;
-    for entry in words {
-        let (word, documents) = entry;
-        put_word(&mut nodes, word, documents, doc, lists)?;
+    for word in words {
+        put_word(&mut nodes, word, cache, doc, lists)?;
     }
     Ok(nodes)
 }
@@ -119,7 +138,9 @@ fn sealed<'n>(
 /// The words of a cache's documents up to `doc`, in byte order, each with the documents that are
 /// not in DELETED_CACHE, packed into nodes. A word without such a document is left out.
 ///
-/// It costs the words and the postings of the documents up to `doc`, and a sort of these words.
+/// It costs the words and the postings of the documents up to `doc`, and a sort of these words or a
+/// walk over the cache's. Where somebody died since the last batch, each posting is looked up among
+/// the dead, and each word of a dead document in the cache.
 pub fn batch<'n>(
     alloc: Global,
     cache: &Cache,
@@ -131,6 +152,10 @@ pub fn batch<'n>(
     ensures exact { IfOk result (λ nodes. (word : List ℕ)
         → nodes_for word nodes.items ≡ leaving_nodes cache.now doc lists.now word) }
 {
-    let words = cache.words_until(doc)?;
-    sealed(alloc, words, doc, lists)
+    let words = cache.nodes_until(doc)?;
+    // Mostly nobody died since the last batch.
+    if lists.is_empty(DeleteList::DeletedCache) {
+        return Ok(words);
+    }
+    all_alive(alloc, words, cache, doc, lists)
 }

@@ -1,11 +1,11 @@
-use Rattle.std.proofs.Common.{◌≡◌, take}
+use Rattle.std.proofs.Common.{◌≡◌, ◌++◌, take}
 use Rattle.std.specs.List.{All}
-use Rattle.fts_cache.specs.Sorted.{lent_words}
-use Rattle.fts_cache.specs.Words.{leaving_words, IsLent}
+use Rattle.std.specs.Map.{keys_of}
+use Rattle.fts_cache.specs.Words.{leaving_words, sealed_all, IsSealed}
 use Rattle.fts_cache.proofs.words.all_leaving.Given as goal
 
 abbrev pub invariant-loop-number : goal.invariant-loop-number
 invariant-loop-number l = record {
-  same : lent_words l.words.items ≡ leaving_words l.slots.slots l.doc (take l.number-index l.numbers);
-  lent : All (λ e. IsLent l.slots.slots e.0.now e.1) l.words.items;
+  same : keys_of (l.nodes.items ++ sealed_all l.doc l.lent.items) ≡ leaving_words l.slots.slots l.doc (take l.number-index l.numbers);
+  sealed : All (λ e. IsSealed l.slots.slots l.doc e.0 e.1) (l.nodes.items ++ sealed_all l.doc l.lent.items);
 }

@@ -6,4 +6,4 @@ use Rattle.fts_cache.proofs.Shown.{entries_rank}
 use Rattle.fts_cache.proofs.words.sort_words.Goals as goal
 
 pub returns-clause-sorted : goal.returns-clause-sorted
-returns-clause-sorted c = c.sort_unstable_by.ensures.sorted (λ v w. is_lt (byte_order v.0.now w.0.now)) entries_rank (always_returns_same _ _ _ (λ a r f k. search rules))
+returns-clause-sorted c = c.sort_unstable_by.ensures.sorted (λ v w. is_lt (byte_order v.0 w.0)) entries_rank (always_returns_same _ _ _ (λ a r f k. search rules))
