@@ -2,19 +2,23 @@
 """Times INSERTs with batches between them, and SYNC: bench/batches.py [ROWS ..]
 
 Mails as in bench/queries.py, each INSERT a commit, into a database with the default cache, above
-which batches follow a commit, and into one with the largest cache, by turns. Told is the
-processor's time for one INSERT, by tenths of the rows, the least of the turns, and the most memory
-that was held. Then SYNC, each time of 1,000 mails more, the least of the turns too. It needs
-Python 3 and Linux, and works below TMPDIR.
+which batches follow a commit, and the first of them, as many as no batch follows, into one with the
+largest cache, by turns. Told is the processor's time for one INSERT, by tenths of the rows, the
+least of the turns, and the most memory that was held; and how many times as long an INSERT with its
+batches takes as one without, each turn beside itself, the median of the turns. Then SYNC, each time
+of 1,000 mails more, the least of the turns too. It needs Python 3 and Linux, and works below TMPDIR.
 """
 import argparse
 import os
+import statistics
 import tempfile
 
 from queries import TOP, Fts, texts_of
 
 INSERT = "INSERT INTO docs (id, body) VALUES (%d, '%s')\n"
 CACHES = {"the default cache": [], "the largest cache": ["--cache-bytes", "80000000"]}
+# The largest cache holds somewhat more mails.
+WITHOUT = 25_000
 
 
 def held(pid):
@@ -55,6 +59,12 @@ def least(turns):
     return [min(times) for times in zip(*turns)]
 
 
+def ratio(with_batches, without):
+    """How many times as long an INSERT takes with batches, the median of the turns."""
+    each = zip(with_batches, without)
+    return statistics.median(statistics.mean(a) / statistics.mean(b) for (a, _), (b, _) in each)
+
+
 def told(times):
     return " ".join(f"{took:.0f}" for took in times)
 
@@ -72,15 +82,16 @@ def main():
         runs = {name: [] for name in CACHES}
         flushes = []
         for _ in range(words.turns):
-            for name, options in CACHES.items():
+            for (name, options), mails in zip(CACHES.items(), (texts, texts[:WITHOUT])):
                 with tempfile.TemporaryDirectory() as folder:
-                    runs[name].append(by_tenths(words.program, f"{folder}/db", texts, options))
+                    runs[name].append(by_tenths(words.program, f"{folder}/db", mails, options))
             with tempfile.TemporaryDirectory() as folder:
                 flushes.append(list(syncs(words.program, f"{folder}/db", texts[:10_000])))
         for name, turns in runs.items():
             memory = max(most for _, most in turns)
             times = told(least(times for times, _ in turns))
             print(f"an INSERT, {name}: {times} us, {memory:.0f} MB held", flush=True)
+        print(f"with batches {ratio(*runs.values()):.2f} times as long")
         print(f"SYNC, each of 1,000 mails: {told(least(flushes))} ms", flush=True)
 
 

@@ -170,7 +170,12 @@ fn the_words_of_the_first_documents_are_told(rt: HostRuntime) -> Result<(), Fail
     let mut cache = filled(&rt, rt.alloc())?;
     leave(&rt, &cache, 2, &[])?;
     leave(&rt, &cache, 3, &[(b"apple", 1), (b"pear", 1)])?;
-    leave(&rt, &cache, 4, &[(b"apple", 2), (b"apples", 1), (b"pear", 1)])?;
+    leave(
+        &rt,
+        &cache,
+        4,
+        &[(b"apple", 2), (b"apples", 1), (b"pear", 1)],
+    )?;
     cache.drop_until(4);
     leave(&rt, &cache, 899, &[])?;
     leave(&rt, &cache, 900, &[(b"apply", 1), (b"pear", 1)])?;
