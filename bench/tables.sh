@@ -184,13 +184,13 @@ build() {
     if [ ! -f src/tests.rt ]; then
         mkdir -p src/tests
         printf '\n#[cfg(test)]\nmod tests;\n' >>src/lib.rt
-        sed 's/^use fts_aux::/use crate::/' ../fts_index_tests/src/aux/checks.rt >src/tests/checks.rt
+        sed 's/^use fts_aux::/use crate::/' ../fts_parts_tests/src/aux/checks.rt >src/tests/checks.rt
         mkdir -p proofs/tests
-        cp -R ../fts_index_tests/proofs/aux/checks proofs/tests/
-        cp ../fts_index_tests/proofs/Ascending.antt proofs/
+        cp -R ../fts_parts_tests/proofs/aux/checks proofs/tests/
+        cp ../fts_parts_tests/proofs/Ascending.antt proofs/
         echo 'mod Ascending' >>proofs/Lib.antt
         find proofs/tests proofs/Ascending.antt -name '*.antt' -exec sed -i \
-            's/fts_index_tests\.proofs\.aux\./fts_aux.proofs.tests./; s/fts_index_tests\.proofs\./fts_aux.proofs./' {} +
+            's/fts_parts_tests\.proofs\.aux\./fts_aux.proofs.tests./; s/fts_parts_tests\.proofs\./fts_aux.proofs./' {} +
     fi
     if [ -f src/tests/checks.rt ]; then
         head_of_test >src/tests.rt

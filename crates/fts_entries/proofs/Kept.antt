@@ -12,6 +12,7 @@ use Rattle.fts_ids.specs.Ids.{has}
 use Rattle.fts_ilist.specs.Spelling.{Posting}
 use Rattle.fts_ilist.specs.Node.{nodes_for, NodesAfter, last_of}
 use Rattle.fts_ilist.specs.Packing.{packed, joined}
+use Rattle.fts_ilist.proofs.Packs.{joined_packed}
 use Rattle.fts_lists.specs.Ids.{with_ids}
 use Rattle.fts_entries.specs.Entry.{Batch, IndexState, sealed, after_entry, unflushed, unflushed_through, flushed_deaths}
 use Rattle.fts_entries.specs.Batch.{IsBatch, covers, covered_within, alive_of, largest_after, next_through, after_batch}
@@ -19,7 +20,7 @@ use Rattle.fts_entries.specs.Coming.{born_ids, CanSeal}
 use Rattle.fts_entries.specs.Exact.{FitsTurns, IsExact, IdsAfter}
 use Rattle.fts_entries.specs.Words.{positions_of, row_postings, rows_postings}
 use Rattle.fts_entries.proofs.Filters.{leads, all_joined}
-use Rattle.fts_entries.proofs.Packing.{joined_packed, after_lower, after_left, packed_ascend, nodes_lower, last_within}
+use Rattle.fts_entries.proofs.Packing.{after_lower, after_left, packed_ascend, nodes_lower, last_within}
 use Rattle.fts_entries.proofs.Postings.{of_row, rows_left, rows_after, nothing_of_empty}
 use Rattle.fts_entries.proofs.Turns.{births_ascend}
 use Rattle.fts_entries.proofs.Batches.{word_same}

@@ -24,11 +24,11 @@ use Rattle.fts_commits.specs.Turn.{Turn}
 use Rattle.fts_ilist.specs.Spelling.{Posting}
 use Rattle.fts_ilist.specs.Node.{Docs, nodes_for}
 use Rattle.fts_ilist.specs.Packing.{packed, joined}
+use Rattle.fts_ilist.proofs.Packs.{joined_packed}
 use Rattle.fts_entries.specs.Entry.{Batch, IndexState, sealed, unflushed_through}
 use Rattle.fts_entries.specs.Batch.{IsBatch, alive_of, largest_after, next_through, next_entry, row_words, words_of, packed_words}
 use Rattle.fts_entries.specs.Words.{positions_of, posting_at, row_postings, rows_postings}
 use Rattle.fts_entries.proofs.One.{AllBehind, nothing_for, batches_one}
-use Rattle.fts_entries.proofs.Packing.{joined_packed}
 
 some_are : {X : Type 0} (x : X) (xs : List X) → x ∷ xs ≢ []
 some_are x xs none = absurd (omega (arith, ap length none))

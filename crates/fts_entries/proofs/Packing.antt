@@ -1,24 +1,10 @@
 -- Nodes that documents are packed into: they have these documents, and ascend where these do.
-use Rattle.std.proofs.Common.{◌≡◌, ℕ, ◌≤◌, Bool, true, false, cond, filter, List, [], ◌∷◌, ◌++◌, if◌then◌else◌, append_assoc, refl, sym, ap, subst, ◌∙◌, arith}
+use Rattle.std.proofs.Common.{◌≡◌, ℕ, ◌≤◌, Bool, true, false, cond, filter, List, [], ◌∷◌, ◌++◌, if◌then◌else◌, refl, sym, ap, subst, arith}
 use Rattle.std.specs.List.{AllByRecursion}
 use Rattle.fts_ilist.specs.Spelling.{Posting, id_at_end}
 use Rattle.fts_ilist.specs.Node.{Docs, NodesAfter, BeginsAfter, last_of}
 use Rattle.fts_ilist.specs.Packing.{has_place, packed_from, packed, joined}
 use Rattle.fts_entries.specs.Exact.{IdsAfter}
-
-joined_from : (limit : ℕ) (node ps : List Posting) → joined (packed_from limit node ps) ≡ node ++ ps
-joined_from limit node [] = refl
-joined_from limit node (p ∷ ps) = by (has_place limit node p) (joined_from limit (node ++ p ∷ []) ps) (joined_from limit (p ∷ []) ps)
-  where
-    by : (b : Bool) → joined (packed_from limit (node ++ p ∷ []) ps) ≡ (node ++ p ∷ []) ++ ps → joined (packed_from limit (p ∷ []) ps) ≡ p ∷ ps
-        → joined (if b then packed_from limit (node ++ p ∷ []) ps else node ∷ packed_from limit (p ∷ []) ps) ≡ node ++ p ∷ ps
-    by true more next = more ∙ append_assoc node (p ∷ []) ps
-    by false more next = ap (λ (l : List Posting). node ++ l) next
-
--- packed documents are all there, in their order
-pub joined_packed : (ps : List Posting) → joined (packed ps) ≡ ps
-joined_packed [] = refl
-joined_packed (p ∷ ps) = joined_from 8192 (p ∷ []) ps
 
 -- ---- ids that ascend
 

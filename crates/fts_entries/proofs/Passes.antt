@@ -21,6 +21,7 @@ use Rattle.fts_ilist.specs.Changes.{is_among, postings_without}
 use Rattle.fts_ilist.specs.Spelling.{Posting}
 use Rattle.fts_ilist.specs.Node.{Docs}
 use Rattle.fts_ilist.specs.Packing.{joined}
+use Rattle.fts_ilist.proofs.Packs.{joined_packed}
 use Rattle.fts_aux.specs.Table.{IsNext}
 use Rattle.fts_entries.specs.Entry.{IndexState, begun, worked, finished, after_entry, unflushed}
 use Rattle.fts_entries.specs.Batch.{largest_after}
@@ -28,7 +29,7 @@ use Rattle.fts_entries.specs.Exact.{is_deleted, FitsTurns, IsExact, IsPassed, Id
 use Rattle.fts_entries.specs.Pass.{place_of, IsWord, CanFinish}
 use Rattle.fts_entries.specs.Words.{rows_postings}
 use Rattle.fts_entries.proofs.Filters.{same_left, left_twice, leads}
-use Rattle.fts_entries.proofs.Packing.{joined_packed, after_left}
+use Rattle.fts_entries.proofs.Packing.{after_left}
 use Rattle.fts_entries.proofs.Postings.{IsBetween, rows_between}
 use Rattle.fts_entries.proofs.Turns.{two_parts, births_ascend, asked_so}
 use Rattle.fts_entries.proofs.Batches.{fails}

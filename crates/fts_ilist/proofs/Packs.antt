@@ -75,6 +75,21 @@ pub packed_all : (closed : List (List Posting)) (begun : List Posting) → IsPac
 packed_all closed [] k some = absurd (some refl)
 packed_all closed (d ∷ ds) k some = ap packed (sym (append-nil (joined closed ++ (d ∷ ds)))) ∙ k.packs []
 
+-- ---- packed documents are all there, in their order
+
+joined_from : (limit : ℕ) (node ps : List Posting) → joined (packed_from limit node ps) ≡ node ++ ps
+joined_from limit node [] = refl
+joined_from limit node (p ∷ ps) = by (has_place limit node p) (joined_from limit (node ++ p ∷ []) ps) (joined_from limit (p ∷ []) ps)
+  where
+    by : (b : Bool) → joined (packed_from limit (node ++ p ∷ []) ps) ≡ (node ++ p ∷ []) ++ ps → joined (packed_from limit (p ∷ []) ps) ≡ p ∷ ps
+        → joined (if b then packed_from limit (node ++ p ∷ []) ps else node ∷ packed_from limit (p ∷ []) ps) ≡ node ++ p ∷ ps
+    by true more next = more ∙ append_assoc node (p ∷ []) ps
+    by false more next = ap (λ (l : List Posting). node ++ l) next
+
+pub joined_packed : (ps : List Posting) → joined (packed ps) ≡ ps
+joined_packed [] = refl
+joined_packed (p ∷ ps) = joined_from 8192 (p ∷ []) ps
+
 -- ---- packed documents are no empty nodes
 
 push_filled : (docs : List Posting) (p : Posting) → docs ++ p ∷ [] ≢ []

@@ -1,26 +1,9 @@
-//! Tests of the index and of what it stands on, by the calls that are open to all: position lists,
-//! cache, delete lists, tables, batches and passes, and what commits leave of rows that were worked
-//! out by hand.
+//! Tests of the index, by the calls that are open to all: what commits leave of rows that were
+//! worked out by hand.
 //!
 //! They stand apart so that what they test is proved once less.
 //! `rt test` in this crate's folder runs them.
 #![tactic(auto)]
 
 #[cfg(test)]
-mod aux;
-#[cfg(test)]
-mod cache;
-#[cfg(test)]
-mod ilist;
-#[cfg(test)]
 mod index;
-#[cfg(test)]
-mod ixcodec;
-#[cfg(test)]
-mod lists;
-#[cfg(test)]
-mod nodes;
-#[cfg(test)]
-mod optimize;
-#[cfg(test)]
-mod sync;

@@ -1,5 +1,5 @@
 -- Documents up to an id, one after another.
-use Rattle.std.proofs.Common.{◌≡◌, ℕ, ◌<◌, ◌≤◌, Bool, true, false, cond, not, ◌||◌, if◌then◌else◌, filter, List, [], ◌∷◌, ◌++◌, append_assoc, append-nil, refl, sym, ap, subst, ◌∙◌, arith}
+use Rattle.std.proofs.Common.{◌≡◌, ℕ, ◌<◌, ◌≤◌, Bool, true, false, cond, not, ◌||◌, filter, List, [], ◌∷◌, ◌++◌, append_assoc, append-nil, refl, sym, ap, subst, ◌∙◌, arith}
 use Rattle.std.proofs.lemmas.Bool.{lt-leb, le-leb, true≢false}
 use Rattle.std.proofs.lemmas.List.Elements.{filter-append}
 use Rattle.std.proofs.lemmas.List.Folds.{list_any-append}
@@ -9,7 +9,8 @@ use Rattle.fts_ilist.proofs.Postings.{id_at_end-append}
 use Rattle.fts_ilist.proofs.Until.{none_until}
 use Rattle.fts_ilist.specs.Cursor.{postings_until}
 use Rattle.fts_ilist.specs.Node.{Docs}
-use Rattle.fts_ilist.specs.Packing.{has_place, packed_from, packed, joined}
+use Rattle.fts_ilist.specs.Packing.{packed, joined}
+use Rattle.fts_ilist.proofs.Packs.{joined_packed}
 use Rattle.fts_sync.specs.Leaving.{leaving, some_dead, IsPackingUntil}
 
 all_alive : (ps : List Posting) → filter (λ p. not (has [] p.id)) ps ≡ ps
@@ -52,20 +53,6 @@ pub node_alive : (dead : List ℕ) (all rest : List Docs) (n : Docs) (left : Lis
     → some_dead dead (joined left) ≡ some_dead dead (joined all)
 node_alive dead all rest n left same steps alive =
     sym (joined_step dead rest n left steps ∙ ap (λ (b : Bool). b || some_dead dead (joined left)) (sym alive)) ∙ same
-
-joined_from : (limit : ℕ) (node ps : List Posting) → joined (packed_from limit node ps) ≡ node ++ ps
-joined_from limit node [] = refl
-joined_from limit node (p ∷ ps) = by (has_place limit node p) (joined_from limit (node ++ p ∷ []) ps) (joined_from limit (p ∷ []) ps)
-  where
-    by : (b : Bool) → joined (packed_from limit (node ++ p ∷ []) ps) ≡ (node ++ p ∷ []) ++ ps → joined (packed_from limit (p ∷ []) ps) ≡ p ∷ ps
-        → joined (if b then packed_from limit (node ++ p ∷ []) ps else node ∷ packed_from limit (p ∷ []) ps) ≡ node ++ p ∷ ps
-    by true more next = more ∙ append_assoc node (p ∷ []) ps
-    by false more next = ap (λ (l : List Posting). node ++ l) next
-
--- packed documents are all there, in their order
-pub joined_packed : (ps : List Posting) → joined (packed ps) ≡ ps
-joined_packed [] = refl
-joined_packed (p ∷ ps) = joined_from 8192 (p ∷ []) ps
 
 -- nodes none of whose documents died are those of what leaves
 pub none_of_nodes : (doc : ℕ) (dead : List ℕ) (ps : List Posting) (nodes : List Docs) → nodes ≡ packed (postings_until doc ps) → some_dead dead (joined nodes) ≡ false → nodes ≡ packed (leaving doc dead ps)

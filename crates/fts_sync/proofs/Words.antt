@@ -17,8 +17,9 @@ use Rattle.fts_lists.specs.declared.lists.DeleteList.TheVariants.{DeletedCache}
 use Rattle.fts_ilist.specs.Spelling.{Posting}
 use Rattle.fts_ilist.specs.Node.{Docs, nodes_for}
 use Rattle.fts_ilist.specs.Packing.{packed, joined}
+use Rattle.fts_ilist.proofs.Packs.{joined_packed}
 use Rattle.fts_sync.specs.Leaving.{filled_word, filled_words, leaving_nodes, IsMade}
-use Rattle.fts_sync.proofs.Until.{none_dead, joined_packed}
+use Rattle.fts_sync.proofs.Until.{none_dead}
 
 apart : (v w : List ℕ) → byte_order v w ≡ Less → bytes_eq v w ≡ false
 apart v w less = sym (is_eq-slice_cmp v w) ∙ ap is_eq less

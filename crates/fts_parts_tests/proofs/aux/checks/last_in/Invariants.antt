@@ -1,6 +1,6 @@
 use Rattle.std.proofs.Common.{◌≡◌}
 use Rattle.fts_ilist.specs.Node.{last_of}
-use Rattle.fts_index_tests.proofs.aux.checks.last_in.Given as goal
+use Rattle.fts_parts_tests.proofs.aux.checks.last_in.Given as goal
 
 abbrev pub invariant-loop-node : goal.invariant-loop-node
 invariant-loop-node l =

@@ -1,6 +1,6 @@
 use Rattle.std.proofs.Common.{◌≡◌}
 use Rattle.fts_ilist.specs.Spelling.{id_at_end, last_id}
-use Rattle.fts_index_tests.proofs.aux.checks.last_doc.Given as goal
+use Rattle.fts_parts_tests.proofs.aux.checks.last_doc.Given as goal
 
 abbrev pub invariant-loop-document : goal.invariant-loop-document
 invariant-loop-document l =

@@ -4,8 +4,8 @@ use Rattle.std.specs.Map.{keys_of}
 use Rattle.std.proofs.lemmas.List.{take_rest}
 use Rattle.fts_words.specs.Order.{byte_order}
 use Rattle.fts_ilist.specs.Node.{Docs}
-use Rattle.fts_index_tests.proofs.Ascending.{StandsBefore, ascend_none, ascend_more}
-use Rattle.fts_index_tests.proofs.aux.checks.+ascend.Goals as goal
+use Rattle.fts_parts_tests.proofs.Ascending.{StandsBefore, ascend_none, ascend_more}
+use Rattle.fts_parts_tests.proofs.aux.checks.+ascend.Goals as goal
 
 pub returns-in-empty : goal.returns-in-empty
 returns-in-empty t c is = ascend_none c.args.batch.now c.in-empty.len_below

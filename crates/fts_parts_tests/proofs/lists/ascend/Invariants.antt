@@ -1,5 +1,5 @@
 use Rattle.std.proofs.Common.{ℕ, ◌+◌, ◌<◌, slice_index}
-use Rattle.fts_index_tests.proofs.lists.ascend.Given as goal
+use Rattle.fts_parts_tests.proofs.lists.ascend.Given as goal
 
 abbrev pub invariant-loop-at : goal.invariant-loop-at
 invariant-loop-at l = (k : ℕ) → k + 1 < l.at → slice_index l.ids k < slice_index l.ids (k + 1)

@@ -1,5 +1,5 @@
 use Rattle.std.proofs.Common.{arith}
-use Rattle.fts_index_tests.proofs.ixcodec.a_batch_is_written_at_the_head_of_a_buffer.Goals as goal
+use Rattle.fts_parts_tests.proofs.ixcodec.a_batch_is_written_at_the_head_of_a_buffer.Goals as goal
 
 pub encode_sealed_into-requires-clause-fits : goal.encode_sealed_into-requires-clause-fits
 encode_sealed_into-requires-clause-fits g c = (c.in-Some.ensures.some 1 1).fits
