@@ -16,7 +16,7 @@ use Rattle.std.specs.declared.cmp.Ordering.TheVariants.{Less, Equal, Greater}
 use Rattle.fts_ilist.specs.Spelling.{Posting, ArePositions}
 use Rattle.fts_ilist.specs.Queue.{Queue, bytes_for, postings_behind}
 use Rattle.fts_cache.specs.Document.{WordPositions, Document, IsDocument, document_size, words_size, found_words, postings_from, bytes_in, IsBefore, BeginsBefore, EndsBefore, AreWords}
-use Rattle.fts_cache.specs.Words.{Entries, queue_in, Changes, Grows, KeepsNumbers, with_posting, IsPartlyAdded}
+use Rattle.fts_cache.specs.Words.{Entries, queue_in, Changes, Grows, number_in, with_posting, IsPartlyAdded}
 use Rattle.fts_cache.proofs.Queues.{which_word, is_same}
 
 -- ---- one more word
@@ -199,9 +199,10 @@ reserved_one v vs now new want h room w =
     omega (arith, here, more))
     (which_word w v.word)
 
-pub still_stays : (word : List ℕ) (old now new : Entries) (want : Queue) → Changes now word want new → want.postings ≡ (queue_in now word).postings → want.last ≡ (queue_in now word).last → Grows old now → KeepsNumbers now new → Grows old new
-still_stays word old now new want h postings last s keeps = record {
-  numbers = λ w n e. keeps w n (s.numbers w n e);
+pub still_stays : (word : List ℕ) (old now new : Entries) (want : Queue) → Changes now word want new → want.postings ≡ (queue_in now word).postings → want.last ≡ (queue_in now word).last → Grows old now → new.numbers ≡ now.numbers → Grows old new
+still_stays word old now new want h postings last s same = record {
+  numbers = λ w n e. ap (λ ns. number_in (record { numbers = ns; slots = now.slots }) w) same ∙ s.numbers w n e;
+  more = omega (arith, s.more, ap length same);
   postings = λ w. ⊎_elim
       (λ (e : (bytes_eq w word ≡ true) × (w ≡ word)).
       ap (λ (q : Queue). q.postings) (h w ∙ ap (λ (b : Bool). cond b want (queue_in now w)) e.0) ∙ postings ∙ ap (λ (x : List ℕ). (queue_in now x).postings) (sym e.1) ∙ s.postings w)

@@ -1,5 +1,5 @@
 -- Words that are entered, and the numbers that are noted for them.
-use Rattle.std.proofs.Common.{◌≡◌, ℕ, ◌+◌, ◌<◌, suc, List, [], ◌∷◌, ◌++◌, length, drop, get_or, Some, refl, ap, subst, ◌∙◌}
+use Rattle.std.proofs.Common.{◌≡◌, ℕ, ◌+◌, ◌<◌, suc, List, [], ◌∷◌, ◌++◌, length, drop, get_or, Some, arith, refl, ap, subst, ◌∙◌}
 use Rattle.std.proofs.lemmas.List.{drop_more}
 use Rattle.fts_ilist.specs.Queue.{Queue}
 use Rattle.fts_cache.specs.Document.{WordPositions, Document}
@@ -48,6 +48,7 @@ same_numbers old new e w n f = ap (λ ns. number_in (record { numbers = ns; slot
 pub grows_again : (old now new : Entries) → Grows old now → Grows now new → Grows old new
 grows_again old now new a b = record {
   numbers = λ w n e. b.numbers w n (a.numbers w n e);
+  more = omega (arith, a.more, b.more);
   postings = λ w. b.postings w ∙ a.postings w;
   last = λ w. b.last w ∙ a.last w;
 }
@@ -55,6 +56,7 @@ grows_again old now new a b = record {
 pub entered_grows : (old new : Entries) → Enters old new → Grows old new
 entered_grows old new h = record {
   numbers = h.numbers;
+  more = h.more;
   postings = λ w. ap (λ (q : Queue). q.postings) (h.queues w);
   last = λ w. ap (λ (q : Queue). q.last) (h.queues w);
 }

@@ -1,5 +1,5 @@
 -- The table of words: each by its number, as calls change it.
-use Rattle.std.proofs.Common.{◌≡◌, ◌≢◌, ◌⊎◌, inl, inr, ⊎_elim, ℕ, zero, suc, ◌≤◌, length, Bool, true, false, cond, ◌&&◌, nat_eq, List, [], ◌∷◌, Option, Some, None, slice_set, ◌<◌, refl, sym, ap, ◌∙◌, arith}
+use Rattle.std.proofs.Common.{◌≡◌, ◌≢◌, ◌⊎◌, inl, inr, ⊎_elim, ℕ, zero, suc, ◌≤◌, length, Bool, true, false, cond, ◌&&◌, nat_eq, List, [], ◌∷◌, Option, Some, None, slice_set, ◌<◌, ◌+◌, Result, Ok, Err, IsOk, IfOk, is_some, if◌then◌else◌, refl, sym, ap, ◌∙◌, arith}
 use Rattle.std.proofs.lemmas.List.{get_or-set_same}
 use Rattle.std.specs.Map.{lookup, KeepsOthers}
 use Rattle.std.specs.Option.{unwrap_or, option_map}
@@ -51,6 +51,12 @@ numbers_updated es new word r here others w =
     (which_word w k))
     ∙ ap (λ (b : Bool). cond b r (lookup (λ k. bytes_eq w k) es)) (sym h.0))
     (which_word w word)
+
+-- an entry that came, or took the place of one with its word
+pub longer_by_insert : {E : Type 0} (r : Result (Option ℕ) E) (now new old : List (List ℕ × ℕ)) → IsOk r → IfOk r (λ o. length new ≡ length now + (if is_some o then 0 else 1)) → now ≡ old → length old ≤ length new
+longer_by_insert (Ok None) now new old is h same = omega (arith, h, ap length same)
+longer_by_insert (Ok (Some n)) now new old is h same = omega (arith, h, ap length same)
+longer_by_insert (Err e) now new old is h same = absurd (let never : false ≡ true = is in cc)
 
 -- ---- a queue by its number
 
@@ -274,18 +280,16 @@ let_go old new n s t at spent gone others numbers = record {
         (which_word w s.word)
 
 -- documents were taken out of a queue, and then words were let go of
-pub dropped : (n doc : ℕ) (old now new : Entries) → IsTable old → now.numbers ≡ old.numbers → IsAltered n (without doc) old now → LetsGo n now new → (w : List ℕ) → IsDropped n doc old new w
-dropped n doc old now new t same a h w =
-    let l = h.less in
-    record {
-      numbers = λ m e. sym (ap (λ ns. lookup (λ k. bytes_eq w k) ns) same) ∙ l.numbers w m e;
-      here = λ e. l.postings w ∙ ap (λ (q : Queue). q.postings) (a.here w e);
-      others = λ e. l.postings w ∙ ap (λ (q : Queue). q.postings) (a.others w e);
-      last = ⊎_elim
-          (λ (h : number_in old w ≡ Some n). omega (arith, l.last w, ap (λ (q : Queue). q.last) (a.here w h)))
-          (λ (h : number_in old w ≢ Some n). omega (arith, l.last w, ap (λ (q : Queue). q.last) (a.others w h)))
-          (has_it (number_in old w) n);
-    }
+pub dropped : (n doc : ℕ) (old now new : Entries) → IsTable old → now.numbers ≡ old.numbers → IsAltered n (without doc) old now → IsLess now new → (w : List ℕ) → IsDropped n doc old new w
+dropped n doc old now new t same a l w = record {
+  numbers = λ m e. sym (ap (λ ns. lookup (λ k. bytes_eq w k) ns) same) ∙ l.numbers w m e;
+  here = λ e. l.postings w ∙ ap (λ (q : Queue). q.postings) (a.here w e);
+  others = λ e. l.postings w ∙ ap (λ (q : Queue). q.postings) (a.others w e);
+  last = ⊎_elim
+      (λ (h : number_in old w ≡ Some n). omega (arith, l.last w, ap (λ (q : Queue). q.last) (a.here w h)))
+      (λ (h : number_in old w ≢ Some n). omega (arith, l.last w, ap (λ (q : Queue). q.last) (a.others w h)))
+      (has_it (number_in old w) n);
+}
 
 -- ---- a word is entered
 
@@ -297,11 +301,12 @@ pub record LeavesEntered (old new : Entries) (word : List ℕ) (n : ℕ) : Type 
 pub entered : (old new : Entries) (word : List ℕ) (n : ℕ) (s : CachedWord) → IsTable old → number_in old word ≡ None → s.word ≡ word → s.queue ≡ no_queue
     → slot_in old.slots n ≡ None → slot_in new.slots n ≡ Some s → ((m : ℕ) → m ≢ n → slot_in new.slots m ≡ slot_in old.slots m)
     → ((w : List ℕ) → number_in new w ≡ cond (bytes_eq w word) (Some n) (number_in old w))
+    → length old.numbers ≤ length new.numbers
     → LeavesEntered old new word n
-entered old new word n s t absent is_word empty free at others numbers = record {
+entered old new word n s t absent is_word empty free at others numbers more = record {
   table = record { found = found; known = known };
   number = here word (is_same word);
-  enters = record { numbers = keeps; queues = queues };
+  enters = record { numbers = keeps; more = more; queues = queues };
 }
   where
     here : (w : List ℕ) → bytes_eq w word ≡ true → number_in new w ≡ Some n

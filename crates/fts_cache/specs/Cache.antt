@@ -1,11 +1,11 @@
 -- What contracts see of a cache.
 use Rattle.std.specs.Prelude.{◌≡◌, ℕ, ◌+◌, ◌^◌, ◌<◌, ◌≤◌, List, [], ◌∷◌, length, filter, sum_by, nat_lt}
-use Rattle.std.specs.Prelude.{◌≢◌, None, Bool, false, if◌then◌else◌}
+use Rattle.std.specs.Prelude.{Bool, false, if◌then◌else◌}
 use Rattle.std.specs.List.{concat}
 use Rattle.std.specs.Option.{option_map_or}
 use Rattle.fts_ilist.specs.Spelling.{Posting}
 use Rattle.fts_cache.specs.Document.{Document, document_size, bytes_of}
-use Rattle.fts_cache.specs.Words.{Entries, queue_in, number_in, has_number, AreNumbersOf}
+use Rattle.fts_cache.specs.Words.{Entries, queue_in, number_in, has_number, AreNumbersOf, FewIdle}
 
 -- a document in the cache
 pub record CachedDocument : Type 0 where
@@ -37,9 +37,9 @@ room_of c word = (queue_in c.words word).room
 abbrev pub cache_size : CacheState → ℕ
 cache_size c = sum_by (λ d. d.size) c.documents
 
--- each word that it holds has a document, or room for one
-abbrev pub HoldsNoOther : CacheState → Type 0
-HoldsNoOther c = (w : List ℕ) → number_in c.words w ≢ None → postings_of c w ≡ [] → 0 < room_of c w
+-- at most half of the words that it holds have neither a document nor room for one
+abbrev pub HoldsFewOthers : CacheState → Type 0
+HoldsFewOthers c = FewIdle c.words
 
 -- a document as the cache keeps it
 abbrev pub cached : Document → CachedDocument

@@ -64,19 +64,25 @@ has_number n numbers = list_any (nat_eq n) numbers
 
 -- a word without documents and room has one of these numbers
 abbrev pub IsUsedBut : Entries → List ℕ → Type 0
-IsUsedBut entries fresh = (w : List ℕ) (n : ℕ) → number_in entries w ≡ Some n
-    → is_spent (queue_in entries w) ≡ true → has_number n fresh ≡ true
+IsUsedBut entries idle = (w : List ℕ) (n : ℕ) → number_in entries w ≡ Some n
+    → is_spent (queue_in entries w) ≡ true → has_number n idle ≡ true
 
 -- the words in byte order have each word that has a number, with its number, and perhaps more
 abbrev pub IsListed : List (List ℕ × ℕ) → BTreeMap (List ℕ) ℕ → Type 0
 IsListed numbers order = (w : List ℕ) (n : ℕ) → lookup (λ k. bytes_eq w k) numbers ≡ Some n
     → get byte_order order w ≡ Some n
 
--- the fields of the words; the fresh numbers are those of words that were entered since words were let go of
-pub record AreKept (entries : Entries) (order : BTreeMap (List ℕ) ℕ) (fresh : List ℕ) : Type 0 where
+-- the fields of the words; the idle numbers are noted so that a word without documents and room can be let go of
+pub record AreKept (entries : Entries) (order : BTreeMap (List ℕ) ℕ) (idle : List ℕ) : Type 0 where
   pub table : IsTable entries
   pub listed : IsListed entries.numbers order
-  pub used : IsUsedBut entries fresh
+  pub used : IsUsedBut entries idle
+
+-- words without documents and room have one of these numbers, at most half as many as there are words
+pub record FewIdle (entries : Entries) : Type 0 where
+  pub idle : List ℕ
+  pub few : length idle + length idle ≤ length entries.numbers
+  pub used : IsUsedBut entries idle
 
 -- the word with its queue changed so
 abbrev pub with_queue : (Queue → Queue) → CachedWord → CachedWord
@@ -125,11 +131,13 @@ KeepsNumbers old new = (w : List ℕ) (n : ℕ) → number_in old w ≡ Some n �
 -- words were entered, without documents
 pub record Enters (old new : Entries) : Type 0 where
   pub numbers : KeepsNumbers old new
+  pub more : length old.numbers ≤ length new.numbers
   pub queues : Stays old new
 
 -- words were entered, and queues have more room
 pub record Grows (old new : Entries) : Type 0 where
   pub numbers : KeepsNumbers old new
+  pub more : length old.numbers ≤ length new.numbers
   pub postings : (w : List ℕ) → (queue_in new w).postings ≡ (queue_in old w).postings
   pub last : (w : List ℕ) → (queue_in new w).last ≡ (queue_in old w).last
 

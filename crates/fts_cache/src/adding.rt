@@ -5,7 +5,7 @@ ghost use Rattle.fts_ilist.specs.Queue.{postings_behind};
 ghost use Rattle.fts_cache.specs.Document.{bytes_in, bytes_of};
 ghost use Rattle.fts_cache.specs.Words.{number_in, queue_in, left_of, AreNumbersOf, Grows};
 ghost use Rattle.fts_cache.specs.Words.{AreBehind, IsLess, IsAdded, KeepsNumbers, GivesUp};
-ghost use Rattle.fts_cache.specs.Words.{IsUsedBut};
+ghost use Rattle.fts_cache.specs.Words.{FewIdle};
 ghost use Rattle.std.specs.List.{concat};
 ghost use Rattle.fts_cache.specs.Cache.{AreNumbers};
 
@@ -21,12 +21,12 @@ fn reserve_words(
     document: &DocWords,
 ) -> Result<(), AllocError>
     requires numbers { numbers.old.items ≡ [] }
-    requires used { IsUsedBut words.old [] }
+    requires few { FewIdle words.old }
     ensures room { OnOk result ((w : List ℕ)
         → (queue_in words.new w).room
         ≡ (queue_in words.old w).room + bytes_in w document.now.words) }
     ensures numbers { OnOk result (AreNumbersOf words.new document.now.words numbers.new.items) }
-    ensures used { OnOk result (IsUsedBut words.new []) }
+    ensures few { OnOk result (FewIdle words.new) }
     ensures grows { Grows words.old words.new }
 {
     for place in 0..document.len() {
@@ -44,7 +44,7 @@ fn reserve_document(
     promised: &mut VecDeque<Vec<u32>>,
     document: &DocWords,
 ) -> Result<(), AllocError>
-    requires { IsUsedBut words.old [] }
+    requires { FewIdle words.old }
     ensures room { OnOk result ((w : List ℕ)
         → (queue_in words.new w).room
         ≡ (queue_in words.old w).room + bytes_in w document.now.words) }
@@ -52,7 +52,7 @@ fn reserve_document(
         × AreNumbersOf words.new document.now.words numbers
         × (map (λ n. n.items) promised.new.items
         ≡ map (λ n. n.items) promised.old.items ++ numbers ∷ [])) }
-    ensures used { OnOk result (IsUsedBut words.new []) }
+    ensures few { OnOk result (FewIdle words.new) }
     ensures grows { Grows words.old words.new }
 {
     let mut numbers = Vec::with_capacity(words.allocator(), document.len())?;
@@ -69,13 +69,13 @@ pub(crate) fn reserve_documents(
     documents: &[DocWords],
 ) -> Result<(), AllocError>
     requires promised { map (λ n. n.items) promised.old.items ≡ [] }
-    requires used { IsUsedBut words.old [] }
+    requires few { FewIdle words.old }
     ensures room { OnOk result ((w : List ℕ)
         → (queue_in words.new w).room
         ≡ (queue_in words.old w).room + bytes_of w documents.now) }
     ensures numbers { OnOk result (AreNumbers words.new documents.now
         (map (λ n. n.items) promised.new.items)) }
-    ensures used { OnOk result (IsUsedBut words.new []) }
+    ensures few { OnOk result (FewIdle words.new) }
     ensures grows { Grows words.old words.new }
 {
     for document in documents {
@@ -94,13 +94,13 @@ fn release_words(words: &mut Words, numbers: &[u32])
     }
 }
 
-/// Gives up the room that was promised and not used, and lets go of the words that then have
-/// neither documents nor room.
+/// Gives up the room that was promised and not used. At most half of the words then have neither
+/// documents nor room.
 pub(crate) fn release_promised(words: &mut Words, promised: &mut VecDeque<Vec<u32>>)
     ensures less { IsLess words.old words.new }
     ensures room { (w : List ℕ) → GivesUp (concat (map (λ n. n.items) promised.old.items)) words.old
         words.new w }
-    ensures used { IsUsedBut words.new [] }
+    ensures few { FewIdle words.new }
     ensures promised { map (λ n. n.items) promised.new.items ≡ [] }
 {
     release_all(words, promised);

@@ -8,7 +8,7 @@ ghost use Rattle.fts_cache.specs.Document.{Document, document_size, document_pos
 ghost use Rattle.fts_cache.specs.Document.{bytes_of};
 ghost use Rattle.fts_cache.specs.Cache.{CacheState, postings_of, cache_size};
 ghost use Rattle.fts_cache.specs.Cache.{cached, cached_behind, SameContents, HasRoom, BeginsAbove};
-ghost use Rattle.fts_cache.specs.Cache.{IdsAscend, room_of, room_left, HoldsNoOther};
+ghost use Rattle.fts_cache.specs.Cache.{IdsAscend, room_of, room_left, HoldsFewOthers};
 ghost use Rattle.fts_cache.specs.Words.{queue_in, AreBehind};
 ghost use Rattle.fts_ilist.specs.Cursor.{postings_until};
 ghost use Rattle.fts_cache.specs.Kept.{kept, NoteWords, NotesUntil};
@@ -221,17 +221,17 @@ impl Cache {
     }
 
     /// Makes room for the documents, so that `add` can take them, one after another, without
-    /// memory. Room that an earlier call made and that nobody used is given up, and a word that has
-    /// neither documents nor room is let go of. Where there is no memory, the contents stay as they
-    /// were.
+    /// memory. Room that an earlier call made and that nobody used is given up. Where there is no
+    /// memory, the contents stay as they were.
     ///
     /// It looks each word up once, and notes its number for `add`. A word that the cache hasn't yet
-    /// is entered without a document, and counts as absent.
+    /// is entered without a document, and counts as absent. Words whose last document left are kept
+    /// for those that have them again, and let go of where they may be more than half of all.
     pub fn reserve(&mut self, documents: &[DocWords]) -> Result<(), AllocError>
         ensures room { OnOk result (HasRoom self.new documents.now) }
         ensures held { OnOk result ((w : List ℕ)
             → room_of self.new w ≡ room_left self.old w + bytes_of w documents.now) }
-        ensures no_other { OnOk result (HoldsNoOther self.new) }
+        ensures few { OnOk result (HoldsFewOthers self.new) }
         ensures contents { SameContents self.old self.new }
     {
         // A size past 64 bits is one that no memory holds.
@@ -311,8 +311,8 @@ impl Cache {
     }
 
     /// Takes the documents up to `doc` out, with their words. Each document and each of its words
-    /// takes constant time, and a word that no document has any more logarithmic time: it is let go
-    /// of, unless there is room for it.
+    /// takes constant time; a word that no document has any more takes logarithmic time, here or
+    /// where it is let go of later.
     pub fn drop_until(&mut self, doc: u64)
         ensures documents { self.new.documents ≡ cached_behind doc self.old.documents }
         ensures postings { (w : List ℕ)
@@ -339,7 +339,8 @@ impl Cache {
         self.last
     }
 
-    /// How many words it holds: those of its documents, and those that room was made for.
+    /// How many words it holds: those of its documents, those that room was made for, and words
+    /// whose documents left, which `reserve` leaves at most as many as the others.
     pub fn words_len(&self) -> usize
         ensures { result ≡ length self.now.words.numbers }
     {

@@ -1,7 +1,7 @@
 //! The cached words, each by a number of its own, and their queues.
 ghost use Rattle.std.specs.Prelude.{◌≡◌, ◌≢◌, ◌+◌, ◌-◌, ◌<◌, ◌≤◌, ◌↔◌, ◌++◌};
 ghost use Rattle.std.specs.Prelude.{List, ℕ, [], ◌∷◌, Some, None, length, map, IfOk, IfSome, OnOk};
-ghost use Rattle.std.specs.Prelude.{OnErr, IsTrue, true, nat_eq, if◌then◌else◌};
+ghost use Rattle.std.specs.Prelude.{OnErr, IsTrue, true, false, nat_eq, if◌then◌else◌};
 ghost use Rattle.std.specs.Option.{option_map, option_to_list};
 ghost use Rattle.std.specs.List.{IsDistinct};
 ghost use Rattle.std.specs.Str.{bytes_eq};
@@ -21,6 +21,7 @@ ghost use Rattle.fts_cache.specs.Words.{leaving_word, leaving_words, has_documen
 ghost use Rattle.fts_ilist.specs.Front.{front};
 ghost use Rattle.fts_words.specs.Order.{begins_with};
 ghost use Rattle.fts_cache.specs.Words.{with_documents, is_spent, is_spent_at, IsUsedBut, IsListed};
+ghost use Rattle.fts_cache.specs.Words.{FewIdle};
 ghost use Rattle.fts_cache.specs.Words.{AreKept, IsSealed, KeepsBut, is_leaving_as, leaving_listed};
 ghost use Rattle.fts_cache.specs.Words.{sealed_all, sealed_word};
 ghost use Rattle.fts_ilist.specs.Packing.{packed};
@@ -62,8 +63,9 @@ pub(crate) struct Words {
     slots: Slab<CachedWord>,
     // The number of each word, in the order of their bytes. A word that left may still stand here.
     order: BTreeMap<Word, u32>,
-    // The numbers of the words that were entered since the last sweep.
-    fresh: Vec<u32>,
+    // The numbers of the words that may have neither documents nor room: since the last sweep they
+    // were entered, or their last document left.
+    idle: Vec<u32>,
 }
 
 impl Model for Words {
@@ -76,7 +78,7 @@ impl Model for Words {
     ghost invariant = { λ w. AreKept (record {
       numbers = w.numbers.entries;
       slots = w.slots.slots;
-    }) w.order w.fresh.items };
+    }) w.order w.idle.items };
 }
 
 /// Makes room for one more document in the queue with this number.
@@ -175,15 +177,71 @@ fn let_go(
     }
 }
 
+/// Notes a number behind the others, where there is a place for it, and tells whether it did. It
+/// takes no memory.
+fn note_idle(idle: &mut Vec<u32>, number: usize) -> bool
+    ensures noted { result ≡ true → idle.new.items ≡ idle.old.items ++ number ∷ [] }
+    ensures not_noted { result ≡ false → idle.new.items ≡ idle.old.items }
+{
+    if idle.len() == idle.capacity() {
+        return false;
+    }
+    match u32::try_from(number) {
+        Ok(number) => {
+            idle.push(number).unwrap();
+            true
+        }
+        Err(_) => false,
+    }
+}
+
+/// Notes the number of a word that has neither documents nor room, since it mostly comes again.
+/// Where there is no place for the note, the word is let go of.
+fn retire(
+    numbers: &mut IndexMap<Word, u32>,
+    slots: &mut Slab<CachedWord>,
+    order: &mut BTreeMap<Word, u32>,
+    idle: &mut Vec<u32>,
+    number: usize,
+)
+    requires kept { AreKept (record { numbers = numbers.old.entries; slots = slots.old.slots })
+        order.old (number ∷ idle.old.items) }
+    ensures kept { AreKept (record { numbers = numbers.new.entries; slots = slots.new.slots })
+        order.new idle.new.items }
+    ensures less { IsLess (record { numbers = numbers.old.entries; slots = slots.old.slots })
+        (record { numbers = numbers.new.entries; slots = slots.new.slots }) }
+{
+    if is_unused(slots, number) && note_idle(idle, number) {
+        return;
+    }
+    let_go(numbers, slots, order, number);
+}
+
+/// Takes numbers off the end whose words have documents or room, as those mostly have that were
+/// entered last.
+fn trim(idle: &mut Vec<u32>, slots: &Slab<CachedWord>)
+    ensures { (numbers : List (List ℕ × ℕ))
+        → IsTable (record { numbers = numbers; slots = slots.now.slots })
+        → IsUsedBut (record { numbers = numbers; slots = slots.now.slots }) idle.old.items
+        → IsUsedBut (record { numbers = numbers; slots = slots.now.slots }) idle.new.items }
+{
+    while let Some(last) = idle.last() {
+        if is_unused(slots, *last as usize) {
+            return;
+        }
+        idle.pop();
+    }
+}
+
 /// Lets go of the words with these numbers that have neither documents nor room, which are all.
 fn let_go_all(
     numbers: &mut IndexMap<Word, u32>,
     slots: &mut Slab<CachedWord>,
     order: &mut BTreeMap<Word, u32>,
-    fresh: &[u32],
+    idle: &[u32],
 )
     requires kept { AreKept (record { numbers = numbers.old.entries; slots = slots.old.slots })
-        order.old fresh.now }
+        order.old idle.now }
     ensures kept { AreKept (record { numbers = numbers.new.entries; slots = slots.new.slots })
         order.new [] }
     ensures less { IsLess (record { numbers = numbers.old.entries; slots = slots.old.slots })
@@ -192,7 +250,7 @@ fn let_go_all(
         → (queue_in (record { numbers = numbers.new.entries; slots = slots.new.slots }) w).room
         ≡ (queue_in (record { numbers = numbers.old.entries; slots = slots.old.slots }) w).room }
 {
-    let mut rest = fresh;
+    let mut rest = idle;
     while let Some((first, behind)) = rest.split_first() {
         let_go(numbers, slots, order, *first as usize);
         rest = behind;
@@ -387,7 +445,7 @@ impl Words {
             numbers: IndexMap::new(alloc),
             slots: Slab::new(alloc),
             order: BTreeMap::new(alloc),
-            fresh: Vec::new(alloc),
+            idle: Vec::new(alloc),
         }
     }
 
@@ -443,7 +501,8 @@ impl Words {
     pub fn enter(&mut self, word: &[u8]) -> Result<u32, AllocError>
         ensures number { IfOk result (λ n. number_in self.new word.now ≡ Some n) }
         ensures enters { Enters self.old self.new }
-        ensures used { IfOk result (λ n. IsUsedBut self.old [] → IsUsedBut self.new (n ∷ [])) }
+        ensures used { IfOk result (λ n. (idle : List ℕ)
+            → IsUsedBut self.old idle → IsUsedBut self.new (n ∷ idle)) }
     {
         if let Some(number) = self.numbers.get(WordBytes { bytes: word }) {
             return Ok(*number);
@@ -458,11 +517,12 @@ impl Words {
         let queue = PostingQueue::new(alloc);
         self.slots.reserve(1)?;
         self.numbers.reserve(1)?;
-        self.fresh.reserve(1)?;
+        // With places for words whose last document leaves: to note these takes no memory.
+        self.idle.reserve(1 + self.numbers.len() / 2)?;
         self.order.insert(listed, number)?;
         self.numbers.insert(key, number).unwrap();
         self.slots.insert_reserved(CachedWord { word, queue });
-        self.fresh.push(number).unwrap();
+        self.idle.push(number).unwrap();
         Ok(number)
     }
 
@@ -474,7 +534,8 @@ impl Words {
         ensures ok { OnOk result ((word : List ℕ) → number_in self.old word ≡ Some number
             → Changes self.old word (with_more_room positions (queue_in self.old word))
             self.new) }
-        ensures used { OnOk result (IsUsedBut self.old (number ∷ []) → IsUsedBut self.new []) }
+        ensures used { OnOk result ((idle : List ℕ)
+            → IsUsedBut self.old (number ∷ idle) → IsUsedBut self.new idle) }
         ensures err { OnErr result (Stays self.old self.new) }
     {
         reserve_at(&mut self.slots, number, positions)
@@ -507,29 +568,39 @@ impl Words {
         );
     }
 
-    /// Lets go of the words that have neither documents nor room. It costs those that were entered
-    /// since the last time.
+    /// Lets go of the words that have neither documents nor room, where these may be more than half
+    /// of all. It costs those that were entered or whose last document left since it last did so.
     pub fn sweep(&mut self)
         ensures less { IsLess self.old self.new }
         ensures room { (w : List ℕ) → (queue_in self.new w).room ≡ (queue_in self.old w).room }
-        ensures used { IsUsedBut self.new [] }
+        ensures few { FewIdle self.new }
     {
+        trim(&mut self.idle, &self.slots);
+        if self.idle.len() <= self.numbers.len() / 2 {
+            return;
+        }
         let_go_all(
             &mut self.numbers,
             &mut self.slots,
             &mut self.order,
-            &self.fresh,
+            &self.idle,
         );
-        self.fresh.clear();
+        self.idle.clear();
     }
 
-    /// Takes the documents up to `doc` out of the queue of the word with this number, and lets go
-    /// of the word where it has none any more, and no room.
+    /// Takes the documents up to `doc` out of the queue of the word with this number. A word that
+    /// has none any more, and no room, stays until a sweep, as long as its number can be noted.
     pub fn drop_until(&mut self, number: usize, doc: u64)
         ensures { (w : List ℕ) → IsDropped number doc self.old self.new w }
     {
         drop_at(&mut self.slots, number, doc);
-        let_go(&mut self.numbers, &mut self.slots, &mut self.order, number);
+        retire(
+            &mut self.numbers,
+            &mut self.slots,
+            &mut self.order,
+            &mut self.idle,
+            number,
+        );
     }
 
     /// Those of the words with these numbers that have a document up to `doc`, in the order of

@@ -23,7 +23,7 @@ loop-document-preserved c =
           (promised_more c.reserve_document.new.words (take i ds) (map (λ n. n.items) c.loop-document.promised.items) d p.0
           (promised_kept c.loop-document.words c.reserve_document.new.words (take i ds) (map (λ n. n.items) c.loop-document.promised.items) e.grows.numbers inv.numbers) p.1));
       grows = grows_again c.args.words.now c.loop-document.words c.reserve_document.new.words inv.grows e.grows;
-      used = e.used;
+      few = e.few;
     }
 
 pub returns-clause-numbers : goal.returns-clause-numbers

@@ -1,4 +1,4 @@
-use Rattle.std.proofs.Common.{rules, ◌≡◌, ◌+◌, ◌++◌, ◌∷◌, [], List, drop, take, refl, ap, sym, subst, ◌∙◌}
+use Rattle.std.proofs.Common.{rules, ◌≡◌, ◌+◌, ◌++◌, ◌∷◌, [], List, length, drop, take, arith, refl, ap, sym, subst, ◌∙◌}
 use Rattle.fts_cache.specs.Document.{WordPositions, bytes_in}
 use Rattle.fts_cache.specs.Words.{queue_in, AreNumbersOf}
 use Rattle.fts_cache.proofs.Documents.{reserved_one, still_stays, words_at, words_until}
@@ -15,6 +15,7 @@ loop-place-preserved c =
     let now = c.enter.new.self in
     let e = c.in_ok-number.ensures in
     let changed = c.in_ok-reserve.ensures.ok v.word e.number in
+    let f = c.loop-place.invariant.few in
     let keeps = same_numbers now c.reserve.new.self c.in_ok-reserve.ensures.numbers in
     let items : c.push.new.self.items ≡ c.loop-place.numbers.items ++ c.in_ok-number.number ∷ [] = search rules in
     record {
@@ -27,6 +28,10 @@ loop-place-preserved c =
           (numbers_more c.reserve.new.self (take c.loop-place.place d.words) c.loop-place.numbers.items v c.in_ok-number.number
           (numbers_kept now c.reserve.new.self (take c.loop-place.place d.words) c.loop-place.numbers.items keeps (numbers_kept was now (take c.loop-place.place d.words) c.loop-place.numbers.items e.enters.numbers c.loop-place.invariant.numbers))
           (keeps v.word c.in_ok-number.number e.number)));
-      grows = still_stays v.word c.args.words.now now c.reserve.new.self _ changed refl refl (grows_again c.args.words.now was now c.loop-place.invariant.grows (entered_grows was now e.enters)) keeps;
-      used = c.in_ok-reserve.ensures.used (e.used c.loop-place.invariant.used);
+      grows = still_stays v.word c.args.words.now now c.reserve.new.self _ changed refl refl (grows_again c.args.words.now was now c.loop-place.invariant.grows (entered_grows was now e.enters)) c.in_ok-reserve.ensures.numbers;
+      few = record {
+        idle = f.idle;
+        few = omega (arith, f.few, e.enters.more, ap length c.in_ok-reserve.ensures.numbers);
+        used = c.in_ok-reserve.ensures.used f.idle (e.used f.idle f.used);
+      };
     }

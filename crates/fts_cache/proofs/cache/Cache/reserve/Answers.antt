@@ -4,7 +4,6 @@ use Rattle.fts_cache.specs.Document.{bytes_of}
 use Rattle.fts_cache.specs.Words.{GivesUp}
 use Rattle.fts_cache.proofs.Queues.{on_ok}
 use Rattle.fts_cache.proofs.Rooms.{left_after}
-use Rattle.fts_cache.proofs.Used.{no_other}
 use Rattle.fts_cache.proofs.cache.Cache.reserve.Goals as goal
 
 pub returns-clause-held : goal.returns-clause-held
@@ -13,7 +12,3 @@ returns-clause-held c =
     (λ room w. room w ∙ ap (λ n. n + bytes_of w c.args.documents.now)
     (left_after c.args.self.now c.release_promised.new.words w (subst (λ s. GivesUp (concat s.promised) s.words c.release_promised.new.words w) c.self.view_is (c.release_promised.ensures.room w))))
     c.reserve_documents.ensures.room
-
-pub returns-clause-no_other : goal.returns-clause-no_other
-returns-clause-no_other c =
-    on_ok c.reserve_documents.result _ _ (λ used. no_other c.reserve_documents.new.words used) c.reserve_documents.ensures.used

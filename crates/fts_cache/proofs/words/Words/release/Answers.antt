@@ -24,4 +24,4 @@ invariant_of-self c =
     let old : Entries = record { numbers = i.numbers.entries; slots = i.slots.slots } in
     let now : Entries = record { numbers = i.numbers.entries; slots = c.clear_at.new.slots.slots } in
     let new : Entries = record { numbers = c.let_go.new.numbers.entries; slots = c.let_go.new.slots.slots } in
-    let_go_kept c.args.number without_room old now new i.order c.let_go.new.order i.fresh.items c.self.invariant refl (altered c.args.number without_room i.numbers.entries i.slots.slots c.clear_at.new.slots.slots c.self.invariant.table c.clear_at.ensures) c.let_go.ensures.less c.let_go.ensures.table c.let_go.ensures.listed
+    let_go_kept c.args.number without_room old now new i.order c.let_go.new.order i.idle.items c.self.invariant refl (altered c.args.number without_room i.numbers.entries i.slots.slots c.clear_at.new.slots.slots c.self.invariant.table c.clear_at.ensures) c.let_go.ensures.less c.let_go.ensures.table c.let_go.ensures.listed
