@@ -1,5 +1,6 @@
-ghost use Rattle.std.specs.Prelude.{◌≡◌, ℕ, None, length, max};
+ghost use Rattle.std.specs.Prelude.{◌≡◌, ℕ, List, None, length, max};
 ghost use Rattle.fts_io.specs.Text.{whole};
+ghost use Rattle.fts_sql.specs.Statement.{IsStatement};
 ghost use Rattle.fts_steps.specs.Step.{to_find};
 ghost use Rattle.fts_query.specs.View.{tree_of};
 ghost use Rattle.fts_query.specs.Seen.{view_seen};
@@ -104,30 +105,47 @@ impl Session {
         ensures seen { self.new.last_seen ≡ self.old.last_seen }
         ensures number { self.new.number ≡ self.old.number }
     {
+        match parse_statement(self.alloc, line) {
+            Ok(Some(statement)) => self.carry_out(steps, gate, statement),
+            Ok(None) => Reply::Nothing,
+            Err(error) => unparsed(error),
+        }
+    }
+
+    // Makes the step of a statement that a line has.
+    fn carry_out<S: EngineSteps, G: Gate>(
+        &mut self,
+        steps: &mut S,
+        gate: &G,
+        statement: Statement,
+    ) -> Reply
+        requires fits { FitsTable (length (S.sight.settings steps.old).columns)
+            self.old.transaction }
+        requires said { (line : List ℕ) × IsStatement line statement }
+        ensures executes { (line : List ℕ) → IsStatement line statement
+            → Executes S.sight (whole line) self.old.transaction
+            steps.old result self.new.transaction steps.new }
+        ensures fits { FitsTable (length (S.sight.settings steps.old).columns)
+            self.new.transaction }
+        ensures seen { self.new.last_seen ≡ self.old.last_seen }
+        ensures number { self.new.number ≡ self.old.number }
+    {
         let alloc = self.alloc;
-        match parse_statement(alloc, line) {
-            Ok(Some(Statement::Begin)) => begin(alloc, &mut self.transaction, steps),
-            Ok(Some(Statement::Commit)) => commit(&mut self.transaction, steps),
-            Ok(Some(Statement::Rollback)) => rollback(&mut self.transaction),
-            Ok(
-                Some(
-                    Statement::Insert {
-                        table,
-                        columns,
-                        values,
-                    },
-                ),
-            ) => insert(alloc, &mut self.transaction, steps, table, &columns, values),
-            Ok(
-                Some(
-                    Statement::Update {
-                        table,
-                        columns,
-                        texts,
-                        key,
-                    },
-                ),
-            ) => update(
+        match statement {
+            Statement::Begin => begin(alloc, &mut self.transaction, steps),
+            Statement::Commit => commit(&mut self.transaction, steps),
+            Statement::Rollback => rollback(&mut self.transaction),
+            Statement::Insert {
+                table,
+                columns,
+                values,
+            } => insert(alloc, &mut self.transaction, steps, table, &columns, values),
+            Statement::Update {
+                table,
+                columns,
+                texts,
+                key,
+            } => update(
                 alloc,
                 &mut self.transaction,
                 steps,
@@ -136,22 +154,14 @@ impl Session {
                 &texts,
                 key,
             ),
-            Ok(Some(Statement::Delete { table, key })) => delete(
-                alloc,
-                &mut self.transaction,
-                steps,
+            Statement::Delete { table, key } => {
+                delete(alloc, &mut self.transaction, steps, table, key)
+            }
+            Statement::Match {
                 table,
-                key,
-            ),
-            Ok(
-                Some(
-                    Statement::Match {
-                        table,
-                        columns,
-                        query,
-                    },
-                ),
-            ) => search(
+                columns,
+                query,
+            } => search(
                 alloc,
                 steps,
                 gate,
@@ -160,11 +170,9 @@ impl Session {
                 &columns,
                 query.as_slice(),
             ),
-            Ok(Some(Statement::Sync)) => sync(steps),
-            Ok(Some(Statement::Optimize { table })) => optimize(steps, table),
-            Ok(Some(Statement::List { schema, view })) => list(alloc, steps, &schema, &view),
-            Ok(None) => Reply::Nothing,
-            Err(error) => unparsed(error),
+            Statement::Sync => sync(steps),
+            Statement::Optimize { table } => optimize(steps, table),
+            Statement::List { schema, view } => list(alloc, steps, &schema, &view),
         }
     }
 }
