@@ -11,11 +11,10 @@ Then SYNC, each time of 1,000 mails more, the least of the turns too. It needs P
 and works below TMPDIR.
 """
 import argparse
-import os
 import statistics
 import tempfile
 
-from queries import TOP, Fts, texts_of
+from queries import Fts, program_named, texts_of
 
 INSERT = "INSERT INTO docs (id, body) VALUES (%d, '%s')\n"
 LARGEST = ["--cache-bytes", "80000000"]
@@ -84,7 +83,7 @@ def main():
     parser = argparse.ArgumentParser(description="Times INSERTs with batches, and SYNC.")
     parser.add_argument("rows", nargs="*", type=int, default=[10_000])
     parser.add_argument("--turns", type=int, default=3)
-    parser.add_argument("--program", default=os.path.join(TOP, "crates/fts/out/fts"))
+    parser.add_argument("--program", type=program_named, default="")
     words = parser.parse_args()
     for rows in words.rows:
         texts = texts_of(rows)

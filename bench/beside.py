@@ -1,8 +1,8 @@
 #!/usr/bin/env python3
 """Times several built programs on the same scripts, in turns: bench/beside.py ROWS PROGRAM ..
 
-A program is the file crates/fts/out/fts of a tree, or what was copied from there: that of an earlier commit is built by `./fts help run`
-in a tree of it. For each it tells the processor's time of an INSERT, a commit each, of short texts and of mails of 200 words, with the
+A program is the file that `./fts which` tells in a tree, or what was copied from there; in a tree of an earlier commit it is
+crates/fts/out/fts, which `./fts help run` builds. For each it tells the processor's time of an INSERT, a commit each, of short texts and of mails of 200 words, with the
 default cache and, where the program takes it, with the largest, behind which no batch follows a commit; that of an opening; and that of
 a search for a word that 20 rows have. Each is of the least times of five turns, in which the programs follow one another. With valgrind
 it counts the instructions of an INSERT too, from the difference of two scripts, which other work beside it does not change.

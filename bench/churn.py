@@ -14,7 +14,7 @@ import random
 import tempfile
 
 from batches import INSERT, end, inserts
-from queries import MATCH, TOP, Fts, texts_of, word_of
+from queries import MATCH, Fts, program_named, texts_of, word_of
 
 UPDATE = "UPDATE docs SET body = '%s' WHERE id = %d\n"
 DELETE = "DELETE FROM docs WHERE id = %d\n"
@@ -85,7 +85,7 @@ def told(times):
 def main():
     parser = argparse.ArgumentParser(description="Times changes of rows.")
     parser.add_argument("rows", nargs="*", type=int, default=[10_000])
-    parser.add_argument("--program", default=os.path.join(TOP, "crates/fts/out/fts"))
+    parser.add_argument("--program", type=program_named, default="")
     parser.add_argument("--churn", action="store_true", help="with OPTIMIZE among the changes")
     words = parser.parse_args()
     for rows in words.rows:

@@ -2,12 +2,11 @@
 """Tries the edge of the built program in real folders, one line a case: bench/edge.py [WORD ..]
 
 With words, only the cases whose names have one of them. Closed streams, refusals and their two lines, files of
-somebody else, two processes at once, signals at random moments, and the script ./fts itself over a toolchain that is
-made up here. The program is built first by ./fts, if it isn't. The folders are made below TMPDIR and removed again.
+somebody else, two processes at once, signals at random moments, and the script ./fts itself. The program is the one that ./fts
+runs, which builds it first where there is none. The folders are made below TMPDIR and removed again.
 Ends with a count, and with status 1 where a case failed. Takes half a minute. Python 3.10 or later, Linux.
 """
 import os
-import pty
 import random
 import resource
 import select
@@ -20,6 +19,8 @@ import time
 
 TOP = os.path.dirname(os.path.dirname(os.path.realpath(__file__)))
 SCRIPT = os.path.join(TOP, "fts")
+# What ./fts runs.
+PROGRAM = ""
 NOBODY = 65534
 SEARCH = b"SELECT FTS_DOC_ID FROM docs WHERE MATCH (body) AGAINST ('apple' IN BOOLEAN MODE)\n"
 INDEX = b"FTSINDX1\x00"
@@ -51,7 +52,7 @@ class Room:
         self.path = path
         self.program = os.path.join(path, "program")
         os.chmod(path, 0o755)
-        shutil.copy(os.path.join(TOP, "crates/fts/out/fts"), self.program)
+        shutil.copy(PROGRAM, self.program)
         os.chmod(self.program, 0o755)
 
     def at(self, *names):
@@ -645,93 +646,6 @@ def closed_pipe(room):
 # The script
 
 
-def script_over(room, toolchain):
-    """A copy of the repository without its crates' text, and a PATH whose rt is this text. Returns what starts it."""
-    shutil.rmtree(room.at("tree"), ignore_errors=True)
-    os.makedirs(room.at("tree/crates/fts/out"))
-    shutil.copy(SCRIPT, room.at("tree/fts"))
-    for name in ("high", "low"):
-        os.makedirs(room.at("tree/crates", name))
-    room.put(b"low: memchr\nnot_wanted: low\nhigh: low\nfts: high\n", "tree/crates.txt")
-    tools = room.at("tools")
-    shutil.rmtree(tools, ignore_errors=True)
-    os.makedirs(tools)
-    for name in "sh awk cat chmod dirname find mkdir python3 readlink rm touch wc".split():
-        os.symlink(shutil.which(name), os.path.join(tools, name))
-    if toolchain:
-        room.put(f"#!/bin/sh\n{toolchain}\n".encode(), "tools/rt")
-        os.chmod(room.at("tools/rt"), 0o755)
-    env = {**os.environ, "PATH": tools}
-    env.pop("GLIBC_TUNABLES", None)
-    return {"env": env, "cwd": room.path, "stdin": subprocess.DEVNULL}
-
-
-# A toolchain that makes a program which tells its words and its tunables and ends with 7, and that waits for another one at `high`.
-MADE_UP = """
-[ "$1" = run ] || case $PWD in
-*/high) echo "rt: high: another copy of the repository is building this library; waiting for it, at most" >&2; exit 0 ;;
-*) exit 0 ;;
-esac
-printf '#!/bin/sh\\n[ $# -eq 0 ] && echo "fts: usage: .." >&2\\necho "$* $GLIBC_TUNABLES"\\nexit 7\\n' >out/fts
-chmod +x out/fts
-exec out/fts
-"""
-
-
-@case
-def script_tells_how_far_the_build_is(room):
-    how = script_over(room, MADE_UP)
-    ran = subprocess.run([room.at("tree/fts"), "a b", "c"], capture_output=True, text=True, **how)
-    wanted = ["building the program, which takes minutes the first time", "proving low, left: 2"]
-    wanted += ["proving high, left: 1", "another build holds high; waiting for it to end", "proving fts, left: 0"]
-    same(ran.stderr.splitlines(), ["fts: " + it for it in wanted], "the lines")
-    same((ran.returncode, ran.stdout), (7, "a b c glibc.malloc.hugetlb=1\n"), "status and output")
-    again = subprocess.run([room.at("tree/fts")], capture_output=True, text=True, **how)
-    same((again.returncode, again.stderr), (7, "fts: usage: ..\n"), "a second start")
-    return " | ".join(wanted)
-
-
-@case
-def script_keeps_tunables(room):
-    how = script_over(room, MADE_UP)
-    for tunables in ("glibc.malloc.hugetlb=0", ""):
-        how["env"]["GLIBC_TUNABLES"] = tunables
-        ran = subprocess.run([room.at("tree/fts"), "x"], capture_output=True, text=True, **how)
-        same((ran.returncode, ran.stdout), (7, f"x {tunables}\n"), "status and output")
-    return "those that were set, an empty text too"
-
-
-@case
-def script_on_a_terminal_tells_in_one_line(room):
-    how = script_over(room, MADE_UP)
-    near, far = pty.openpty()
-    process = subprocess.Popen([room.at("tree/fts"), "x"], stdout=subprocess.DEVNULL, stderr=far, **how)
-    process.wait(timeout=60)
-    os.close(far)
-    seen = os.read(near, 65536)
-    os.close(near)
-    same((seen.count(b"\n"), seen.count(b"\r\x1b[Kfts: "), seen.endswith(b"\r\x1b[K")), (0, 5, True), f"{seen!r}")
-    return "five texts, each over the one before, and the line is empty at the end"
-
-
-@case
-def script_without_a_toolchain(room):
-    how = script_over(room, None)
-    ran = subprocess.run([room.at("tree/fts"), "x"], capture_output=True, text=True, **how)
-    line = "fts: the package rattle-kit-13 is missing: install it, with its rt in PATH\n"
-    same((ran.returncode, ran.stdout, ran.stderr), (102, "", line), "status and lines")
-    return f"status 102, {line.strip()}"
-
-
-@case
-def script_whose_build_fails(room):
-    how = script_over(room, "case $PWD in */high) echo an error; exit 1 ;; esac")
-    ran = subprocess.run([room.at("tree/fts"), "x"], capture_output=True, text=True, **how)
-    line = f"fts: high can't be built; to see why: cd '{room.at('tree/crates/high')}' && rt check"
-    same((ran.returncode, ran.stdout, ran.stderr.splitlines()[3:]), (101, "", [line]), "status and lines")
-    return "status 101, fts: high can't be built; to see why: cd '../crates/high' && rt check"
-
-
 @case
 def script_from_anywhere(room):
     os.makedirs(room.at("a b"))
@@ -761,7 +675,8 @@ def script_helps(room):
     ran = subprocess.run([SCRIPT, "help"], cwd=room.path, capture_output=True, text=True)
     same((ran.returncode, ran.stderr), (0, ""), "status")
     lines = ran.stdout.splitlines()
-    same(len(lines) <= 15, True, f"{len(lines)} lines")
+    same(len(lines) <= 20, True, f"{len(lines)} lines")
+    same(lines[-1].startswith("This runs "), True, lines[-1])
     for option in "--columns --min --max --no-stopword --optimize-words --cache-bytes --batch-docs".split():
         same(option in ran.stdout, True, option)
     return f"{len(lines)} lines"
@@ -791,10 +706,11 @@ def folders_of_the_readme_are_ignored(room):
 
 
 def main():
-    with tempfile.TemporaryDirectory() as path:
-        words = [SCRIPT, os.path.join(path, "shop"), "create", "--columns", "body"]
-        if subprocess.run(words, stdin=subprocess.DEVNULL, stdout=subprocess.DEVNULL).returncode:
-            return 1
+    global PROGRAM
+    asked = subprocess.run([SCRIPT, "which"], stdin=subprocess.DEVNULL, stdout=subprocess.PIPE, text=True)
+    if asked.returncode:
+        return 1
+    PROGRAM = asked.stdout.strip()
     wanted = [it for it in CASES if not sys.argv[1:] or any(word in it.__name__ for word in sys.argv[1:])]
     failed = 0
     for it in wanted:

@@ -14,7 +14,7 @@ import statistics
 import subprocess
 import tempfile
 
-from queries import TOP, as_script_does, drawn
+from queries import as_script_does, drawn, program_named
 
 TRACING = "/sys/kernel/tracing"
 CALLS = {"room": "make_batch_room", "install": "tables::Tables::install_batch"}
@@ -81,7 +81,7 @@ def times_of():
 def main():
     parser = argparse.ArgumentParser(description="Times what each batch of a run takes in the tables.")
     parser.add_argument("rows", nargs="?", type=int, default=10_000)
-    parser.add_argument("--program", default=os.path.join(TOP, "crates/fts/out/fts"))
+    parser.add_argument("--program", type=program_named, default="")
     words = parser.parse_args()
     for call, place in places_of(words.program):
         probe(words.program, call, place)

@@ -17,7 +17,7 @@ import tempfile
 import time
 
 from batches import end, held, inserts
-from queries import MATCH, TOP, Fts, as_script_does, texts_of, word_of
+from queries import MATCH, Fts, as_script_does, program_named, texts_of, word_of
 
 WORD = word_of(20_000)
 TURNS = 3
@@ -76,7 +76,7 @@ def without_entries(folder, other):
 def main():
     parser = argparse.ArgumentParser(description="Times openings, with and without an index log.")
     parser.add_argument("rows", nargs="*", type=int, default=[10_000])
-    parser.add_argument("--program", default=os.path.join(TOP, "crates/fts/out/fts"))
+    parser.add_argument("--program", type=program_named, default="")
     words = parser.parse_args()
     for rows in words.rows:
         texts = texts_of(rows)

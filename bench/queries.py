@@ -107,6 +107,12 @@ def kinds_of(texts):
     }
 
 
+def program_named(path):
+    """The program of this path, or else the one that ./fts runs, which builds it where there is none."""
+    script = os.path.join(TOP, "fts")
+    return path or subprocess.run([script, "which"], check=True, capture_output=True, text=True).stdout.strip()
+
+
 def as_script_does():
     """What ./fts sets for the program, unless it is set."""
     return {"GLIBC_TUNABLES": "glibc.malloc.hugetlb=1", **os.environ}
@@ -207,7 +213,7 @@ def main():
     parser.add_argument("rows", nargs="?", type=int, default=100_000)
     parser.add_argument("--sync", action="store_true", help="flush all before the searches")
     parser.add_argument("--svg", metavar="FILE", help="draw the times as bars")
-    parser.add_argument("--program", default=os.path.join(TOP, "crates/fts/out/fts"))
+    parser.add_argument("--program", type=program_named, default="")
     words = parser.parse_args()
     texts = texts_of(words.rows)
     rows = []

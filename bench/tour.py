@@ -32,7 +32,8 @@ def outputs_of(commands):
     with tempfile.TemporaryDirectory() as folder:
         for name in ("tools", "examples"):
             os.symlink(os.path.join(TOP, name), os.path.join(folder, name))
-        shutil.copy(os.path.join(TOP, "crates/fts/out/fts"), os.path.join(folder, "fts"))
+        asked = subprocess.run([os.path.join(TOP, "fts"), "which"], check=True, stdout=subprocess.PIPE, text=True)
+        shutil.copy(asked.stdout.strip(), os.path.join(folder, "fts"))
         script = "".join(f"echo '{MARK}'\n{it}\n" for it in commands)
         ran = subprocess.run(
             ["bash"], input=script, cwd=folder, capture_output=True, text=True, timeout=120
