@@ -7,14 +7,13 @@ use checks::{are_after, ascend, come_after};
 use fts_aux::Tables;
 use fts_ilist::{Ilist, Node, NodeGroup, NodeList, NodeSlice, Nodes, WordNodes};
 use fts_types::Word;
-use std::alloc::Global;
+use std::alloc::{AllocError, Global};
 use std::collections::BTreeMap;
-use std::process::Abort;
 use std::test::Fail;
 
 // Words of all six tables, in byte order. The last one stands in the first table, behind all
 // others.
-const WORDS: [&[u8]; 13] = [
+const WORDS: &[&[u8]] = &[
     b"9ab",
     b"_x",
     b"apple",
@@ -31,7 +30,7 @@ const WORDS: [&[u8]; 13] = [
 ];
 
 // Words that are reworked, with the first ids of their new nodes.
-const REWORKED: [(&[u8], &[u32]); 5] = [
+const REWORKED: &[(&[u8], &[u32])] = &[
     (b"9ab", &[]),
     (b"apple", &[4]),
     (b"fig", &[1, 70, 800]),
@@ -52,6 +51,17 @@ fn node(alloc: Global, id: u64) -> Result<Node<'static>, Fail>
     Ok(Node::new(list))
 }
 
+// Whether tables show no word, and no nodes of `apple`.
+fn are_empty(alloc: Global, tables: &Tables) -> Result<bool, AllocError> {
+    let first = Word::copied(alloc, b"")?;
+    Ok(
+        tables.nodes_of(b"apple").is_empty()
+            && tables.next_after(&first).is_none()
+            && tables.with_prefix(alloc, b"a")?.is_empty()
+            && !tables.has_loose(),
+    )
+}
+
 // Room for a word doesn't make it a word of the tables.
 #[test]
 fn a_word_with_room_alone_does_not_show(rt: HostRuntime) -> Result<(), Fail> {
@@ -60,44 +70,61 @@ fn a_word_with_room_alone_does_not_show(rt: HostRuntime) -> Result<(), Fail> {
     let nodes = NodeGroup::of(vec![in alloc; node(alloc, 5)?]?);
     let batch = vec![in alloc; WordNodes::new(Word::copied(alloc, b"apple")?, nodes)]?;
     tables.reserve(&batch)?;
-    assert!(rt; tables.nodes_of(b"apple").is_empty());
-    assert!(rt; tables.next_after(&Word::copied(alloc, b"")?).is_none());
-    assert!(rt; tables.with_prefix(alloc, b"a")?.is_empty());
-    assert!(rt; !tables.has_loose());
+    assert!(rt; are_empty(alloc, &tables)?);
     Ok(())
 }
 
-// Nodes begin with these ids.
-fn begin_with(rt: &impl Abort, nodes: NodeSlice<'_>, ids: &[u64]) {
-    assert_eq!(rt; nodes.len(), ids.len());
+// Whether nodes of one document each have these ids.
+fn have_ids(nodes: NodeSlice<'_>, ids: &[u64]) -> bool {
+    if nodes.len() != ids.len() {
+        return false;
+    }
     for (node, id) in nodes.zip(ids) {
-        assert_eq!(rt; (node.cursor().doc(), node.count()), (Some(*id), 1));
+        if (node.cursor().doc(), node.count()) != (Some(*id), 1) {
+            return false;
+        }
+    }
+    true
+}
+
+// Whether the tables have this word behind the one before, with these nodes.
+fn holds(tables: &Tables, before: &Word, word: &Word, ids: &[u64]) -> bool {
+    match tables.next_after(before) {
+        Some(next) => next == word && have_ids(tables.nodes_of(word.as_bytes()), ids),
+        None => false,
     }
 }
 
-// The tables have these words, one after another, with these nodes, and no others.
-fn holds(rt: &impl Abort, alloc: Global, tables: &Tables, plain: &Plain) -> Result<(), Fail> {
+// Whether the tables have these words, one after another, with these nodes, and no others.
+fn hold_all(alloc: Global, tables: &Tables, plain: &Plain) -> Result<bool, AllocError> {
     let mut before = Word::copied(alloc, b"")?;
     for (word, ids) in plain {
-        assert!(rt; tables.next_after(&before).is_some_and(|next| next == word));
-        begin_with(rt, tables.nodes_of(word.as_bytes()), ids);
+        if !holds(tables, &before, word, ids) {
+            return Ok(false);
+        }
         before = Word::copied(alloc, word.as_bytes())?;
     }
-    assert!(rt; tables.next_after(&before).is_none());
-    Ok(())
+    Ok(tables.next_after(&before).is_none())
 }
 
-// A walk gives these words, one after another, with these nodes, and no others.
-fn walks(rt: &impl Abort, alloc: Global, tables: &Tables, plain: &Plain) -> Result<(), Fail> {
+// Whether a walk goes from the word before to this one, with these nodes.
+fn walks(tables: &Tables, before: &Word, word: &Word, ids: &[u64]) -> bool {
+    match tables.next_entry(before) {
+        Some((next, nodes)) => next == word && have_ids(nodes, ids),
+        None => false,
+    }
+}
+
+// Whether a walk gives these words, one after another, with these nodes, and no others.
+fn walks_all(alloc: Global, tables: &Tables, plain: &Plain) -> Result<bool, AllocError> {
     let mut before = Word::copied(alloc, b"")?;
     for (word, ids) in plain {
-        let (next, nodes) = tables.next_entry(&before).expect(rt, "a word");
-        assert_eq!(rt; next.as_bytes(), word.as_bytes());
-        begin_with(rt, nodes, ids);
+        if !walks(tables, &before, word, ids) {
+            return Ok(false);
+        }
         before = Word::copied(alloc, word.as_bytes())?;
     }
-    assert!(rt; tables.next_entry(&before).is_none());
-    Ok(())
+    Ok(tables.next_entry(&before).is_none())
 }
 
 // Notes one more node of a word.
@@ -150,36 +177,39 @@ fn counts(alloc: Global, tables: &Tables, batch: &[WordNodes]) -> Result<Vec<usi
 
 // Makes room for a batch, which comes behind what is held. The tables hold what they held, with or
 // without memory.
-fn make_room(
-    rt: &impl Abort,
-    alloc: Global,
-    tables: &mut Tables,
-    batch: &[WordNodes],
-) -> Result<(), Fail>
+fn make_room(alloc: Global, tables: &mut Tables, batch: &[WordNodes]) -> Result<(), Fail>
     ensures { OnOk result (HasRoom tables.new batch.now) }
 {
     let held = counts(alloc, tables, batch)?;
     let reserved = tables.reserve(batch);
-    assert_eq!(rt; counts(alloc, tables, batch)?, held);
-    assert!(rt; reserved?);
+    if counts(alloc, tables, batch)? != held {
+        return Err(Fail::from("tables that are not as before"));
+    }
+    if !reserved? {
+        return Err(Fail::from("a batch that is not behind"));
+    }
     Ok(())
 }
 
 // Makes room for a batch, and installs it.
-fn install(rt: &impl Abort, alloc: Global, tables: &mut Tables, batch: Nodes) -> Result<(), Fail> {
-    make_room(rt, alloc, tables, &batch)?;
-    assert!(rt; ascend(&batch));
-    assert!(rt; come_after(tables, &batch));
-    tables.install_batch(&batch);
+fn install(alloc: Global, tables: &mut Tables, batch: &[WordNodes]) -> Result<(), Fail> {
+    make_room(alloc, tables, batch)?;
+    if !ascend(batch) {
+        return Err(Fail::from("words out of order"));
+    }
+    if !come_after(tables, batch) {
+        return Err(Fail::from("ids that are not behind"));
+    }
+    tables.install_batch(batch);
     Ok(())
 }
 
 // Tables with four batches, which are noted.
-fn filled(rt: &impl Abort, alloc: Global, plain: &mut Plain) -> Result<Tables, Fail> {
+fn filled(alloc: Global, plain: &mut Plain) -> Result<Tables, Fail> {
     let mut tables = Tables::new(alloc);
     for turn in 1..5 {
         let batch = batch(alloc, plain, turn)?;
-        install(rt, alloc, &mut tables, batch)?;
+        install(alloc, &mut tables, &batch)?;
     }
     Ok(tables)
 }
@@ -189,7 +219,7 @@ fn filled(rt: &impl Abort, alloc: Global, plain: &mut Plain) -> Result<Tables, F
 fn a_batch_that_comes_again_is_not_behind(rt: HostRuntime) -> Result<(), Fail> {
     let alloc = rt.alloc();
     let mut plain = BTreeMap::new(alloc);
-    let mut tables = filled(&rt, alloc, &mut plain)?;
+    let mut tables = filled(alloc, &mut plain)?;
     let again = batch(alloc, &mut plain, 4)?;
     assert!(rt; !tables.reserve(&again)?);
     Ok(())
@@ -199,37 +229,48 @@ fn a_batch_that_comes_again_is_not_behind(rt: HostRuntime) -> Result<(), Fail> {
 fn a_batch_lies_behind_what_is_held(rt: HostRuntime) -> Result<(), Fail> {
     let alloc = rt.alloc();
     let mut plain = BTreeMap::new(alloc);
-    let tables = filled(&rt, alloc, &mut plain)?;
-    assert_eq!(rt; plain.len(), 13);
-    holds(&rt, alloc, &tables, &plain)
+    let tables = filled(alloc, &mut plain)?;
+    assert!(rt; plain.len() == 13);
+    assert!(rt; hold_all(alloc, &tables, &plain)?);
+    Ok(())
 }
 
 #[test]
 fn a_walk_goes_over_all_words_in_byte_order(rt: HostRuntime) -> Result<(), Fail> {
     let alloc = rt.alloc();
     let mut plain = BTreeMap::new(alloc);
-    let tables = filled(&rt, alloc, &mut plain)?;
+    let tables = filled(alloc, &mut plain)?;
     assert!(rt; tables.has_loose());
-    walks(&rt, alloc, &tables, &plain)
+    assert!(rt; walks_all(alloc, &tables, &plain)?);
+    Ok(())
+}
+
+// Whether the words that begin with `app` are these, each with so many nodes.
+fn finds(alloc: Global, tables: &Tables, want: &[(&[u8], usize)]) -> Result<bool, AllocError> {
+    let found = tables.with_prefix(alloc, b"app")?;
+    if found.len() != want.len() {
+        return Ok(false);
+    }
+    for (entry, want) in found.iter().zip(want) {
+        if (entry.0.as_bytes(), entry.1.len()) != *want {
+            return Ok(false);
+        }
+    }
+    Ok(true)
 }
 
 #[test]
 fn a_prefix_finds_the_words_that_have_nodes(rt: HostRuntime) -> Result<(), Fail> {
     let alloc = rt.alloc();
     let mut plain = BTreeMap::new(alloc);
-    let tables = filled(&rt, alloc, &mut plain)?;
-    let found = tables.with_prefix(alloc, b"app")?;
-    assert_eq!(rt; found.len(), 2);
-    for ((word, nodes), (want, count)) in found.iter().zip([(b"apple", 3), (b"apply", 4)]) {
-        assert_eq!(rt; (word.as_bytes(), nodes.len()), (want.as_slice(), count));
-    }
+    let tables = filled(alloc, &mut plain)?;
+    assert!(rt; finds(alloc, &tables, &[(b"apple", 3), (b"apply", 4)])?);
     Ok(())
 }
 
 // Replaces the nodes of a word by those that begin with these ids, which are noted in place of the
 // old ones.
 fn rework(
-    rt: &impl Abort,
     alloc: Global,
     tables: &mut Tables,
     plain: &mut Plain,
@@ -244,8 +285,12 @@ fn rework(
         nodes.push(node(alloc, id)?)?;
         note(alloc, plain, word, id)?;
     }
-    assert!(rt; are_after(0, &nodes));
-    assert!(rt; !tables.nodes_of(word).is_empty());
+    if !are_after(0, &nodes) {
+        return Err(Fail::from("ids that do not ascend"));
+    }
+    if tables.nodes_of(word).is_empty() {
+        return Err(Fail::from("a word without nodes"));
+    }
     let nodes = NodeList::of(alloc, &nodes)?;
     tables.install_word(&key, nodes);
     Ok(())
@@ -255,10 +300,11 @@ fn rework(
 fn a_reworked_word_has_its_new_nodes_alone(rt: HostRuntime) -> Result<(), Fail> {
     let alloc = rt.alloc();
     let mut plain = BTreeMap::new(alloc);
-    let mut tables = filled(&rt, alloc, &mut plain)?;
+    let mut tables = filled(alloc, &mut plain)?;
     for (word, ids) in REWORKED {
-        rework(&rt, alloc, &mut tables, &mut plain, word, ids)?;
+        rework(alloc, &mut tables, &mut plain, word, ids)?;
     }
-    assert_eq!(rt; plain.len(), 11);
-    holds(&rt, alloc, &tables, &plain)
+    assert!(rt; plain.len() == 11);
+    assert!(rt; hold_all(alloc, &tables, &plain)?);
+    Ok(())
 }
