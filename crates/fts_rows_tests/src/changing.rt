@@ -1,7 +1,7 @@
 //! Tests of what lists of changes do to three rows.
 use fts_commits::{Change, NewTexts, Refusal};
 use fts_rows::{PlanError, Rows};
-use fts_types::{DocId, Key, Limits, RowTexts, SharedTexts};
+use fts_types::{DocId, Key, Limits, Row, RowTexts, SharedTexts};
 use std::alloc::{AllocError, Global};
 use std::test::*;
 
@@ -100,7 +100,7 @@ fn seen(rows: &Rows, key: Key) -> Option<(DocId, usize, usize)> {
 }
 
 // What is refused of three rows, and why.
-const REFUSED: [(&[Step], Refusal); 12] = [
+const REFUSED: &[(&[Step], Refusal)] = &[
     (
         &[Insert(2, None, 1, 1)],
         Refusal::DuplicateKey { change: 1, key: 2 },
@@ -182,23 +182,32 @@ const REFUSED: [(&[Step], Refusal); 12] = [
     ),
 ];
 
+/// Whether three rows refuse the steps so, and stay as they are.
+fn is_refused(alloc: Global, steps: &[Step], want: Refusal) -> bool {
+    let Ok(mut rows) = three(alloc) else {
+        return false;
+    };
+    match commit(&mut rows, alloc, steps) {
+        Err(PlanError::Refused { refusal: why }) => {
+            why == want
+                && (rows.len(), rows.largest()) == (3, 3)
+                && seen(&rows, 1) == Some((1, 10, 20))
+        }
+        _ => false,
+    }
+}
+
 #[test]
 fn refusals_tell_their_numbers(rt: HostRuntime) -> Result<(), Fail> {
-    for (steps, want) in REFUSED {
-        let mut rows = three(rt.alloc()).map_err(|_| Fail::from("refused"))?;
-        assert_eq!(rt;
-            commit(&mut rows, rt.alloc(), steps),
-            Err(PlanError::from(want))
-        );
-        assert!(rt; rows.len() == 3 && rows.largest() == 3);
-        assert_eq!(rt; seen(&rows, 1), Some((1, 10, 20)));
+    for case in REFUSED {
+        assert!(rt; is_refused(rt.alloc(), case.0, case.1), "{:?}", case.1);
     }
     Ok(())
 }
 
 // Changes of three rows; a key, with what its row is then; how many rows there are, and the
 // largest id that was used.
-const TAKEN: [(&[Step], Key, Option<(DocId, usize, usize)>, usize, DocId); 12] = [
+const TAKEN: &[(&[Step], Key, Option<(DocId, usize, usize)>, usize, DocId)] = &[
     (&[Update(2, Some(5), None)], 2, Some((4, 5, 20)), 3, 4),
     (&[Update(2, None, Some(0))], 2, Some((4, 10, 0)), 3, 4),
     (&[Update(2, None, None)], 2, Some((4, 10, 20)), 3, 4),
@@ -247,19 +256,33 @@ const TAKEN: [(&[Step], Key, Option<(DocId, usize, usize)>, usize, DocId); 12] =
     ),
 ];
 
+/// Whether three rows take the steps, and what the key's row and all rows are then.
+fn is_taken(
+    alloc: Global,
+    steps: &[Step],
+    key: Key,
+    want: Option<(DocId, usize, usize)>,
+    ends: (usize, DocId),
+) -> bool {
+    let Ok(mut rows) = three(alloc) else {
+        return false;
+    };
+    commit(&mut rows, alloc, steps).is_ok()
+        && seen(&rows, key) == want
+        && (rows.len(), rows.largest()) == ends
+}
+
 #[test]
 fn changes_see_each_other(rt: HostRuntime) -> Result<(), Fail> {
     for (steps, key, want, count, largest) in TAKEN {
-        let mut rows = three(rt.alloc()).map_err(|_| Fail::from("refused"))?;
-        assert_eq!(rt; commit(&mut rows, rt.alloc(), steps), Ok(()));
-        assert_eq!(rt; seen(&rows, key), want, "of {key}");
-        assert!(rt; rows.len() == count && rows.largest() == largest);
+        let holds = is_taken(rt.alloc(), steps, *key, *want, (*count, *largest));
+        assert!(rt; holds, "of {key}");
     }
     Ok(())
 }
 
 // Changes of three rows; the ids of the rows that they bear, and those that die.
-const TURNS: [(&[Step], &[DocId], &[DocId]); 6] = [
+const TURNS: &[(&[Step], &[DocId], &[DocId])] = &[
     (&[Delete(3), Delete(1)], &[], &[1, 3]),
     (&[Insert(9, None, 1, 1), Delete(9)], &[], &[]),
     (
@@ -280,35 +303,40 @@ const TURNS: [(&[Step], &[DocId], &[DocId]); 6] = [
     (&[Update(9, Some(1), None), Delete(9)], &[], &[]),
 ];
 
-/// Whether the changes bear and take these.
-fn turns(rows: &mut Rows, alloc: Global, case: (&[Step], &[DocId], &[DocId])) -> Option<bool> {
-    let changes = changes_of(alloc, case.0).ok()?;
-    let plan = rows.plan(&changes).ok()?;
-    let mut births = case.1.iter();
-    for row in plan.births() {
-        if births.next() != Some(&row.doc) {
-            return Some(false);
-        }
+/// The ids of the rows that a plan bears.
+fn born(alloc: Global, births: &[Row]) -> Option<Vec<DocId>> {
+    let mut ids = Vec::new(alloc);
+    for row in births {
+        ids.push(row.doc).ok()?;
     }
-    Some(births.next().is_none() && plan.deaths() == case.2)
+    Some(ids)
+}
+
+/// Whether the changes of three rows bear and take these, and the rows are as before until then.
+fn turns(alloc: Global, steps: &[Step], births: &[DocId], deaths: &[DocId]) -> Option<bool> {
+    let mut rows = three(alloc).ok()?;
+    let changes = changes_of(alloc, steps).ok()?;
+    let plan = rows.plan(&changes).ok()?;
+    let ids = born(alloc, plan.births())?;
+    Some(
+        ids.as_slice() == births
+            && plan.deaths() == deaths
+            && (rows.len(), rows.largest()) == (3, 3),
+    )
 }
 
 #[test]
 fn births_and_deaths_are_those_that_last(rt: HostRuntime) -> Result<(), Fail> {
-    for case in TURNS {
-        let mut rows = three(rt.alloc()).map_err(|_| Fail::from("refused"))?;
-        assert_eq!(rt; turns(&mut rows, rt.alloc(), case), Some(true));
-        assert!(rt; rows.len() == 3 && rows.largest() == 3);
+    for (steps, births, deaths) in TURNS {
+        let holds = turns(rt.alloc(), steps, births, deaths) == Some(true);
+        assert!(rt; holds);
     }
     Ok(())
 }
 
 #[test]
 fn a_thousand_changes_of_one_key(rt: HostRuntime) -> Result<(), Fail> {
-    let mut rows = three(rt.alloc()).map_err(|_| Fail::from("refused"))?;
     let steps = [Update(2, Some(3), None); 1000];
-    assert_eq!(rt; commit(&mut rows, rt.alloc(), &steps), Ok(()));
-    assert_eq!(rt; seen(&rows, 2), Some((1003, 3, 20)));
-    assert!(rt; rows.len() == 3 && rows.largest() == 1003);
+    assert!(rt; is_taken(rt.alloc(), &steps, 2, Some((1003, 3, 20)), (3, 1003)));
     Ok(())
 }

@@ -5,7 +5,6 @@ use fts_rowcodec::{
 };
 use fts_types::{Names, RowTexts, Settings, SharedTexts};
 use std::alloc::{AllocError, Global};
-use std::process::Abort;
 use std::test::*;
 
 // The settings that `create --columns body` makes, and those of `create --columns title,body --min
@@ -69,13 +68,6 @@ fn settings_of(
     })
 }
 
-fn settings_in(alloc: Global, bytes: &[u8]) -> Result<Settings, Fail> {
-    match decode_settings(alloc, bytes) {
-        Ok(settings) => Ok(settings),
-        Err(_) => Err("the bytes are settings")?,
-    }
-}
-
 fn is_no_settings(alloc: Global, bytes: &[u8]) -> bool {
     matches!(decode_settings(alloc, bytes), Err(DecodeError::Bad))
 }
@@ -84,54 +76,59 @@ fn is_no_commit(alloc: Global, columns: usize, bytes: &[u8]) -> bool {
     matches!(decode_commit(alloc, columns, bytes), Err(DecodeError::Bad))
 }
 
+// Whether settings with these columns are encoded so.
 fn is_encoded(
-    rt: &impl Abort,
     alloc: Global,
-    settings: &Settings,
+    columns: &[&str],
+    min: u8,
+    stopword: bool,
     want: &[u8],
-) -> Result<(), Fail> {
+) -> Result<bool, Fail> {
+    let settings = settings_of(alloc, columns, min, stopword)?;
     settings.check()?;
-    let bytes = encode_settings(alloc, settings)?;
-    assert_eq!(rt; bytes.as_slice(), want);
-    Ok(())
+    let bytes = encode_settings(alloc, &settings)?;
+    Ok(bytes.as_slice() == want)
 }
 
 #[test]
 fn encodes_settings(rt: HostRuntime) -> Result<(), Fail> {
-    let alloc = rt.alloc();
-    let settings = settings_of(alloc, &["body"], 3, true)?;
-    is_encoded(&rt, alloc, &settings, &SETTINGS)?;
-    let settings = settings_of(alloc, &["title", "body"], 2, false)?;
-    is_encoded(&rt, alloc, &settings, &TWO_COLUMNS)
+    assert!(rt; is_encoded(rt.alloc(), &["body"], 3, true, &SETTINGS)?);
+    assert!(rt; is_encoded(rt.alloc(), &["title", "body"], 2, false, &TWO_COLUMNS)?);
+    Ok(())
 }
 
-fn has_numbers(rt: &impl Abort, settings: &Settings, min: u8, stopword: bool) {
-    assert_eq!(rt; settings.min, min);
-    assert_eq!(rt; settings.max, 84);
-    assert_eq!(rt; settings.stopword, stopword);
-    assert_eq!(rt; settings.optimize_words, 2_000);
-    assert_eq!(rt; settings.cache_bytes, 8_000_000);
-    assert_eq!(rt; settings.batch_docs, 1_000);
+fn has_numbers(settings: &Settings, min: u8, stopword: bool) -> bool {
+    (settings.min, settings.max, settings.stopword) == (min, 84, stopword)
+        && (settings.optimize_words, settings.batch_docs) == (2_000, 1_000)
+        && settings.cache_bytes == 8_000_000
 }
 
-fn has_columns(rt: &impl Abort, names: &Names, want: &[&str]) {
-    assert_eq!(rt; names.len(), want.len());
+fn has_columns(names: &Names, want: &[&str]) -> bool {
+    if names.len() != want.len() {
+        return false;
+    }
     for place in 0..names.len() {
-        if place < want.len() {
-            assert_eq!(rt; names.text(place), want[place].as_bytes());
+        if names.text(place) != want[place].as_bytes() {
+            return false;
         }
+    }
+    true
+}
+
+// Whether the bytes are settings with these columns.
+fn is_decoded(alloc: Global, bytes: &[u8], columns: &[&str], min: u8, stopword: bool) -> bool {
+    match decode_settings(alloc, bytes) {
+        Ok(settings) => {
+            has_columns(&settings.columns, columns) && has_numbers(&settings, min, stopword)
+        }
+        Err(_) => false,
     }
 }
 
 #[test]
-fn decodes_settings(rt: HostRuntime) -> Result<(), Fail> {
-    let settings = settings_in(rt.alloc(), &SETTINGS)?;
-    has_columns(&rt, &settings.columns, &["body"]);
-    has_numbers(&rt, &settings, 3, true);
-    let settings = settings_in(rt.alloc(), &TWO_COLUMNS)?;
-    has_columns(&rt, &settings.columns, &["title", "body"]);
-    has_numbers(&rt, &settings, 2, false);
-    Ok(())
+fn decodes_settings(rt: HostRuntime) {
+    assert!(rt; is_decoded(rt.alloc(), &SETTINGS, &["body"], 3, true));
+    assert!(rt; is_decoded(rt.alloc(), &TWO_COLUMNS, &["title", "body"], 2, false));
 }
 
 // The bytes with another one at this place.
@@ -145,33 +142,40 @@ fn with_byte(alloc: Global, bytes: &[u8], place: usize, byte: u8) -> Result<Vec<
 
 // Each place with a byte that does not belong there: the kind, a count, a length, a letter, a
 // number out of its bounds.
+const WRONG_SETTINGS: &[(usize, u8)] = &[
+    (0, 1),
+    (0, 255),
+    (1, 0),
+    (1, 2),
+    (1, 255),
+    (2, 0),
+    (2, 3),
+    (2, 5),
+    (2, 255),
+    (3, 0x42),
+    (7, 0),
+    (7, 17),
+    (7, 255),
+    (8, 0),
+    (8, 85),
+    (8, 255),
+    (9, 2),
+    (9, 255),
+    (10, 0x28),
+    (12, 5),
+    (16, 1),
+];
+
+fn is_wrong(alloc: Global, place: usize, byte: u8) -> Result<bool, AllocError> {
+    let bytes = with_byte(alloc, &SETTINGS, place, byte)?;
+    Ok(is_no_settings(alloc, &bytes))
+}
+
 #[test]
 fn refuses_a_wrong_byte_of_settings(rt: HostRuntime) -> Result<(), Fail> {
-    for (place, byte) in [
-        (0, 1),
-        (0, 255),
-        (1, 0),
-        (1, 2),
-        (1, 255),
-        (2, 0),
-        (2, 3),
-        (2, 5),
-        (2, 255),
-        (3, 0x42),
-        (7, 0),
-        (7, 17),
-        (7, 255),
-        (8, 0),
-        (8, 85),
-        (8, 255),
-        (9, 2),
-        (9, 255),
-        (10, 0x28),
-        (12, 5),
-        (16, 1),
-    ] {
-        let bytes = with_byte(rt.alloc(), &SETTINGS, place, byte)?;
-        assert!(rt; is_no_settings(rt.alloc(), &bytes), "at {place}");
+    for (place, byte) in WRONG_SETTINGS {
+        let holds = is_wrong(rt.alloc(), *place, *byte)?;
+        assert!(rt; holds, "at {place}");
     }
     Ok(())
 }
@@ -185,10 +189,8 @@ fn refuses_wrong_columns(rt: HostRuntime) {
 #[test]
 fn refuses_settings_that_are_cut_or_longer(rt: HostRuntime) -> Result<(), Fail> {
     for cut in 0..20 {
-        assert!(rt;
-            is_no_settings(rt.alloc(), &SETTINGS[..cut]),
-            "cut at {cut}"
-        );
+        let holds = is_no_settings(rt.alloc(), &SETTINGS[..cut]);
+        assert!(rt; holds, "cut at {cut}");
     }
     let mut bytes = Vec::from_slice(rt.alloc(), &SETTINGS)?;
     bytes.push(0)?;
@@ -197,75 +199,81 @@ fn refuses_settings_that_are_cut_or_longer(rt: HostRuntime) -> Result<(), Fail> 
 }
 
 // The commit in the bytes, which is encoded as the same bytes.
-fn commit_in(
-    rt: &impl Abort,
-    alloc: Global,
-    columns: usize,
-    bytes: &[u8],
-) -> Result<Changes, Fail> {
+fn commit_in(alloc: Global, columns: usize, bytes: &[u8]) -> Result<Changes, Fail> {
     match decode_commit(alloc, columns, bytes) {
         Ok(commit) => {
-            assert!(rt; bytes.len() < 65_536);
+            if bytes.len() >= 65_536 {
+                return Err(Fail::from("a long payload"));
+            }
             let again = encode_commit(alloc, commit.as_slice())?;
-            assert_eq!(rt; again.as_slice(), bytes);
+            if again.as_slice() != bytes {
+                return Err(Fail::from("another spelling"));
+            }
             Ok(commit)
         }
-        Err(_) => Err("the bytes are a commit")?,
+        Err(_) => Err(Fail::from("no commit")),
     }
 }
 
-fn is_insert(rt: &impl Abort, change: &Change, want: u64, texts_want: &[&str]) {
+fn is_insert(change: &Change, want: u64, texts_want: &[&str]) -> bool {
     match change {
-        Change::Insert { key, doc, texts } => {
-            assert_eq!(rt; *key, want);
-            assert!(rt; doc.is_none());
-            has_columns(rt, texts.texts(), texts_want);
-        }
-        _ => assert!(rt; false, "an INSERT"),
+        Change::Insert {
+            key,
+            doc: None,
+            texts,
+        } => *key == want && has_columns(texts.texts(), texts_want),
+        _ => false,
+    }
+}
+
+fn is_one_insert(changes: &[Change]) -> bool {
+    match changes {
+        [change] => is_insert(change, 1, &["apple"]),
+        _ => false,
     }
 }
 
 #[test]
 fn decodes_an_insert(rt: HostRuntime) -> Result<(), Fail> {
-    let commit = commit_in(&rt, rt.alloc(), 1, &INSERT)?;
-    assert_eq!(rt; commit.as_slice().len(), 1);
-    for change in commit.as_slice() {
-        is_insert(&rt, change, 1, &["apple"]);
-    }
+    let commit = commit_in(rt.alloc(), 1, &INSERT)?;
+    assert!(rt; is_one_insert(commit.as_slice()));
     Ok(())
+}
+
+fn are_two_inserts(changes: &[Change]) -> bool {
+    match changes {
+        [first, second] => {
+            is_insert(first, 1, &["cat", ""]) && is_insert(second, u64::MAX, &["a\t", "~"])
+        }
+        _ => false,
+    }
 }
 
 #[test]
 fn decodes_two_inserts(rt: HostRuntime) -> Result<(), Fail> {
-    let commit = commit_in(&rt, rt.alloc(), 2, &TWO_INSERTS)?;
-    match commit.as_slice() {
-        [first, second] => {
-            is_insert(&rt, first, 1, &["cat", ""]);
-            is_insert(&rt, second, u64::MAX, &["a\t", "~"]);
-        }
-        _ => assert!(rt; false, "two changes"),
-    }
+    let commit = commit_in(rt.alloc(), 2, &TWO_INSERTS)?;
+    assert!(rt; are_two_inserts(commit.as_slice()));
     Ok(())
 }
 
-fn is_update(rt: &impl Abort, change: &Change, want: u64, texts_want: [Option<&[u8]>; 2]) {
+fn are_texts(texts: &NewTexts, want: [Option<&[u8]>; 2]) -> bool {
+    if texts.len() != 2 {
+        return false;
+    }
+    let first = texts.text(0);
+    let second = texts.text(1);
+    [first, second] == want
+}
+
+fn is_update(change: &Change, want: u64, texts_want: [Option<&[u8]>; 2]) -> bool {
     match change {
-        Change::Update { key, texts } => {
-            assert_eq!(rt; *key, want);
-            if texts.len() == 2 {
-                assert!(rt; texts.text(0) == texts_want[0]);
-                assert!(rt; texts.text(1) == texts_want[1]);
-            }
-            assert_eq!(rt; texts.len(), 2);
-        }
-        _ => assert!(rt; false, "an UPDATE"),
+        Change::Update { key, texts } => *key == want && are_texts(texts, texts_want),
+        _ => false,
     }
 }
 
-#[test]
-fn decodes_all_kinds(rt: HostRuntime) -> Result<(), Fail> {
-    let commit = commit_in(&rt, rt.alloc(), 2, &ALL_KINDS)?;
-    match commit.as_slice() {
+fn are_all_kinds(changes: &[Change]) -> bool {
+    match changes {
         [
             Change::Insert {
                 key: 2,
@@ -276,65 +284,89 @@ fn decodes_all_kinds(rt: HostRuntime) -> Result<(), Fail> {
             third,
             Change::Delete { key: 258 },
         ] => {
-            has_columns(&rt, texts.texts(), &["a", ""]);
-            is_update(&rt, second, 2, [None, Some(b"ab".as_slice())]);
-            is_update(&rt, third, u64::MAX, [None, None]);
+            has_columns(texts.texts(), &["a", ""])
+                && is_update(second, 2, [None, Some(b"ab".as_slice())])
+                && is_update(third, u64::MAX, [None, None])
         }
-        _ => assert!(rt; false, "four changes"),
+        _ => false,
     }
+}
+
+#[test]
+fn decodes_all_kinds(rt: HostRuntime) -> Result<(), Fail> {
+    let commit = commit_in(rt.alloc(), 2, &ALL_KINDS)?;
+    assert!(rt; are_all_kinds(commit.as_slice()));
     Ok(())
 }
 
 // Its kinds, flags and lengths.
+const WRONG_KINDS: &[(usize, u8)] = &[
+    (3, 2),
+    (3, 4),
+    (12, 0),
+    (12, 2),
+    (26, 1),
+    (35, 2),
+    (36, 0),
+    (41, 3),
+    (50, 1),
+    (51, 2),
+    (52, 2),
+];
+
+// Whether the bytes are no commit where another one stands at a place.
+fn is_wrong_commit(
+    alloc: Global,
+    columns: usize,
+    bytes: &[u8],
+    place: usize,
+    byte: u8,
+) -> Result<bool, AllocError> {
+    let bytes = with_byte(alloc, bytes, place, byte)?;
+    Ok(is_no_commit(alloc, columns, &bytes))
+}
+
 #[test]
 fn refuses_a_wrong_byte_of_all_kinds(rt: HostRuntime) -> Result<(), Fail> {
-    for (place, byte) in [
-        (3, 2),
-        (3, 4),
-        (12, 0),
-        (12, 2),
-        (26, 1),
-        (35, 2),
-        (36, 0),
-        (41, 3),
-        (50, 1),
-        (51, 2),
-        (52, 2),
-    ] {
-        let bytes = with_byte(rt.alloc(), &ALL_KINDS, place, byte)?;
-        assert!(rt; is_no_commit(rt.alloc(), 2, &bytes), "at {place}");
-    }
-    for cut in 0..61 {
-        assert!(rt;
-            is_no_commit(rt.alloc(), 2, &ALL_KINDS[..cut]),
-            "cut at {cut}"
-        );
+    for (place, byte) in WRONG_KINDS {
+        let holds = is_wrong_commit(rt.alloc(), 2, &ALL_KINDS, *place, *byte)?;
+        assert!(rt; holds, "at {place}");
     }
     Ok(())
 }
 
+#[test]
+fn refuses_all_kinds_that_are_cut(rt: HostRuntime) {
+    for cut in 0..61 {
+        let holds = is_no_commit(rt.alloc(), 2, &ALL_KINDS[..cut]);
+        assert!(rt; holds, "cut at {cut}");
+    }
+}
+
 // Each place with a byte that does not belong there: the kind, the count, an UPDATE, a DELETE, a
 // flag, a length, a text's byte.
+const WRONG_INSERT: &[(usize, u8)] = &[
+    (0, 0),
+    (1, 1),
+    (2, 0),
+    (2, 2),
+    (3, 0),
+    (3, 2),
+    (3, 3),
+    (12, 1),
+    (12, 2),
+    (13, 1),
+    (14, 4),
+    (14, 6),
+    (19, 10),
+    (19, 127),
+];
+
 #[test]
 fn refuses_a_wrong_byte_of_a_commit(rt: HostRuntime) -> Result<(), Fail> {
-    for (place, byte) in [
-        (0, 0),
-        (1, 1),
-        (2, 0),
-        (2, 2),
-        (3, 0),
-        (3, 2),
-        (3, 3),
-        (12, 1),
-        (12, 2),
-        (13, 1),
-        (14, 4),
-        (14, 6),
-        (19, 10),
-        (19, 127),
-    ] {
-        let bytes = with_byte(rt.alloc(), &INSERT, place, byte)?;
-        assert!(rt; is_no_commit(rt.alloc(), 1, &bytes), "at {place}");
+    for (place, byte) in WRONG_INSERT {
+        let holds = is_wrong_commit(rt.alloc(), 1, &INSERT, *place, *byte)?;
+        assert!(rt; holds, "at {place}");
     }
     Ok(())
 }
@@ -342,10 +374,8 @@ fn refuses_a_wrong_byte_of_a_commit(rt: HostRuntime) -> Result<(), Fail> {
 #[test]
 fn refuses_commits_that_are_cut_or_longer(rt: HostRuntime) -> Result<(), Fail> {
     for cut in 0..37 {
-        assert!(rt;
-            is_no_commit(rt.alloc(), 2, &TWO_INSERTS[..cut]),
-            "cut at {cut}"
-        );
+        let holds = is_no_commit(rt.alloc(), 2, &TWO_INSERTS[..cut]);
+        assert!(rt; holds, "cut at {cut}");
     }
     let mut bytes = Vec::from_slice(rt.alloc(), &TWO_INSERTS)?;
     bytes.push(0)?;
@@ -370,71 +400,86 @@ fn inserts(alloc: Global, count: u16) -> Result<Vec<u8>, AllocError> {
     Ok(bytes)
 }
 
+fn refuses_so_many(alloc: Global, count: u16) -> Result<bool, AllocError> {
+    let bytes = inserts(alloc, count)?;
+    Ok(is_no_commit(alloc, 1, &bytes))
+}
+
 #[test]
 fn takes_1_to_1000_changes(rt: HostRuntime) -> Result<(), Fail> {
     let bytes = inserts(rt.alloc(), 1_000)?;
-    let commit = commit_in(&rt, rt.alloc(), 1, &bytes)?;
-    assert_eq!(rt; commit.as_slice().len(), 1_000);
-    for count in [0, 1_001] {
-        let bytes = inserts(rt.alloc(), count)?;
-        assert!(rt; is_no_commit(rt.alloc(), 1, &bytes));
-    }
+    let commit = commit_in(rt.alloc(), 1, &bytes)?;
+    assert!(rt; commit.as_slice().len() == 1_000);
+    assert!(rt; refuses_so_many(rt.alloc(), 0)?);
+    assert!(rt; refuses_so_many(rt.alloc(), 1_001)?);
     Ok(())
+}
+
+fn deletes(alloc: Global) -> Result<bool, AllocError> {
+    let bytes = encode_commit(alloc, &[Change::Delete { key: 258 }])?;
+    Ok(bytes.as_slice() == [1, 0, 1, 3, 0, 0, 0, 0, 0, 0, 1, 2].as_slice())
+}
+
+// Bytes of the INSERT of a row 2 with the id 9 and no text.
+const GIVEN: &[u8] = &[
+    1, 0, 1, 1, 0, 0, 0, 0, 0, 0, 0, 2, 1, 0, 0, 0, 0, 0, 0, 0, 9,
+];
+
+fn inserts_given(alloc: Global) -> Result<bool, AllocError> {
+    let texts = SharedTexts::new(alloc, RowTexts::new(alloc))?;
+    let doc = Some(9);
+    let bytes = encode_commit(alloc, &[Change::Insert { key: 2, doc, texts }])?;
+    Ok(bytes.as_slice() == GIVEN)
 }
 
 #[test]
 fn encodes_a_delete_and_a_given_id(rt: HostRuntime) -> Result<(), Fail> {
-    let alloc = rt.alloc();
-    let bytes = encode_commit(alloc, &[Change::Delete { key: 258 }])?;
-    assert_eq!(rt;
-        bytes.as_slice(),
-        [1, 0, 1, 3, 0, 0, 0, 0, 0, 0, 1, 2].as_slice()
-    );
-    let texts = SharedTexts::new(alloc, RowTexts::new(alloc))?;
-    let doc = Some(9);
-    let bytes = encode_commit(alloc, &[Change::Insert { key: 2, doc, texts }])?;
-    assert_eq!(rt;
-        bytes.as_slice(),
-        [
-            1, 0, 1, 1, 0, 0, 0, 0, 0, 0, 0, 2, 1, 0, 0, 0, 0, 0, 0, 0, 9
-        ]
-        .as_slice()
-    );
+    assert!(rt; deletes(rt.alloc())?);
+    assert!(rt; inserts_given(rt.alloc())?);
     Ok(())
+}
+
+// Bytes of an UPDATE of the second of two columns of the row 2.
+const UPDATE: &[u8] = &[1, 0, 1, 2, 0, 0, 0, 0, 0, 0, 0, 2, 0, 1, 0, 2, 0x61, 0x62];
+
+fn updates(alloc: Global) -> Result<bool, AllocError> {
+    let text = Vec::from_slice(alloc, b"ab")?;
+    let texts = NewTexts::from_vec(vec![in alloc; None, Some(text)]?);
+    let bytes = encode_commit(alloc, &[Change::Update { key: 2, texts }])?;
+    Ok(bytes.as_slice() == UPDATE)
 }
 
 #[test]
 fn encodes_an_update(rt: HostRuntime) -> Result<(), Fail> {
-    let alloc = rt.alloc();
-    let text = Vec::from_slice(alloc, b"ab")?;
-    let texts = NewTexts::from_vec(vec![in alloc; None, Some(text)]?);
-    let bytes = encode_commit(alloc, &[Change::Update { key: 2, texts }])?;
-    assert_eq!(rt;
-        bytes.as_slice(),
-        [1, 0, 1, 2, 0, 0, 0, 0, 0, 0, 0, 2, 0, 1, 0, 2, 0x61, 0x62].as_slice()
-    );
+    assert!(rt; updates(rt.alloc())?);
     Ok(())
+}
+
+fn is_delete_written() -> bool {
+    let mut buf = [7; 14];
+    let size = encode_commit_into(&[Change::Delete { key: 258 }], &mut buf);
+    size == 12 && buf == [1, 0, 1, 3, 0, 0, 0, 0, 0, 0, 1, 2, 7, 7]
 }
 
 // The bytes behind a payload stay as they are.
 #[test]
 fn a_commit_is_written_at_the_head_of_a_buffer(rt: HostRuntime) {
-    let mut buf = [7; 14];
-    assert_eq!(rt;
-        encode_commit_into(&[Change::Delete { key: 258 }], &mut buf),
-        12
-    );
-    assert_eq!(rt; buf, [1, 0, 1, 3, 0, 0, 0, 0, 0, 0, 1, 2, 7, 7]);
+    assert!(rt; is_delete_written());
+}
+
+fn are_settings_written(alloc: Global) -> Result<bool, Fail> {
+    let settings = settings_of(alloc, &["body"], 3, true)?;
+    settings.check()?;
+    if settings_size(&settings) > 22 {
+        return Ok(false);
+    }
+    let mut buf = [7; 22];
+    let size = encode_settings_into(&settings, &mut buf);
+    Ok(size == 20 && buf.starts_with(&SETTINGS) && buf.ends_with(&[7, 7]))
 }
 
 #[test]
 fn settings_are_written_at_the_head_of_a_buffer(rt: HostRuntime) -> Result<(), Fail> {
-    let settings = settings_of(rt.alloc(), &["body"], 3, true)?;
-    settings.check()?;
-    assert!(rt; settings_size(&settings) <= 22);
-    let mut buf = [7; 22];
-    assert_eq!(rt; encode_settings_into(&settings, &mut buf), 20);
-    assert!(rt; buf.starts_with(&SETTINGS));
-    assert!(rt; buf.ends_with(&[7, 7]));
+    assert!(rt; are_settings_written(rt.alloc())?);
     Ok(())
 }

@@ -54,29 +54,56 @@ fn seen(rows: &Rows, key: Key) -> Option<(DocId, usize)> {
     Some((row.doc, rows.text_of(row.doc)?.size()?))
 }
 
-#[test]
-fn ids_count_from_one(rt: HostRuntime) -> Result<(), Fail> {
-    let mut rows = Rows::new(rt.alloc(), Limits::standard());
-    assert_eq!(rt; commit_keys(&mut rows, rt.alloc(), &[7]), Ok(()));
-    assert_eq!(rt; commit_keys(&mut rows, rt.alloc(), &[3, 9]), Ok(()));
-    for (key, want) in [
+/// Whether these keys' rows, or that there is none, are seen.
+fn sees(rows: &Rows, cases: &[(Key, Option<(DocId, usize)>)]) -> bool {
+    for (key, want) in cases {
+        if seen(rows, *key) != *want {
+            return false;
+        }
+    }
+    true
+}
+
+/// Whether there are three rows, whose ids count from 1 as they came.
+fn count_from_one(rows: &Rows) -> bool {
+    let want = [
         (7, Some((1, 7))),
         (3, Some((2, 3))),
         (9, Some((3, 9))),
         (1, None),
-    ] {
-        assert_eq!(rt; seen(&rows, key), want, "of {key}");
-    }
-    assert!(rt; rows.largest() == 3 && rows.len() == 3 && rows.text_of(4).is_none());
+    ];
+    sees(rows, &want) && (rows.largest(), rows.len()) == (3, 3) && rows.text_of(4).is_none()
+}
+
+#[test]
+fn ids_count_from_one(rt: HostRuntime) -> Result<(), Fail> {
+    let mut rows = Rows::new(rt.alloc(), Limits::standard());
+    commit_keys(&mut rows, rt.alloc(), &[7])?;
+    commit_keys(&mut rows, rt.alloc(), &[3, 9])?;
+    assert!(rt; count_from_one(&rows));
     Ok(())
 }
 
-const REFUSED: [(&[Key], Refusal); 4] = [
+// Keys that are refused behind one row with the key 5, and why.
+const REFUSED: &[(&[Key], Refusal)] = &[
     (&[6, 5], Refusal::DuplicateKey { change: 2, key: 5 }),
     (&[8, 9, 8], Refusal::DuplicateKey { change: 3, key: 8 }),
     (&[1, 2, 3], Refusal::RowsFull { rows: 4 }),
     (&[1, 2, 3, 4], Refusal::IdsFull { largest: 4 }),
 ];
+
+/// Whether one row with an id is left, and none with the first of these keys.
+fn is_left(rows: &Rows, keys: &[Key]) -> bool {
+    match keys {
+        [first, ..] => (rows.len(), rows.largest()) == (1, 1) && rows.row(*first).is_none(),
+        [] => false,
+    }
+}
+
+/// Whether the keys are refused so, and nothing changes.
+fn is_refused(rows: &mut Rows, alloc: Global, keys: &[Key], want: Refusal) -> bool {
+    commit_keys(rows, alloc, keys) == Err(refused(want)) && is_left(rows, keys)
+}
 
 #[test]
 fn a_refused_commit_changes_nothing(rt: HostRuntime) -> Result<(), Fail> {
@@ -86,35 +113,36 @@ fn a_refused_commit_changes_nothing(rt: HostRuntime) -> Result<(), Fail> {
         log_bytes: 0,
     };
     let mut rows = Rows::new(rt.alloc(), limits);
-    assert_eq!(rt; commit_keys(&mut rows, rt.alloc(), &[5]), Ok(()));
+    commit_keys(&mut rows, rt.alloc(), &[5])?;
     for (keys, want) in REFUSED {
-        assert_eq!(rt;
-            commit_keys(&mut rows, rt.alloc(), keys),
-            Err(refused(want))
-        );
-        assert!(rt; rows.len() == 1 && rows.largest() == 1 && rows.row(keys[0]).is_none());
+        assert!(rt; is_refused(&mut rows, rt.alloc(), keys, *want));
     }
     Ok(())
 }
 
 // The lengths of a row's texts, and of what is refused.
-const LENGTHS: [(&[usize], Option<u64>); 4] = [
+const LENGTHS: &[(&[usize], Option<u64>)] = &[
     (&[65_535], None),
     (&[65_536], Some(65_536)),
     (&[40_000, 30_000], Some(70_000)),
     (&[40_000, 25_535], None),
 ];
 
+/// Whether a row with texts of these lengths is refused for its length, or not at all.
+fn is_taken(alloc: Global, lengths: &[usize], want: Option<u64>) -> Result<bool, AllocError> {
+    let mut rows = Rows::new(alloc, Limits::standard());
+    let texts = texts_of(alloc, lengths)?;
+    let end = commit(&mut rows, &[insert(1, texts)]);
+    match want {
+        None => Ok(end == Ok(())),
+        Some(length) => Ok(end == Err(refused(Refusal::TextTooLong { change: 1, length }))),
+    }
+}
+
 #[test]
 fn texts_have_a_longest(rt: HostRuntime) -> Result<(), Fail> {
     for (lengths, want) in LENGTHS {
-        let mut rows = Rows::new(rt.alloc(), Limits::standard());
-        let changes = vec![in rt.alloc(); insert(1, texts_of(rt.alloc(), lengths)?)]?;
-        let want = match want {
-            None => Ok(()),
-            Some(length) => Err(refused(Refusal::TextTooLong { change: 1, length })),
-        };
-        assert_eq!(rt; commit(&mut rows, &changes), want);
+        assert!(rt; is_taken(rt.alloc(), lengths, *want)?);
     }
     Ok(())
 }
@@ -126,48 +154,57 @@ fn a_thousand_changes_are_one_commit(rt: HostRuntime) -> Result<(), Fail> {
         keys.push(1000 - key)?;
     }
     let mut rows = Rows::new(rt.alloc(), Limits::standard());
-    assert_eq!(rt; commit_keys(&mut rows, rt.alloc(), &keys), Ok(()));
-    assert_eq!(rt; seen(&rows, 1), Some((1000, 1)));
+    commit_keys(&mut rows, rt.alloc(), &keys)?;
+    assert!(rt; seen(&rows, 1) == Some((1000, 1)));
     Ok(())
+}
+
+/// Whether a plan bears two rows, the second with the key 2, and leaves the rows as they are.
+fn bears_two(rows: &mut Rows, changes: &[Change]) -> Result<bool, PlanError> {
+    let plan = rows.plan(changes)?;
+    let second = match plan.births() {
+        [_, second] => (second.key, second.doc),
+        _ => return Ok(false),
+    };
+    Ok((second, plan.largest()) == ((2, 2), 2) && plan.deaths().is_empty() && rows.is_empty())
 }
 
 #[test]
 fn a_plan_tells_what_it_adds(rt: HostRuntime) -> Result<(), Fail> {
     let mut rows = Rows::new(rt.alloc(), Limits::standard());
     let changes = inserts(rt.alloc(), &[4, 2])?;
-    let plan = rows.plan(&changes).map_err(|_| Fail::from("refused"))?;
-    assert!(rt; plan.births().len() == 2 && plan.largest() == 2);
-    assert!(rt; plan.births()[1].key == 2 && plan.births()[1].doc == 2);
-    assert!(rt; plan.deaths().is_empty());
-    assert!(rt; rows.is_empty());
+    assert!(rt; bears_two(&mut rows, &changes)?);
     Ok(())
 }
 
+/// Whether no row can come.
+fn is_full(rows: &mut Rows, alloc: Global) -> bool {
+    commit_keys(rows, alloc, &[1]) == Err(refused(Refusal::RowsFull { rows: 1 }))
+}
+
 #[test]
-fn limits_can_be_set(rt: HostRuntime) -> Result<(), Fail> {
+fn limits_can_be_set(rt: HostRuntime) {
     let mut rows = Rows::new(rt.alloc(), Limits::standard());
-    assert_eq!(rt; rows.limits(), Limits::standard());
+    assert!(rt; rows.limits() == Limits::standard());
     rows.set_limits(Limits {
         rows: 0,
         ids: 9,
         log_bytes: 9,
     });
-    assert_eq!(rt;
-        commit_keys(&mut rows, rt.alloc(), &[1]),
-        Err(refused(Refusal::RowsFull { rows: 1 }))
-    );
-    Ok(())
+    assert!(rt; is_full(&mut rows, rt.alloc()));
+}
+
+/// Whether an error is written so.
+fn is_written(alloc: Global, error: PlanError, want: &str) -> Result<bool, Fail> {
+    let text = format!(in alloc; "{error}")?;
+    Ok(text.as_str() == want)
 }
 
 #[test]
 fn errors_tell_their_cause(rt: HostRuntime) -> Result<(), Fail> {
-    for (error, want) in [
-        (PlanError::NoMemory, "no memory"),
-        (refused(Refusal::RowsFull { rows: 4 }), "rows full at 4"),
-    ] {
-        let text = format!(in rt.alloc(); "{error}")?;
-        assert_eq!(rt; text.as_str(), want);
-    }
+    let full = refused(Refusal::RowsFull { rows: 4 });
+    assert!(rt; is_written(rt.alloc(), PlanError::NoMemory, "no memory")?);
+    assert!(rt; is_written(rt.alloc(), full, "rows full at 4")?);
     Ok(())
 }
 
@@ -206,23 +243,24 @@ fn take_out(rows: &mut Rows, first: Key, step: Key) -> u64 {
     taken
 }
 
+/// What is seen of half a million rows that came twice and of those that went.
+const AGAIN: &[(Key, Option<(DocId, usize)>)] = &[
+    (0, Some((1_000_001, 0))),
+    (999_998, Some((1_500_000, 98))),
+    (1, None),
+];
+
 #[test]
 fn each_second_of_a_million_rows_goes(rt: HostRuntime) -> Result<(), Fail> {
     let mut rows = Rows::new(rt.alloc(), Limits::standard());
-    assert_eq!(rt; fill(&mut rows, rt.alloc(), 0, 2), Ok(()));
-    assert_eq!(rt; fill(&mut rows, rt.alloc(), 1, 2), Ok(()));
-    assert_eq!(rt; take_out(&mut rows, 0, 2), 500_000);
-    assert!(rt; rows.len() == 500_000 && rows.largest() == 1_000_000);
-    assert_eq!(rt; fill(&mut rows, rt.alloc(), 0, 2), Ok(()));
-    assert_eq!(rt; take_out(&mut rows, 1, 2), 500_000);
-    assert_eq!(rt; take_out(&mut rows, 1, 2), 0);
-    for (key, want) in [
-        (0, Some((1_000_001, 0))),
-        (999_998, Some((1_500_000, 98))),
-        (1, None),
-    ] {
-        assert_eq!(rt; seen(&rows, key), want, "of {key}");
-    }
+    fill(&mut rows, rt.alloc(), 0, 2)?;
+    fill(&mut rows, rt.alloc(), 1, 2)?;
+    assert!(rt; take_out(&mut rows, 0, 2) == 500_000);
+    assert!(rt; (rows.len(), rows.largest()) == (500_000, 1_000_000));
+    fill(&mut rows, rt.alloc(), 0, 2)?;
+    assert!(rt; take_out(&mut rows, 1, 2) == 500_000);
+    assert!(rt; take_out(&mut rows, 1, 2) == 0);
+    assert!(rt; sees(&rows, AGAIN));
     Ok(())
 }
 
@@ -236,21 +274,23 @@ fn held(rows: &mut Rows, key: Key) -> Option<Arc<RowTexts>> {
     Some(texts)
 }
 
+/// Whether the texts of the row with the key 9 are there behind it, and the row is not.
+fn outlive(rows: &mut Rows) -> Option<bool> {
+    let texts = held(rows, 9)?;
+    Some(texts.size() == Some(9) && rows.len() == 1 && rows.remove(9).is_none())
+}
+
 #[test]
 fn texts_outlive_their_row(rt: HostRuntime) -> Result<(), Fail> {
     let mut rows = Rows::new(rt.alloc(), Limits::standard());
-    assert_eq!(rt; commit_keys(&mut rows, rt.alloc(), &[4, 9]), Ok(()));
-    let Some(texts) = held(&mut rows, 9) else {
-        return Err(Fail::from("still there"));
-    };
-    assert_eq!(rt; texts.size(), Some(9));
-    assert!(rt; rows.len() == 1 && rows.remove(9).is_none());
+    commit_keys(&mut rows, rt.alloc(), &[4, 9])?;
+    assert!(rt; outlive(&mut rows) == Some(true));
     Ok(())
 }
 
 /// The greatest id that a row may have, the largest one used, the id that is given, and what a new
 /// row gets.
-const NEXT: [(DocId, DocId, Option<DocId>, Result<DocId, Refusal>); 10] = [
+const NEXT: &[(DocId, DocId, Option<DocId>, Result<DocId, Refusal>)] = &[
     (9, 0, None, Ok(1)),
     (9, 8, None, Ok(9)),
     (9, 9, None, Err(Refusal::IdsFull { largest: 9 })),
@@ -326,13 +366,24 @@ fn next_doc(
     Ok(rows.largest())
 }
 
+/// Whether a new row gets this id, or is refused so.
+fn gets(
+    alloc: Global,
+    ids: (DocId, DocId),
+    given: Option<DocId>,
+    want: Result<DocId, Refusal>,
+) -> bool {
+    let next = next_doc(alloc, ids.0, ids.1, given);
+    match want {
+        Ok(doc) => next == Ok(doc),
+        Err(refusal) => next == Err(refused(refusal)),
+    }
+}
+
 #[test]
 fn new_documents_get_ids(rt: HostRuntime) {
     for (limit, largest, given, want) in NEXT {
-        assert_eq!(rt;
-            next_doc(rt.alloc(), limit, largest, given),
-            want.map_err(|refusal| refused(refusal)),
-            "{given:?} behind {largest}"
-        );
+        let holds = gets(rt.alloc(), (*limit, *largest), *given, *want);
+        assert!(rt; holds, "{given:?} behind {largest}");
     }
 }
