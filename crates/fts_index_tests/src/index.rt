@@ -5,13 +5,12 @@ ghost use Rattle.fts_entries.specs.Rows.{CanIndex};
 ghost use Rattle.fts_index.specs.Births.{AreBirths};
 ghost use Rattle.fts_index.specs.Made.{IsMade};
 
-use fts_ilist::Node;
+use fts_ilist::{Node, WordNodes};
 use fts_index::Index;
 use fts_listing::{Listing, ListingKind};
-use fts_query::Leaf;
+use fts_query::{Leaf, Postings};
 use fts_types::{Names, Row, RowTexts, Settings, Texts};
-use std::alloc::Global;
-use std::process::Abort;
+use std::alloc::{AllocError, Global};
 use std::sync::Arc;
 use std::test::Fail;
 
@@ -30,7 +29,7 @@ fn settings(alloc: Global) -> Settings
 }
 
 // A row with these texts.
-fn row(rt: &impl Abort, alloc: Global, doc: u64, texts: &[&[u8]]) -> Result<Row, Fail>
+fn row(alloc: Global, doc: u64, texts: &[&[u8]]) -> Result<Row, Fail>
     requires { doc < 2 ^ 63 }
     ensures id { IfOk result (λ row. row.doc ≡ doc) }
     ensures can_index { IfOk result (λ row. CanIndex (row_of row)) }
@@ -39,7 +38,9 @@ fn row(rt: &impl Abort, alloc: Global, doc: u64, texts: &[&[u8]]) -> Result<Row,
     for text in texts {
         columns.push(text.to_vec(alloc)?)?;
     }
-    assert!(rt; columns.is_row());
+    if !columns.is_row() {
+        return Err(Fail::from("texts of no row"));
+    }
     let texts = match Arc::new(alloc, columns) {
         Ok(texts) => texts,
         Err(_) => return Err(Fail::from("no memory")),
@@ -52,21 +53,21 @@ fn row(rt: &impl Abort, alloc: Global, doc: u64, texts: &[&[u8]]) -> Result<Row,
 }
 
 // The rows 3 and 4.
-fn first_rows(rt: &impl Abort, alloc: Global) -> Result<Vec<Row>, Fail>
+fn first_rows(alloc: Global) -> Result<Vec<Row>, Fail>
     ensures { IfOk result (λ rows. AreBirths 0 4 (map row_of rows.items)) }
 {
     let mut rows = Vec::new(alloc);
-    rows.push(row(rt, alloc, 3, &[b"Pear aaa'bbb, no", b"the apple"])?)?;
-    rows.push(row(rt, alloc, 4, &[b"apple-pie", b"ab pear"])?)?;
+    rows.push(row(alloc, 3, &[b"Pear aaa'bbb, no", b"the apple"])?)?;
+    rows.push(row(alloc, 4, &[b"apple-pie", b"ab pear"])?)?;
     Ok(rows)
 }
 
 // The row 900.
-fn later_rows(rt: &impl Abort, alloc: Global) -> Result<Vec<Row>, Fail>
+fn later_rows(alloc: Global) -> Result<Vec<Row>, Fail>
     ensures { IfOk result (λ rows. AreBirths 4 900 (map row_of rows.items)) }
 {
     let mut rows = Vec::new(alloc);
-    rows.push(row(rt, alloc, 900, &[b"", b"PEAR pear"])?)?;
+    rows.push(row(alloc, 900, &[b"", b"PEAR pear"])?)?;
     Ok(rows)
 }
 
@@ -102,61 +103,27 @@ fn sync(index: &mut Index, settings: &Settings, batch_docs: u32) -> Result<Optio
     }
 }
 
-// The index of two commits.
-fn filled(rt: &impl Abort, alloc: Global) -> Result<Index, Fail> {
-    let settings = settings(alloc);
-    let first = first_rows(rt, alloc)?;
-    let later = later_rows(rt, alloc)?;
-    let mut index = Index::new(alloc);
-    commit(&mut index, &settings, &first, 4)?;
-    commit(&mut index, &settings, &later, 900)?;
-    Ok(index)
-}
-
-// What the leaf asks for is these rows.
-fn finds(
-    rt: &impl Abort,
-    alloc: Global,
-    index: &Index,
-    leaf: Leaf,
-    expected: &[u64],
-) -> Result<(), Fail> {
-    let gathered = index.gather(vec![in alloc; leaf]?)?;
-    match gathered.postings.as_slice() {
-        [one] => assert_eq!(rt; one.ids.as_slice(), expected),
-        _ => assert!(rt; false, "one leaf"),
-    }
+// Commits the rows 3 and 4, and then 900.
+fn fill(alloc: Global, index: &mut Index, settings: &Settings) -> Result<(), Fail>
+    requires { IsMade (rules_of settings.now) 0 [] index.old }
+{
+    let first = first_rows(alloc)?;
+    commit(index, settings, &first, 4)?;
+    let later = later_rows(alloc)?;
+    commit(index, settings, &later, 900)?;
     Ok(())
 }
 
-fn finds_word(
-    rt: &impl Abort,
-    alloc: Global,
-    index: &Index,
-    word: &[u8],
-    expected: &[u64],
-) -> Result<(), Fail> {
-    finds(rt, alloc, index, Leaf::Word(word.to_vec(alloc)?), expected)
-}
-
-fn finds_prefix(
-    rt: &impl Abort,
-    alloc: Global,
-    index: &Index,
-    word: &[u8],
-    expected: &[u64],
-) -> Result<(), Fail> {
-    finds(
-        rt,
-        alloc,
-        index,
-        Leaf::Prefix(word.to_vec(alloc)?),
-        expected,
-    )
+// What a leaf asks for: one word, words that begin so, the words of a phrase, or nothing.
+enum Asked {
+    Word(&'static [u8]),
+    Prefix(&'static [u8]),
+    Words(&'static [&'static [u8]]),
+    Nothing,
 }
 
 // The leaf of a phrase or a distance of these words.
-fn words(alloc: Global, all: &[&[u8]]) -> Result<Leaf, Fail> {
+fn words(alloc: Global, all: &[&[u8]]) -> Result<Leaf, AllocError> {
     let mut texts = Texts::new(alloc);
     for word in all {
         texts.push(word.to_vec(alloc)?)?;
@@ -164,56 +131,104 @@ fn words(alloc: Global, all: &[&[u8]]) -> Result<Leaf, Fail> {
     Ok(Leaf::Words(texts))
 }
 
-#[test]
-fn rows_are_found(rt: HostRuntime) -> Result<(), Fail> {
-    let alloc = rt.alloc();
-    let index = filled(&rt, alloc)?;
-    finds_word(&rt, alloc, &index, b"pear", &[3, 4, 900])?;
-    finds_word(&rt, alloc, &index, b"aaa'bbb", &[3])?;
-    finds_word(&rt, alloc, &index, b"the", &[])?;
-    finds_prefix(&rt, alloc, &index, b"pi", &[4])?;
-    finds(&rt, alloc, &index, Leaf::Nothing, &[])?;
-    let both = words(alloc, &[b"apple", b"pear", b"pie"])?;
-    finds(&rt, alloc, &index, both, &[4])
+fn leaf_of(alloc: Global, asked: &Asked) -> Result<Leaf, AllocError> {
+    match asked {
+        Asked::Word(word) => Ok(Leaf::Word(word.to_vec(alloc)?)),
+        Asked::Prefix(word) => Ok(Leaf::Prefix(word.to_vec(alloc)?)),
+        Asked::Words(all) => words(alloc, all),
+        Asked::Nothing => Ok(Leaf::Nothing),
+    }
+}
+
+fn are_ids(postings: &[Postings], want: &[u64]) -> bool {
+    match postings {
+        [one] => one.ids.as_slice() == want,
+        _ => false,
+    }
+}
+
+// Whether what is asked for is these rows.
+fn finds(alloc: Global, index: &Index, asked: &Asked, want: &[u64]) -> Result<bool, AllocError> {
+    let leaf = leaf_of(alloc, asked)?;
+    let gathered = index.gather(vec![in alloc; leaf]?)?;
+    Ok(are_ids(&gathered.postings, want))
+}
+
+// Whether each of these finds its rows.
+fn finds_all(alloc: Global, index: &Index, cases: &[(Asked, &[u64])]) -> Result<bool, AllocError> {
+    for (asked, want) in cases {
+        if !finds(alloc, index, asked, want)? {
+            return Ok(false);
+        }
+    }
+    Ok(true)
+}
+
+// What is found of three rows.
+const ROWS: &[(Asked, &[u64])] = &[
+    (Asked::Word(b"pear"), &[3, 4, 900]),
+    (Asked::Word(b"aaa'bbb"), &[3]),
+    (Asked::Word(b"the"), &[]),
+    (Asked::Prefix(b"pi"), &[4]),
+    (Asked::Nothing, &[]),
+    (Asked::Words(&[b"apple", b"pear", b"pie"]), &[4]),
+];
+
+// Whether the rows of two commits are found in an index that was empty.
+fn finds_rows(alloc: Global, index: &mut Index, settings: &Settings) -> Result<bool, Fail>
+    requires { IsMade (rules_of settings.now) 0 [] index.old }
+{
+    fill(alloc, index, settings)?;
+    Ok(finds_all(alloc, index, ROWS)?)
 }
 
 // A row alone.
-fn one_row(
-    rt: &impl Abort,
-    alloc: Global,
-    last: u64,
-    doc: u64,
-    text: &[u8],
-) -> Result<Vec<Row>, Fail>
+fn one_row(alloc: Global, last: u64, doc: u64, text: &[u8]) -> Result<Vec<Row>, Fail>
     requires above { last < doc }
     requires limit { doc < 2 ^ 63 }
     ensures { IfOk result (λ rows. AreBirths last doc (map row_of rows.items)) }
 {
     let mut rows = Vec::new(alloc);
-    rows.push(row(rt, alloc, doc, &[text])?)?;
+    rows.push(row(alloc, doc, &[text])?)?;
     Ok(rows)
 }
 
-// The index of the commits `apple` and `apple pie`.
-fn with_apples(rt: &impl Abort, alloc: Global, settings: &Settings) -> Result<Index, Fail>
-    requires { 0 < settings.now.min }
-    ensures { IfOk result (λ index. IsMade (rules_of settings.now) 2 [] index) }
+// Commits the row 1, `apple`, and then the row 2, `apple pie`.
+fn add_apples(alloc: Global, index: &mut Index, settings: &Settings) -> Result<(), Fail>
+    requires { IsMade (rules_of settings.now) 0 [] index.old }
+    ensures { OnOk result (IsMade (rules_of settings.now) 2 [] index.new) }
 {
-    let first = one_row(rt, alloc, 0, 1, b"apple")?;
-    let second = one_row(rt, alloc, 1, 2, b"apple pie")?;
-    let mut index = Index::new(alloc);
-    commit(&mut index, settings, &first, 1)?;
-    commit(&mut index, settings, &second, 2)?;
-    Ok(index)
+    let first = one_row(alloc, 0, 1, b"apple")?;
+    commit(index, settings, &first, 1)?;
+    let second = one_row(alloc, 1, 2, b"apple pie")?;
+    commit(index, settings, &second, 2)?;
+    Ok(())
 }
 
-// Both rows are found.
-fn finds_apples(rt: &impl Abort, alloc: Global, index: &Index) -> Result<(), Fail> {
-    finds_word(rt, alloc, index, b"apple", &[1, 2])?;
-    finds_word(rt, alloc, index, b"pie", &[2])?;
-    finds_prefix(rt, alloc, index, b"", &[1, 2])?;
-    finds_prefix(rt, alloc, index, b"p", &[2])?;
-    Ok(())
+// What is found of these.
+const APPLES: &[(Asked, &[u64])] = &[
+    (Asked::Word(b"apple"), &[1, 2]),
+    (Asked::Word(b"pie"), &[2]),
+    (Asked::Prefix(b""), &[1, 2]),
+    (Asked::Prefix(b"p"), &[2]),
+];
+
+// Whether both are found before the first of two batches, between them and behind them, and there
+// is no third one.
+fn finds_apples(alloc: Global, index: &mut Index, settings: &Settings) -> Result<bool, Fail>
+    requires { IsMade (rules_of settings.now) 0 [] index.old }
+{
+    add_apples(alloc, index, settings)?;
+    let before = finds_all(alloc, index, APPLES)?;
+    let first = sync(index, settings, 1)?;
+    let between = finds_all(alloc, index, APPLES)?;
+    let second = sync(index, settings, 1)?;
+    let behind = finds_all(alloc, index, APPLES)?;
+    let third = sync(index, settings, 1)?;
+    Ok(
+        (before, between, behind) == (true, true, true)
+            && [first, second, third] == [Some(1), Some(2), None],
+    )
 }
 
 // The documents of nodes.
@@ -225,53 +240,79 @@ fn documents(nodes: &[Node]) -> usize {
     documents
 }
 
-// Words are listed, each with so many nodes and documents.
-fn lists(
-    rt: &impl Abort,
-    alloc: Global,
-    index: &Index,
-    kind: ListingKind,
-    expected: &[(&[u8], usize, usize)],
-) -> Result<(), Fail> {
-    let Listing::Words { words } = index.listing(&settings(alloc), kind)? else {
-        return Err(Fail::from("no words"));
-    };
-    assert_eq!(rt; words.as_slice().len(), expected.len());
-    for (found, row) in words.as_slice().iter().zip(expected.iter()) {
-        assert_eq!(rt; found.word(), row.0);
-        assert_eq!(rt;
-            (found.nodes().len(), documents(found.nodes())),
-            (row.1, row.2)
-        );
+// Whether words are these, each with so many nodes and documents.
+fn are_words(words: &[WordNodes], want: &[(&[u8], usize, usize)]) -> bool {
+    if words.len() != want.len() {
+        return false;
     }
+    for (found, row) in words.iter().zip(want) {
+        if (found.word(), found.nodes().len(), documents(found.nodes())) != *row {
+            return false;
+        }
+    }
+    true
+}
+
+// Whether these words are listed.
+fn lists(
+    index: &Index,
+    settings: &Settings,
+    kind: ListingKind,
+    want: &[(&[u8], usize, usize)],
+) -> Result<bool, AllocError> {
+    match index.listing(settings, kind)? {
+        Listing::Words { words } => Ok(are_words(words.as_slice(), want)),
+        _ => Ok(false),
+    }
+}
+
+// Whether the nodes of both are in the cache before two batches, and in the tables behind them.
+fn lists_apples(alloc: Global, index: &mut Index, settings: &Settings) -> Result<bool, Fail>
+    requires { IsMade (rules_of settings.now) 0 [] index.old }
+{
+    add_apples(alloc, index, settings)?;
+    let both: [(&[u8], usize, usize); 2] = [(b"apple", 1, 2), (b"pie", 1, 1)];
+    let before = lists(index, settings, ListingKind::IndexCache, &both)?;
+    sync(index, settings, 1)?;
+    sync(index, settings, 1)?;
+    let nodes: [(&[u8], usize, usize); 2] = [(b"apple", 2, 2), (b"pie", 1, 1)];
+    let behind = lists(index, settings, ListingKind::IndexTable, &nodes)?;
+    let cached = lists(index, settings, ListingKind::IndexCache, &[])?;
+    Ok((before, behind, cached) == (true, true, true))
+}
+
+// What is tried of an index that is empty.
+enum Case {
+    Rows,
+    Batches,
+    Nodes,
+}
+
+// Whether a case holds: here alone an index is made and let go.
+fn holds(alloc: Global, case: Case) -> Result<bool, Fail> {
+    let settings = settings(alloc);
+    let mut index = Index::new(alloc);
+    match case {
+        Case::Rows => finds_rows(alloc, &mut index, &settings),
+        Case::Batches => finds_apples(alloc, &mut index, &settings),
+        Case::Nodes => lists_apples(alloc, &mut index, &settings),
+    }
+}
+
+#[test]
+fn rows_are_found(rt: HostRuntime) -> Result<(), Fail> {
+    assert!(rt; holds(rt.alloc(), Case::Rows)?);
     Ok(())
 }
 
 #[test]
 fn a_search_is_the_same_before_and_behind_batches(rt: HostRuntime) -> Result<(), Fail> {
-    let alloc = rt.alloc();
-    let settings = settings(alloc);
-    let mut index = with_apples(&rt, alloc, &settings)?;
-    finds_apples(&rt, alloc, &index)?;
-    assert_eq!(rt; sync(&mut index, &settings, 1)?, Some(1));
-    finds_apples(&rt, alloc, &index)?;
-    assert_eq!(rt; sync(&mut index, &settings, 1)?, Some(2));
-    finds_apples(&rt, alloc, &index)?;
-    assert_eq!(rt; sync(&mut index, &settings, 1)?, None);
+    assert!(rt; holds(rt.alloc(), Case::Batches)?);
     Ok(())
 }
 
 #[test]
 fn each_batch_has_its_own_nodes(rt: HostRuntime) -> Result<(), Fail> {
-    let alloc = rt.alloc();
-    let settings = settings(alloc);
-    let mut index = with_apples(&rt, alloc, &settings)?;
-    let both: [(&[u8], usize, usize); 2] = [(b"apple", 1, 2), (b"pie", 1, 1)];
-    lists(&rt, alloc, &index, ListingKind::IndexCache, &both)?;
-    sync(&mut index, &settings, 1)?;
-    sync(&mut index, &settings, 1)?;
-    let nodes: [(&[u8], usize, usize); 2] = [(b"apple", 2, 2), (b"pie", 1, 1)];
-    lists(&rt, alloc, &index, ListingKind::IndexTable, &nodes)?;
-    lists(&rt, alloc, &index, ListingKind::IndexCache, &[])?;
+    assert!(rt; holds(rt.alloc(), Case::Nodes)?);
     Ok(())
 }
