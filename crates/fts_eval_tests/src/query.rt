@@ -2,7 +2,6 @@ use fts_meaning::Sign;
 use fts_query::{Leaf, Operand, Term, parse};
 use fts_types::Texts;
 use std::alloc::{AllocError, Global};
-use std::process::Abort;
 use std::test::Fail;
 
 /// Writes words between quotes.
@@ -83,7 +82,7 @@ fn shown(alloc: Global, text: &[u8]) -> Result<Vec<u8>, AllocError> {
 }
 
 /// Words, signs, prefixes.
-const WORDS: [(&str, &str); 11] = [
+const WORDS: &[(&str, &str)] = &[
     ("", ""),
     ("apple", "apple"),
     ("Apple PIE", "apple pie"),
@@ -98,7 +97,7 @@ const WORDS: [(&str, &str); 11] = [
 ];
 
 /// Words, signs, prefixes.
-const MORE_WORDS: [(&str, &str); 10] = [
+const MORE_WORDS: &[(&str, &str)] = &[
     ("a>b<c", "a b c"),
     ("a,b;c", "a b c"),
     ("x_1", "x_1"),
@@ -112,7 +111,7 @@ const MORE_WORDS: [(&str, &str); 10] = [
 ];
 
 /// Brackets.
-const BRACKETS: [(&str, &str); 7] = [
+const BRACKETS: &[(&str, &str)] = &[
     ("()", "()"),
     ("-(apple)", "-(apple)"),
     ("+(pie theory) -apple", "+(pie theory) -apple"),
@@ -123,7 +122,7 @@ const BRACKETS: [(&str, &str); 7] = [
 ];
 
 /// Phrases and distances.
-const PHRASES: [(&str, &str); 11] = [
+const PHRASES: &[(&str, &str)] = &[
     ("\"\"", "\"\""),
     ("\"test phrase\"", "\"test phrase\""),
     ("\"the of\"", "\"the of\""),
@@ -138,7 +137,7 @@ const PHRASES: [(&str, &str); 11] = [
 ];
 
 /// Phrases and distances.
-const MORE_PHRASES: [(&str, &str); 11] = [
+const MORE_PHRASES: &[(&str, &str)] = &[
     ("\"apple apple\" @0", "\"apple apple\"@0"),
     ("\"a\"\t@2\tb", "\"a\"@2 b"),
     ("\"a\" @65535", "\"a\"@65535"),
@@ -153,7 +152,7 @@ const MORE_PHRASES: [(&str, &str); 11] = [
 ];
 
 /// A sign without what it is a sign of.
-const SIGNS: [(&str, &str); 9] = [
+const SIGNS: &[(&str, &str)] = &[
     ("++apple", "!query syntax at 1"),
     ("+-apple", "!query syntax at 1"),
     ("+*", "!query syntax at 1"),
@@ -166,7 +165,7 @@ const SIGNS: [(&str, &str); 9] = [
 ];
 
 /// A star without its word.
-const STARS: [(&str, &str); 7] = [
+const STARS: &[(&str, &str)] = &[
     ("apple**", "!query syntax at 7"),
     ("apple'*", "!query syntax at 7"),
     ("\"pie\"*", "!query syntax at 6"),
@@ -177,7 +176,7 @@ const STARS: [(&str, &str); 7] = [
 ];
 
 /// An `@` that is no distance's.
-const ATS: [(&str, &str); 9] = [
+const ATS: &[(&str, &str)] = &[
     ("apple @3", "!query syntax at 7"),
     ("a@3", "!query syntax at 2"),
     ("\"a\" @65536", "!query syntax at 5"),
@@ -190,7 +189,7 @@ const ATS: [(&str, &str); 9] = [
 ];
 
 /// A quote or a bracket without its partner.
-const PARTNERS: [(&str, &str); 10] = [
+const PARTNERS: &[(&str, &str)] = &[
     ("\"apple pie", "!query syntax at 1"),
     ("-\"a", "!query syntax at 2"),
     ("\"a\" \"b", "!query syntax at 5"),
@@ -204,33 +203,37 @@ const PARTNERS: [(&str, &str); 10] = [
 ];
 
 /// The leftmost fault, also where a later one is met first.
-const LEFTMOST: [(&str, &str); 2] = [
+const LEFTMOST: &[(&str, &str)] = &[
     ("(+ x", "!query syntax at 1"),
     ("(+ x)", "!query syntax at 2"),
 ];
 
-/// Compares each text's tree or refusal.
-fn try_rows(rt: &impl Abort, alloc: Global, rows: &[(&str, &str)]) -> Result<(), Fail> {
-    for (text, want) in rows {
-        let got = shown(alloc, text.as_bytes())?;
-        assert_eq!(rt; got.as_slice(), want.as_bytes(), "{text:?}");
-    }
-    Ok(())
+const ALL: &[&[(&str, &str)]] = &[
+    WORDS,
+    MORE_WORDS,
+    BRACKETS,
+    PHRASES,
+    MORE_PHRASES,
+    SIGNS,
+    STARS,
+    ATS,
+    PARTNERS,
+    LEFTMOST,
+];
+
+/// Whether a text has this tree or refusal.
+fn is_shown(alloc: Global, text: &[u8], want: &[u8]) -> Result<bool, AllocError> {
+    Ok(shown(alloc, text)?.as_slice() == want)
 }
 
 #[test]
 fn texts_have_their_trees_or_their_first_faults(rt: HostRuntime) -> Result<(), Fail> {
-    let alloc = rt.alloc();
-    try_rows(&rt, alloc, &WORDS)?;
-    try_rows(&rt, alloc, &MORE_WORDS)?;
-    try_rows(&rt, alloc, &BRACKETS)?;
-    try_rows(&rt, alloc, &PHRASES)?;
-    try_rows(&rt, alloc, &MORE_PHRASES)?;
-    try_rows(&rt, alloc, &SIGNS)?;
-    try_rows(&rt, alloc, &STARS)?;
-    try_rows(&rt, alloc, &ATS)?;
-    try_rows(&rt, alloc, &PARTNERS)?;
-    try_rows(&rt, alloc, &LEFTMOST)?;
+    for rows in ALL {
+        for (text, want) in *rows {
+            let holds = is_shown(rt.alloc(), text.as_bytes(), want.as_bytes())?;
+            assert!(rt; holds, "{text:?}");
+        }
+    }
     Ok(())
 }
 
@@ -247,24 +250,38 @@ fn nested(alloc: Global, open: usize, inner: &[u8], close: usize) -> Result<Vec<
     Ok(text)
 }
 
+/// How many brackets stand before and behind a text, and how it is refused.
+const NESTED: &[(usize, &str, usize, &str)] = &[
+    (33, "apple", 33, "!query too deep at 33"),
+    (33, "apple", 32, "!query syntax at 1"),
+    (33, "*", 33, "!query syntax at 34"),
+    (2_048, "", 2_048, "!query too deep at 33"),
+    (4_096, "", 0, "!query syntax at 1"),
+    (4_096, "a", 0, "!query too long 4097"),
+];
+
+/// Whether a text in brackets is refused so.
+fn is_refused(
+    alloc: Global,
+    inner: &str,
+    brackets: (usize, usize),
+    want: &str,
+) -> Result<bool, AllocError> {
+    let text = nested(alloc, brackets.0, inner.as_bytes(), brackets.1)?;
+    is_shown(alloc, text.as_slice(), want.as_bytes())
+}
+
+/// Whether a word may stand 32 brackets deep.
+fn is_deepest(alloc: Global) -> Result<bool, AllocError> {
+    let text = nested(alloc, 32, b"apple", 32)?;
+    is_shown(alloc, text.as_slice(), text.as_slice())
+}
+
 #[test]
 fn depth_and_length_are_limited(rt: HostRuntime) -> Result<(), Fail> {
-    let alloc = rt.alloc();
-    let rows: [(usize, &[u8], usize, &[u8]); 6] = [
-        (33, b"apple", 33, b"!query too deep at 33"),
-        (33, b"apple", 32, b"!query syntax at 1"),
-        (33, b"*", 33, b"!query syntax at 34"),
-        (2_048, b"", 2_048, b"!query too deep at 33"),
-        (4_096, b"", 0, b"!query syntax at 1"),
-        (4_096, b"a", 0, b"!query too long 4097"),
-    ];
-    for (open, inner, close, want) in rows {
-        let text = nested(alloc, open, inner, close)?;
-        let got = shown(alloc, text.as_slice())?;
-        assert_eq!(rt; got.as_slice(), want);
+    for (open, inner, close, want) in NESTED {
+        assert!(rt; is_refused(rt.alloc(), inner, (*open, *close), want)?);
     }
-    let deepest = nested(alloc, 32, b"apple", 32)?;
-    let got = shown(alloc, deepest.as_slice())?;
-    assert_eq!(rt; got.as_slice(), deepest.as_slice());
+    assert!(rt; is_deepest(rt.alloc())?);
     Ok(())
 }

@@ -1,7 +1,6 @@
 //! The queries that tests of other crates search for, over their rows.
 use super::{Indexed, Line, STANDARD, finds};
 use std::alloc::{AllocError, Global};
-use std::process::Abort;
 use std::test::Fail;
 
 type Rows = &'static [Line<'static>];
@@ -280,7 +279,7 @@ const IN_APPLE: Searches = &[
 
 const APPLE: Rows = &[(1, "apple", "")];
 
-const TABLES: [Table; 19] = [
+const TABLES: &[Table] = &[
     (STANDARD, PEAR, IN_PEAR),
     (STANDARD, PIES, IN_PIES),
     (STANDARD, NEAR, IN_NEAR),
@@ -302,19 +301,13 @@ const TABLES: [Table; 19] = [
     (STANDARD, APPLE, IN_APPLE),
 ];
 
-/// Each search of a table finds its rows.
-fn are_found(rt: &impl Abort, alloc: Global, table: Table) -> Result<(), Fail> {
-    let (indexed, rows, searches) = table;
-    for (text, want) in searches {
-        finds(rt, alloc, indexed, rows, text, want)?;
-    }
-    Ok(())
-}
-
 #[test]
 fn queries_of_other_tests_find_their_rows(rt: HostRuntime) -> Result<(), Fail> {
-    for table in TABLES {
-        are_found(&rt, rt.alloc(), table)?;
+    for (indexed, rows, searches) in TABLES {
+        for (text, want) in *searches {
+            let holds = finds(rt.alloc(), *indexed, rows, text, want)?;
+            assert!(rt; holds, "{text}");
+        }
     }
     Ok(())
 }
@@ -329,19 +322,22 @@ fn repeated(alloc: Global, text: &str, count: usize, last: &str) -> Result<Strin
     Ok(all)
 }
 
-/// Long queries: a text, how many of it stand before another, and the rows that they find.
-const LONG: [(&str, usize, &str, &[u64]); 2] = [
-    ("x", 4_096, "", &[]),
-    ("plum ", 500, "apple", &[1]),
-];
+/// Whether a long query over one row finds these ids: so many of a text, and then another.
+fn finds_long(
+    alloc: Global,
+    text: &str,
+    count: usize,
+    last: &str,
+    want: &[u64],
+) -> Result<bool, Fail> {
+    let query = repeated(alloc, text, count, last)?;
+    finds(alloc, STANDARD, APPLE, &query, want)
+}
 
 #[test]
 fn long_queries_find_their_rows(rt: HostRuntime) -> Result<(), Fail> {
-    let alloc = rt.alloc();
-    for (text, count, last, want) in LONG {
-        let query = repeated(alloc, text, count, last)?;
-        finds(&rt, alloc, STANDARD, APPLE, &query, want)?;
-    }
+    assert!(rt; finds_long(rt.alloc(), "x", 4_096, "", &[])?);
+    assert!(rt; finds_long(rt.alloc(), "plum ", 500, "apple", &[1])?);
     Ok(())
 }
 
@@ -363,11 +359,15 @@ fn ids_of(alloc: Global, rows: &[Line<'_>]) -> Result<Vec<u64>, AllocError> {
     Ok(ids)
 }
 
-#[test]
-fn a_thousand_rows_are_found(rt: HostRuntime) -> Result<(), Fail> {
-    let alloc = rt.alloc();
+/// Whether a query over a thousand rows finds all of them.
+fn finds_thousand(alloc: Global, query: &str) -> Result<bool, Fail> {
     let rows = thousand(alloc)?;
     let want = ids_of(alloc, &rows)?;
-    let query = "+apple -\"pie apple\"";
-    finds(&rt, alloc, STANDARD, &rows, query, &want)
+    finds(alloc, STANDARD, &rows, query, &want)
+}
+
+#[test]
+fn a_thousand_rows_are_found(rt: HostRuntime) -> Result<(), Fail> {
+    assert!(rt; finds_thousand(rt.alloc(), "+apple -\"pie apple\"")?);
+    Ok(())
 }
