@@ -1,8 +1,7 @@
-//! Tests of the program over forms in memory: scripts with the replies that they get, byte by byte,
-//! and what faults, stops and damage leave of a database and of a run.
+//! Tests of the program that no script shows: each status with its number and its text.
 //!
-//! They stand apart so that the crate is proved once less.
-//! `rt test` in this crate's folder runs them.
+//! What the program shows from outside stands in the files below `cases/`, which `fts_cases` runs.
+//! `rt test` in this crate's folder runs the tests.
 #![tactic(auto)]
 
 #[cfg(test)]
