@@ -30,6 +30,3 @@ pub use direct::Direct;
 pub use laws::{passes_are_bounded, passes_are_counted};
 pub use session::Session;
 pub use steps::EngineSteps;
-
-#[cfg(test)]
-mod tests;
