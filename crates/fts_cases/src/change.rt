@@ -19,6 +19,7 @@ pub fn change(alloc: Global, device: &mut Device, words: &[&str]) -> Result<bool
             Ok(true)
         }
         ["set", _, place, byte] => Ok(set(device, place, byte)),
+        ["flip", _, place, bits] => Ok(flip(device, place, bits)),
         ["cut", _, length] => Ok(cut(device, length)),
         ["stop", _, call, choice] => stop(alloc, device, call, choice),
         ["whole", _] => {
@@ -63,6 +64,16 @@ fn set(device: &mut Device, place: &str, byte: &str) -> bool {
     match (place.parse::<usize>(), byte.parse::<u8>()) {
         (Ok(place), Ok(byte)) => {
             device.set(place, byte);
+            true
+        }
+        _ => false,
+    }
+}
+
+fn flip(device: &mut Device, place: &str, bits: &str) -> bool {
+    match (place.parse::<usize>(), bits.parse::<u8>()) {
+        (Ok(place), Ok(bits)) => {
+            device.flip(place, bits);
             true
         }
         _ => false,

@@ -59,6 +59,13 @@ impl Device {
         Ok(())
     }
 
+    /// Changes these bits of the byte at a place, if it has one there.
+    pub fn flip(&mut self, place: usize, bits: u8) {
+        if let Some(there) = self.bytes.get_mut(place) {
+            *there ^= bits;
+        }
+    }
+
     /// Puts a byte at a place, if it has one there.
     pub fn set(&mut self, place: usize, byte: u8) {
         if let Some(there) = self.bytes.get_mut(place) {
