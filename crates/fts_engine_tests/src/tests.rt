@@ -12,8 +12,6 @@ use fts_steps::{CommitError, IndexError, SyncBatch};
 use fts_types::{DocId, Key, Limits, Names, RowTexts, Settings, SharedTexts};
 use std::alloc::{AllocError, Global};
 use std::fmt::Display;
-use std::process::Abort;
-use std::test::Fail;
 
 /// Settings of a table with a title and a body, and of batches of so many documents.
 fn settings(alloc: Global, batch_docs: u32) -> Result<Settings, AllocError> {
@@ -208,27 +206,49 @@ fn finds_many(alloc: Global, engine: &Engine<MemDisk, MemDisk>, word: &[u8], cou
     }
 }
 
-#[test]
-fn a_commit_is_found_and_again_after_opening(rt: HostRuntime) -> Result<(), Fail> {
-    let alloc = rt.alloc();
-    let devices = create(alloc, empty_disks(alloc)?)?;
-    let mut engine = open(alloc, devices, 2, 4_096)?;
-    assert_eq!(rt; commit(&mut engine, &two_rows(alloc, 7, 3)?), Some(Ok(1)));
-    assert!(rt; finds_all(alloc, &engine, &FOUND));
-    let engine = open(alloc, engine.close(), 1, 0)?;
-    assert!(rt; finds_all(alloc, &engine, &FOUND) && engine.commits() == 1);
-    Ok(())
+/// Opens a new database with at most so many rows and bytes of a log.
+fn new_limited(alloc: Global, most_rows: u64, log_bytes: u64) -> Option<Engine<MemDisk, MemDisk>> {
+    let disks = empty_disks(alloc).ok()?;
+    let devices = create(alloc, disks).ok()?;
+    open(alloc, devices, most_rows, log_bytes).ok()
+}
+
+/// Whether an engine has one commit, in which views find the two rows.
+fn has_two_rows(alloc: Global, engine: &Engine<MemDisk, MemDisk>) -> bool {
+    engine.commits() == 1 && finds_all(alloc, engine, &FOUND)
+}
+
+/// Whether a commit is found, and again after an opening.
+fn is_found_twice(alloc: Global) -> Option<bool> {
+    let Ok(changes) = two_rows(alloc, 7, 3) else {
+        return None;
+    };
+    let mut engine = new_limited(alloc, 2, 4_096)?;
+    let is_first = commit(&mut engine, &changes) == Some(Ok(1));
+    let is_found = has_two_rows(alloc, &engine);
+    let again = open(alloc, engine.close(), 1, 0).ok()?;
+    Some(is_first && is_found && has_two_rows(alloc, &again))
 }
 
 #[test]
-fn a_thousand_changes_are_a_commit(rt: HostRuntime) -> Result<(), Fail> {
-    let alloc = rt.alloc();
-    let devices = create(alloc, empty_disks(alloc)?)?;
-    let mut engine = open(alloc, devices, 1_000, LARGEST_LOG)?;
-    assert_eq!(rt; commit(&mut engine, &many_rows(alloc, 1_000)?), Some(Ok(1)));
-    let engine = open(alloc, engine.close(), 1_000, 0)?;
-    assert!(rt; engine.commits() == 1 && finds_many(alloc, &engine, b"cream", 1_000));
-    Ok(())
+fn a_commit_is_found_and_again_after_opening(rt: HostRuntime) {
+    assert!(rt; is_found_twice(rt.alloc()) == Some(true));
+}
+
+/// Whether a thousand changes are one commit, which an opening finds.
+fn are_a_commit(alloc: Global) -> Option<bool> {
+    let Ok(changes) = many_rows(alloc, 1_000) else {
+        return None;
+    };
+    let mut engine = new_limited(alloc, 1_000, LARGEST_LOG)?;
+    let is_first = commit(&mut engine, &changes) == Some(Ok(1));
+    let again = open(alloc, engine.close(), 1_000, 0).ok()?;
+    Some(is_first && again.commits() == 1 && finds_many(alloc, &again, b"cream", 1_000))
+}
+
+#[test]
+fn a_thousand_changes_are_a_commit(rt: HostRuntime) {
+    assert!(rt; are_a_commit(rt.alloc()) == Some(true));
 }
 
 /// What is found of a row with an apostrophe within a word: a word is indexed whole.
@@ -239,15 +259,19 @@ const FOUND_WHOLE: [(&str, &[DocId]); 4] = [
     ("the", &[]),
 ];
 
+/// Whether a word with an apostrophe is found whole alone.
+fn is_found_whole(alloc: Global) -> Option<bool> {
+    let Ok(changes) = quoted_row(alloc) else {
+        return None;
+    };
+    let mut engine = new_limited(alloc, 2, 4_096)?;
+    let is_first = commit(&mut engine, &changes) == Some(Ok(1));
+    Some(is_first && finds_all(alloc, &engine, &FOUND_WHOLE))
+}
+
 #[test]
-fn a_word_is_found_whole(rt: HostRuntime) -> Result<(), Fail> {
-    let alloc = rt.alloc();
-    let devices = create(alloc, empty_disks(alloc)?)?;
-    let mut engine = open(alloc, devices, 2, 4_096)?;
-    assert_eq!(rt; commit(&mut engine, &quoted_row(alloc)?), Some(Ok(1)));
-    assert!(rt; finds_all(alloc, &engine, &FOUND_WHOLE));
-    engine.close();
-    Ok(())
+fn a_word_is_found_whole(rt: HostRuntime) {
+    assert!(rt; is_found_whole(rt.alloc()) == Some(true));
 }
 
 /// Opens a new database with batches of so many documents.
@@ -293,18 +317,27 @@ fn flushes(through: u64) -> Result<SyncBatch, IndexError> {
     })
 }
 
-#[test]
-fn a_batch_changes_no_view(rt: HostRuntime) -> Result<(), Fail> {
-    let alloc = rt.alloc();
-    let Some(mut engine) = two_commits(alloc) else {
-        return Err(Fail::from("two commits"));
-    };
+/// Whether views find the two rows, and the next batch then flushes through this commit.
+fn finds_and_flushes(alloc: Global, engine: &mut Engine<MemDisk, MemDisk>, through: u64) -> bool {
+    let is_found = finds_after(alloc, engine, 2, &FOUND);
+    let flushed = engine.sync_batch();
+    is_found && flushed == flushes(through)
+}
+
+/// Whether it is so at each of four batches, of which two flush nothing.
+fn is_found_between_batches(alloc: Global) -> Option<bool> {
+    let mut engine = two_commits(alloc)?;
     for through in 1..5 {
-        assert!(rt; finds_after(alloc, &engine, 2, &FOUND));
-        assert_eq!(rt; engine.sync_batch(), flushes(through));
+        if !finds_and_flushes(alloc, &mut engine, through) {
+            return Some(false);
+        }
     }
-    engine.close();
-    Ok(())
+    Some(true)
+}
+
+#[test]
+fn a_batch_changes_no_view(rt: HostRuntime) {
+    assert!(rt; is_found_between_batches(rt.alloc()) == Some(true));
 }
 
 /// Opens a new database whose rows device fails at the first commit.
@@ -316,16 +349,28 @@ fn failing_engine(alloc: Global) -> Option<Engine<MemDisk, MemDisk>> {
     open(alloc, devices, 2, 4_096).ok()
 }
 
-#[test]
-fn no_batch_is_made_after_a_fault(rt: HostRuntime) -> Result<(), Fail> {
-    let changes = two_rows(rt.alloc(), 7, 3)?;
-    let Some(mut engine) = failing_engine(rt.alloc()) else {
-        return Err(Fail::from("no engine"));
+/// What the commit and the batch behind it are answered.
+fn answered_after_a_fault(
+    alloc: Global,
+) -> Option<
+    (
+        Option<Result<u64, CommitError>>,
+        Result<SyncBatch, IndexError>,
+    ),
+> {
+    let Ok(changes) = two_rows(alloc, 7, 3) else {
+        return None;
     };
+    let mut engine = failing_engine(alloc)?;
     let failed = commit(&mut engine, &changes);
-    assert_eq!(rt; failed, Some(Err(CommitError::DiskFault { faults: 1 })));
-    assert_eq!(rt; engine.sync_batch(), Err(IndexError::Stopped { faults: 1 }));
-    Ok(())
+    Some((failed, engine.sync_batch()))
+}
+
+#[test]
+fn no_batch_is_made_after_a_fault(rt: HostRuntime) {
+    let failed = Some(Err(CommitError::DiskFault { faults: 1 }));
+    let stopped = Err(IndexError::Stopped { faults: 1 });
+    assert!(rt; answered_after_a_fault(rt.alloc()) == Some((failed, stopped)));
 }
 
 /// How many words a view lists, as of how many commits.
@@ -354,17 +399,20 @@ fn listed_in_both(engine: &Engine<MemDisk, MemDisk>) -> [Option<(u64, usize)>; 2
     ]
 }
 
+/// Whether the listings tell of a batch what they should, and nothing before it.
+fn is_listed(alloc: Global) -> Option<bool> {
+    let mut engine = two_commits(alloc)?;
+    let before = listed_config(&engine);
+    let flushed = engine.sync_batch();
+    let words = listed_in_both(&engine);
+    let behind = listed_config(&engine);
+    let is_flushed = flushed == flushes(1) && words == [Some((2, 3)), Some((2, 3))];
+    Some(is_flushed && before == Some((0, 0)) && behind == Some((1, 1)))
+}
+
 #[test]
-fn a_batch_is_listed(rt: HostRuntime) -> Result<(), Fail> {
-    let Some(mut engine) = two_commits(rt.alloc()) else {
-        return Err(Fail::from("two commits"));
-    };
-    assert_eq!(rt; listed_config(&engine), Some((0, 0)));
-    assert_eq!(rt; engine.sync_batch(), flushes(1));
-    assert_eq!(rt; listed_in_both(&engine), [Some((2, 3)), Some((2, 3))]);
-    assert_eq!(rt; listed_config(&engine), Some((1, 1)));
-    engine.close();
-    Ok(())
+fn a_batch_is_listed(rt: HostRuntime) {
+    assert!(rt; is_listed(rt.alloc()) == Some(true));
 }
 
 /// The engine that an opening makes of what another one wrote.
@@ -375,26 +423,37 @@ fn opened_again(
     open(alloc, engine.close(), 2, 4_096).ok()
 }
 
-#[test]
-fn batches_are_found_again(rt: HostRuntime) -> Result<(), Fail> {
-    let alloc = rt.alloc();
-    let mut left = two_commits(alloc);
-    for (through, tables, cache) in [(1, 3, 3), (2, 4, 0), (3, 4, 0)] {
-        let Some(mut engine) = left else {
-            return Err(Fail::from("not opened"));
-        };
-        assert_eq!(rt; engine.sync_batch(), flushes(through));
-        let Some(again) = opened_again(alloc, engine) else {
-            return Err(Fail::from("not opened again"));
-        };
-        assert_eq!(rt;
-            listed_in_both(&again),
-            [Some((2, tables)), Some((2, cache))]
-        );
-        assert!(rt; finds_after(alloc, &again, 2, &FOUND));
-        left = Some(again);
+/// The engine of an opening behind a batch that flushes through this commit, where its listings
+/// tell of so many words in the tables and in the cache, and views find the two rows.
+fn found_again(
+    alloc: Global,
+    engine: Engine<MemDisk, MemDisk>,
+    (through, tables, cache): (u64, usize, usize),
+) -> Option<Engine<MemDisk, MemDisk>> {
+    let mut engine = engine;
+    if engine.sync_batch() != flushes(through) {
+        return None;
     }
-    Ok(())
+    let again = opened_again(alloc, engine)?;
+    let is_listed = listed_in_both(&again) == [Some((2, tables)), Some((2, cache))];
+    if is_listed && finds_after(alloc, &again, 2, &FOUND) {
+        return Some(again);
+    }
+    None
+}
+
+/// Whether it is so behind the first batch, the second, and one that flushes nothing.
+fn are_found_again(alloc: Global) -> Option<bool> {
+    let engine = two_commits(alloc)?;
+    let engine = found_again(alloc, engine, (1, 3, 3))?;
+    let engine = found_again(alloc, engine, (2, 4, 0))?;
+    let _engine = found_again(alloc, engine, (3, 4, 0))?;
+    Some(true)
+}
+
+#[test]
+fn batches_are_found_again(rt: HostRuntime) {
+    assert!(rt; are_found_again(rt.alloc()) == Some(true));
 }
 
 /// A text of so many words.
@@ -424,11 +483,17 @@ fn size_with(alloc: Global, title: &[u8]) -> Option<u64>
     size_of(behind(new_engine(alloc, 1_000), &row))
 }
 
+/// The size of the cache after a commit of 82 words of four letters.
+fn size_with_pears(alloc: Global) -> Option<u64> {
+    let Ok(pears) = pears(alloc, 82) else {
+        return None;
+    };
+    size_with(alloc, &pears)
+}
+
 #[test]
-fn the_cache_has_a_size(rt: HostRuntime) -> Result<(), Fail> {
-    let pears = pears(rt.alloc(), 82)?;
-    assert_eq!(rt; size_with(rt.alloc(), &pears), Some(1_000));
-    Ok(())
+fn the_cache_has_a_size(rt: HostRuntime) {
+    assert!(rt; size_with_pears(rt.alloc()) == Some(1_000));
 }
 
 /// What two rows of these keys are answered, where there may be so many rows and bytes of the log.
@@ -456,51 +521,67 @@ const ANSWERS: [(Key, Key, u64, u64, Result<u64, CommitError>); 5] = [
     (7, 3, 2, 114, Err(CommitError::LogFull { end: 115 })),
 ];
 
+/// What two rows of these keys are answered on a new database.
+fn answer_to(
+    alloc: Global,
+    (first, second): (Key, Key),
+    most_rows: u64,
+    log_bytes: u64,
+) -> Option<Result<u64, CommitError>> {
+    let Ok(changes) = two_rows(alloc, first, second) else {
+        return None;
+    };
+    let mut engine = new_limited(alloc, most_rows, log_bytes)?;
+    commit(&mut engine, &changes)
+}
+
 #[test]
-fn a_commit_is_answered(rt: HostRuntime) -> Result<(), Fail> {
-    let alloc = rt.alloc();
+fn a_commit_is_answered(rt: HostRuntime) {
     for (first, second, most_rows, log_bytes, want) in ANSWERS {
-        let devices = create(alloc, empty_disks(alloc)?)?;
-        let mut engine = open(alloc, devices, most_rows, log_bytes)?;
-        let changes = two_rows(alloc, first, second)?;
-        assert_eq!(rt; commit(&mut engine, &changes), Some(want));
+        let answer = answer_to(rt.alloc(), (first, second), most_rows, log_bytes);
+        assert!(rt; answer == Some(want), "of {first} and {second}");
     }
-    Ok(())
+}
+
+/// Why two devices without files can't be opened.
+fn refusal_of_none(alloc: Global) -> Option<OpenError> {
+    let disks = empty_disks(alloc).ok()?;
+    open(alloc, disks, 2, 4_096).err()
+}
+
+/// Whether the rows log is begun before a creation and behind it, and why there can't be another.
+fn created_twice(alloc: Global) -> Option<(bool, bool, Option<CreateError>)> {
+    let (mut rows, index) = empty_disks(alloc).ok()?;
+    let before = is_begun(&mut rows).ok()?;
+    let (mut rows, index) = create(alloc, (rows, index)).ok()?;
+    let behind = is_begun(&mut rows).ok()?;
+    Some((before, behind, create(alloc, (rows, index)).err()))
 }
 
 #[test]
-fn a_database_is_created_once(rt: HostRuntime) -> Result<(), Fail> {
-    let alloc = rt.alloc();
-    let (mut rows, index) = empty_disks(alloc)?;
-    assert!(rt; !is_begun(&mut rows)?);
-    let opened = open(alloc, empty_disks(alloc)?, 2, 4_096);
-    assert_eq!(rt; opened.err(), Some(OpenError::NotCreated));
-    let (mut rows, index) = create(alloc, (rows, index))?;
-    assert!(rt; is_begun(&mut rows)?);
-    assert_eq!(rt;
-        create(alloc, (rows, index)).err(),
-        Some(CreateError::AlreadyCreated)
-    );
-    Ok(())
+fn a_database_is_created_once(rt: HostRuntime) {
+    assert!(rt; refusal_of_none(rt.alloc()) == Some(OpenError::NotCreated));
+    let twice = Some(CreateError::AlreadyCreated);
+    assert!(rt; created_twice(rt.alloc()) == Some((false, true, twice)));
 }
 
-/// The error prints this.
-fn prints<E: Display>(rt: &impl Abort, alloc: Global, error: &E, text: &str) -> Result<(), Fail> {
-    let printed = format!(in alloc; "{error}")?;
-    assert_eq!(rt; printed.as_str(), text);
-    Ok(())
+/// Whether the error prints this.
+fn prints<E: Display>(alloc: Global, error: &E, text: &str) -> bool {
+    match format!(in alloc; "{error}") {
+        Ok(printed) => printed.as_str() == text,
+        Err(_) => false,
+    }
 }
 
 #[test]
-fn create_tells_why_it_failed(rt: HostRuntime) -> Result<(), Fail> {
+fn create_tells_why_it_failed(rt: HostRuntime) {
     for (error, text) in [
         (CreateError::NoMemory, "no memory"),
         (CreateError::AlreadyCreated, "already created"),
         (CreateError::DiskFault, "disk fault"),
     ] {
-        prints(&rt, rt.alloc(), &error, text)?;
+        assert!(rt; prints(rt.alloc(), &error, text), "{text}");
     }
-    Ok(())
 }
 
 /// Damage of the index log.
@@ -511,14 +592,13 @@ const DAMAGED: OpenError = OpenError::Damaged {
 };
 
 #[test]
-fn an_opening_tells_why_it_failed(rt: HostRuntime) -> Result<(), Fail> {
+fn an_opening_tells_why_it_failed(rt: HostRuntime) {
     for (error, text) in [
         (OpenError::NoMemory, "no memory"),
         (OpenError::NotCreated, "not created"),
         (DAMAGED, "damaged index file 0 at 8"),
         (OpenError::DiskFault, "disk fault"),
     ] {
-        prints(&rt, rt.alloc(), &error, text)?;
+        assert!(rt; prints(rt.alloc(), &error, text), "{text}");
     }
-    Ok(())
 }
