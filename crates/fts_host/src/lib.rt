@@ -33,6 +33,3 @@ pub use disk::HostDisk;
 pub use refusal::Refusal;
 pub use standard::OpenStreams;
 pub use streams::{StdSink, StdSource};
-
-#[cfg(test)]
-mod tests;

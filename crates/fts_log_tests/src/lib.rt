@@ -1,5 +1,5 @@
-//! Tests of lines and pieces, of the device in memory, and of logs: bytes with what they hold or
-//! where they are at fault, and what a stop in each call leaves.
+//! Tests of lines and pieces, of the devices in memory and of the system, and of logs: bytes with
+//! what they hold or where they are at fault, and what a stop in each call leaves.
 //!
 //! They stand apart so that what they test is proved once less.
 //! `rt test` in this crate's folder runs them.
@@ -7,6 +7,8 @@
 
 #[cfg(test)]
 mod disk;
+#[cfg(test)]
+mod host;
 #[cfg(test)]
 mod io;
 #[cfg(test)]
