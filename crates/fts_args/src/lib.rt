@@ -18,6 +18,3 @@ mod options;
 
 pub use asked::command_of;
 pub use command::Command;
-
-#[cfg(test)]
-mod tests;

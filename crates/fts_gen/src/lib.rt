@@ -13,6 +13,3 @@ mod generator;
 mod table;
 
 pub use generator::{ScriptLines, script};
-
-#[cfg(test)]
-mod tests;

@@ -1,10 +1,14 @@
-//! Tests of statements and replies: lines with what they are read as or where they are at fault,
-//! and replies, listings and sums byte by byte.
+//! Tests of command lines, statements and replies: lines with what they are read as or where they
+//! are at fault, scripts from a number, and replies, listings and sums byte by byte.
 //!
 //! They stand apart so that what they test is proved once less.
 //! `rt test` in this crate's folder runs them.
 #![tactic(auto)]
 
+#[cfg(test)]
+mod args;
+#[cfg(test)]
+mod generated;
 #[cfg(test)]
 mod listing;
 #[cfg(test)]

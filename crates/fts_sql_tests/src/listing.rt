@@ -3,15 +3,11 @@ use fts_listing::{Config, ListedWords, Listing};
 use fts_schema::listing_text;
 use fts_types::{DocIds, Word};
 use std::alloc::{AllocError, Global};
-use std::process::Abort;
 use std::test::Fail;
 
-fn lists(rt: &impl Abort, alloc: Global, listing: Listing, wanted: &str) -> Result<(), Fail> {
-    assert_eq!(rt;
-        listing_text(alloc, 12, &listing)?.as_slice(),
-        wanted.as_bytes()
-    );
-    Ok(())
+fn lists(alloc: Global, listing: Listing, wanted: &str) -> Result<bool, AllocError> {
+    let text = listing_text(alloc, 12, &listing)?;
+    Ok(text.as_slice() == wanted.as_bytes())
 }
 
 fn words_of(words: Nodes<'static>) -> Listing {
@@ -53,7 +49,8 @@ fn each_position_is_a_row(rt: HostRuntime) -> Result<(), Fail> {
     let alloc = rt.alloc();
     let mut words: Nodes = Vec::new(alloc);
     words.push(WordNodes::new(Word::copied(alloc, b"apple")?, groups(alloc)?))?;
-    lists(&rt, alloc, words_of(words), TWO_GROUPS)
+    assert!(rt; lists(alloc, words_of(words), TWO_GROUPS)?);
+    Ok(())
 }
 
 const TWO_WORDS: &str = "WORD|FIRST_DOC_ID|LAST_DOC_ID|DOC_COUNT|DOC_ID|POSITION
@@ -77,7 +74,8 @@ fn words_stand_one_behind_another(rt: HostRuntime) -> Result<(), Fail> {
     let mut words: Nodes = Vec::new(alloc);
     words.push(word(alloc, b"apple")?)?;
     words.push(word(alloc, b"pie")?)?;
-    lists(&rt, alloc, words_of(words), TWO_WORDS)
+    assert!(rt; lists(alloc, words_of(words), TWO_WORDS)?);
+    Ok(())
 }
 
 const NO_WORDS: &str = "WORD|FIRST_DOC_ID|LAST_DOC_ID|DOC_COUNT|DOC_ID|POSITION
@@ -86,26 +84,20 @@ OK 0 rows as of 12
 
 #[test]
 fn no_word_is_no_row(rt: HostRuntime) -> Result<(), Fail> {
-    lists(&rt, rt.alloc(), words_of(Vec::new(rt.alloc())), NO_WORDS)
+    assert!(rt; lists(rt.alloc(), words_of(Vec::new(rt.alloc())), NO_WORDS)?);
+    Ok(())
+}
+
+fn lists_ids(alloc: Global, ids: &[u64], wanted: &str) -> Result<bool, AllocError> {
+    let ids = DocIds::new(Vec::from_slice(alloc, ids)?);
+    lists(alloc, Listing::Ids { ids }, wanted)
 }
 
 #[test]
 fn each_id_is_a_row(rt: HostRuntime) -> Result<(), Fail> {
-    let alloc = rt.alloc();
-    let ids = DocIds::new(vec![in alloc; 7; 1]?);
-    lists(
-        &rt,
-        alloc,
-        Listing::Ids { ids },
-        "DOC_ID\n7\nOK 1 rows as of 12\n",
-    )?;
-    let ids = DocIds::new(Vec::new(alloc));
-    lists(
-        &rt,
-        alloc,
-        Listing::Ids { ids },
-        "DOC_ID\nOK 0 rows as of 12\n",
-    )
+    assert!(rt; lists_ids(rt.alloc(), &[7], "DOC_ID\n7\nOK 1 rows as of 12\n")?);
+    assert!(rt; lists_ids(rt.alloc(), &[], "DOC_ID\nOK 0 rows as of 12\n")?);
+    Ok(())
 }
 
 /// Settings of a database of which two commits are flushed.
@@ -146,8 +138,9 @@ OK 6 rows as of 12
 fn each_setting_is_a_row(rt: HostRuntime) -> Result<(), Fail> {
     let alloc = rt.alloc();
     let word = Word::copied(alloc, b"pie")?;
-    lists(&rt, alloc, config(true, None), BEFORE_A_PASS)?;
-    lists(&rt, alloc, config(false, Some(word)), WITHIN_A_PASS)
+    assert!(rt; lists(alloc, config(true, None), BEFORE_A_PASS)?);
+    assert!(rt; lists(alloc, config(false, Some(word)), WITHIN_A_PASS)?);
+    Ok(())
 }
 
 const STOPWORDS: &str = "value
@@ -158,5 +151,6 @@ OK 36 rows as of 12
 
 #[test]
 fn each_stopword_is_a_row(rt: HostRuntime) -> Result<(), Fail> {
-    lists(&rt, rt.alloc(), Listing::Stopwords, STOPWORDS)
+    assert!(rt; lists(rt.alloc(), Listing::Stopwords, STOPWORDS)?);
+    Ok(())
 }

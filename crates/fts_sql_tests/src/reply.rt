@@ -2,32 +2,41 @@ use fts_commits::Refusal;
 use fts_listing::Listing;
 use fts_schema::{Reply, created_text, reply_text};
 use fts_types::{DocIds, Text};
-use std::alloc::Global;
-use std::process::Abort;
+use std::alloc::{AllocError, Global};
 use std::test::Fail;
 
-fn tells(rt: &impl Abort, alloc: Global, reply: Reply, wanted: &str) -> Result<(), Fail> {
-    assert_eq!(rt; reply_text(alloc, &reply)?.as_slice(), wanted.as_bytes());
-    Ok(())
+fn tells(alloc: Global, reply: &Reply, wanted: &str) -> Result<bool, AllocError> {
+    let text = reply_text(alloc, reply)?;
+    Ok(text.as_slice() == wanted.as_bytes())
 }
 
-fn found(rt: &impl Abort, alloc: Global, docs: &[u64], wanted: &str) -> Result<(), Fail> {
+fn found(alloc: Global, docs: &[u64], wanted: &str) -> Result<bool, AllocError> {
     let docs = DocIds::new(Vec::from_slice(alloc, docs)?);
-    tells(rt, alloc, Reply::Found { number: 3, docs }, wanted)
+    tells(alloc, &Reply::Found { number: 3, docs }, wanted)
 }
 
 #[test]
 fn a_search_is_told(rt: HostRuntime) -> Result<(), Fail> {
     let alloc = rt.alloc();
-    found(&rt, alloc, &[], "OK as of 3: none\n")?;
-    found(&rt, alloc, &[1], "OK as of 3: 1\n")?;
-    found(&rt, alloc, &[1, 2, 30], "OK as of 3: 1 2 30\n")
+    assert!(rt; found(alloc, &[], "OK as of 3: none\n")?);
+    assert!(rt; found(alloc, &[1], "OK as of 3: 1\n")?);
+    assert!(rt; found(alloc, &[1, 2, 30], "OK as of 3: 1 2 30\n")?);
+    Ok(())
+}
+
+// Each of these is told so.
+fn are_told(alloc: Global, rows: &[(Reply, &str)]) -> Result<bool, AllocError> {
+    for (reply, wanted) in rows {
+        if !tells(alloc, reply, wanted)? {
+            return Ok(false);
+        }
+    }
+    Ok(true)
 }
 
 #[test]
 fn numbers_are_told(rt: HostRuntime) -> Result<(), Fail> {
-    let alloc = rt.alloc();
-    for (reply, wanted) in [
+    let rows = [
         (Reply::Committed { number: 1 }, "OK commit 1\n"),
         (
             Reply::CommittedAndBegun { number: 2 },
@@ -77,9 +86,8 @@ fn numbers_are_told(rt: HostRuntime) -> Result<(), Fail> {
             Reply::Stopped { faults: 1 },
             "ERROR stopped after 1 disk faults\n",
         ),
-    ] {
-        tells(&rt, alloc, reply, wanted)?;
-    }
+    ];
+    assert!(rt; are_told(rt.alloc(), &rows)?);
     Ok(())
 }
 
@@ -122,39 +130,41 @@ const REFUSALS: [(Refusal, &str); 6] = [
 #[test]
 fn refusals_of_a_commit_are_told(rt: HostRuntime) -> Result<(), Fail> {
     for (refusal, wanted) in REFUSALS {
-        tells(&rt, rt.alloc(), Reply::Refused { refusal }, wanted)?;
+        assert!(rt; tells(rt.alloc(), &Reply::Refused { refusal }, wanted)?);
     }
     Ok(())
 }
 
+fn no_table(alloc: Global, name: &[u8], wanted: &str) -> Result<bool, AllocError> {
+    let name = Text::new(Vec::from_slice(alloc, name)?);
+    tells(alloc, &Reply::NoSuchTable { name }, wanted)
+}
+
+fn no_column(alloc: Global, name: &[u8], wanted: &str) -> Result<bool, AllocError> {
+    let name = Text::new(Vec::from_slice(alloc, name)?);
+    tells(alloc, &Reply::NoSuchColumn { name }, wanted)
+}
+
 #[test]
 fn a_name_is_told_as_it_is_written(rt: HostRuntime) -> Result<(), Fail> {
-    let alloc = rt.alloc();
-    let name = Text::new(Vec::from_slice(alloc, b"Books")?);
-    tells(
-        &rt,
-        alloc,
-        Reply::NoSuchTable { name },
-        "ERROR no such table Books\n",
-    )?;
-    let name = Text::new(Vec::from_slice(alloc, b"nope")?);
-    tells(
-        &rt,
-        alloc,
-        Reply::NoSuchColumn { name },
-        "ERROR no such column nope\n",
-    )
+    assert!(rt; no_table(rt.alloc(), b"Books", "ERROR no such table Books\n")?);
+    assert!(rt; no_column(rt.alloc(), b"nope", "ERROR no such column nope\n")?);
+    Ok(())
+}
+
+fn listing_ends(alloc: Global, wanted: &[u8]) -> Result<bool, AllocError> {
+    let listing = Listing::Stopwords;
+    let reply = reply_text(alloc, &Reply::Listed { number: 3, listing })?;
+    Ok(reply.as_slice().ends_with(wanted))
 }
 
 #[test]
 fn a_listing_is_told(rt: HostRuntime) -> Result<(), Fail> {
-    let listing = Listing::Stopwords;
-    let reply = reply_text(rt.alloc(), &Reply::Listed { number: 3, listing })?;
-    assert!(rt; reply.as_slice().ends_with(b"www\nOK 36 rows as of 3\n"));
+    assert!(rt; listing_ends(rt.alloc(), b"www\nOK 36 rows as of 3\n")?);
     Ok(())
 }
 
 #[test]
 fn the_making_is_told(rt: HostRuntime) {
-    assert_eq!(rt; created_text(), "OK created\n");
+    assert!(rt; created_text() == "OK created\n");
 }

@@ -26,13 +26,13 @@ const SESSIONS: [(&str, u32); 22] = [
     (": BEGIN", 1),
 ];
 
+fn is_of(line: &str, wanted: u32) -> bool {
+    session_of(line.as_bytes()).unwrap_or(0) == wanted
+}
+
 #[test]
 fn lines_have_sessions(rt: HostRuntime) {
     for (line, wanted) in SESSIONS {
-        assert_eq!(rt;
-            session_of(line.as_bytes()).unwrap_or(0),
-            wanted,
-            "in {line}"
-        );
+        assert!(rt; is_of(line, wanted), "in {line}");
     }
 }

@@ -1,4 +1,4 @@
-use crate::{Command, command_of};
+use fts_args::{Command, command_of};
 use fts_types::Settings;
 use std::alloc::{AllocError, Global};
 use std::test::Fail;
@@ -82,11 +82,18 @@ const CREATED: [(&str, [u32; 6]); 11] = [
     ),
 ];
 
+/// Whether a line asks for a database with these numbers.
+fn has_numbers(alloc: Global, line: &str, want: [u32; 6]) -> Result<bool, AllocError> {
+    match created(alloc, line)? {
+        Some(settings) => Ok(numbers_of(&settings) == want),
+        None => Ok(false),
+    }
+}
+
 #[test]
 fn settings_are_what_the_options_say(rt: HostRuntime) -> Result<(), Fail> {
     for (line, want) in CREATED {
-        let settings = created(rt.alloc(), line)?.ok_or(line)?;
-        assert_eq!(rt; numbers_of(&settings), want, "at {line}");
+        assert!(rt; has_numbers(rt.alloc(), line, want)?, "at {line}");
     }
     Ok(())
 }
@@ -112,12 +119,18 @@ const COLUMNS: [(&str, &str); 5] = [
     ),
 ];
 
+/// Whether a line asks for a database with these columns.
+fn has_columns(alloc: Global, line: &str, want: &str) -> Result<bool, AllocError> {
+    match created(alloc, line)? {
+        Some(settings) => Ok(named(alloc, &settings)?.as_slice() == want.as_bytes()),
+        None => Ok(false),
+    }
+}
+
 #[test]
 fn columns_are_cut_at_commas(rt: HostRuntime) -> Result<(), Fail> {
     for (line, want) in COLUMNS {
-        let settings = created(rt.alloc(), line)?.ok_or(line)?;
-        let names = named(rt.alloc(), &settings)?;
-        assert_eq!(rt; names.as_slice(), want.as_bytes(), "at {line}");
+        assert!(rt; has_columns(rt.alloc(), line, want)?, "at {line}");
     }
     Ok(())
 }
@@ -191,11 +204,16 @@ fn faulty_lines_ask_for_nothing(rt: HostRuntime) -> Result<(), Fail> {
     Ok(())
 }
 
+/// Whether a line with an empty word behind it asks for nothing.
+fn is_usage_before_nothing(alloc: Global, line: &str) -> Result<bool, AllocError> {
+    let mut words = words_of(alloc, line)?;
+    words.push(String::new(alloc))?;
+    Ok(command_of(alloc, words.as_slice())?.is_none())
+}
+
 #[test]
 fn an_empty_word_is_no_list_of_columns(rt: HostRuntime) -> Result<(), Fail> {
-    let mut words = words_of(rt.alloc(), "D create --columns")?;
-    words.push(String::new(rt.alloc()))?;
-    assert!(rt; command_of(rt.alloc(), words.as_slice())?.is_none());
+    assert!(rt; is_usage_before_nothing(rt.alloc(), "D create --columns")?);
     Ok(())
 }
 
@@ -207,17 +225,22 @@ const GENERATED: [(&str, u16, u32); 5] = [
     ("D gen -- 7 5", 7, 5),
 ];
 
+/// Whether a line asks for a script of this number and count.
+fn is_gen(alloc: Global, line: &str, want: (u16, u32)) -> Result<bool, AllocError> {
+    let words = words_of(alloc, line)?;
+    match command_of(alloc, words.as_slice())? {
+        Some(Command::Gen { seed, count }) => Ok((seed, count) == want),
+        _ => Ok(false),
+    }
+}
+
 #[test]
 fn gen_has_two_numbers(rt: HostRuntime) -> Result<(), Fail> {
     for (line, want_seed, want_count) in GENERATED {
-        let words = words_of(rt.alloc(), line)?;
-        match command_of(rt.alloc(), words.as_slice())? {
-            Some(Command::Gen { seed, count }) => assert!(rt;
-                seed == want_seed && count == want_count,
-                "at {line}"
-            ),
-            _ => assert!(rt; false, "at {line}"),
-        }
+        assert!(rt;
+            is_gen(rt.alloc(), line, (want_seed, want_count))?,
+            "at {line}"
+        );
     }
     Ok(())
 }
@@ -244,14 +267,14 @@ fn faulty_scripts_ask_for_nothing(rt: HostRuntime) -> Result<(), Fail> {
     Ok(())
 }
 
+fn is_run(alloc: Global, line: &str) -> Result<bool, AllocError> {
+    let words = words_of(alloc, line)?;
+    let command = command_of(alloc, words.as_slice())?;
+    Ok(matches!(command, Some(Command::Run)))
+}
+
 #[test]
 fn run_is_asked_for(rt: HostRuntime) -> Result<(), Fail> {
-    let words = words_of(rt.alloc(), "D run")?;
-    assert!(rt;
-        matches!(
-            command_of(rt.alloc(), words.as_slice())?,
-            Some(Command::Run)
-        )
-    );
+    assert!(rt; is_run(rt.alloc(), "D run")?);
     Ok(())
 }
