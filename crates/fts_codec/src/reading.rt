@@ -52,33 +52,3 @@ pub fn bytes_at(bytes: &[u8], count: usize) -> Option<(&[u8], &[u8])>
     }
     Some(bytes.split_at(count))
 }
-
-#[cfg(test)]
-mod tests {
-    use super::*;
-
-    #[test]
-    fn numbers_are_read_at_their_ends(rt: HostRuntime) {
-        assert!(rt; matches!(u16_at(&[0, 0]), Some((0, []))));
-        assert!(rt; matches!(u16_at(&[1, 2, 3]), Some((258, [3]))));
-        assert!(rt; matches!(u16_at(&[255; 2]), Some((u16::MAX, []))));
-        assert!(rt; matches!(u32_at(&[0; 4]), Some((0, []))));
-        assert!(rt; matches!(u32_at(&[1, 2, 3, 4, 5]), Some((16_909_060, [5]))));
-        assert!(rt; matches!(u32_at(&[255; 4]), Some((u32::MAX, []))));
-        assert!(rt; matches!(u64_at(&[0; 8]), Some((0, []))));
-        assert!(rt;
-            matches!(
-                u64_at(&[0, 0, 0, 0, 1, 2, 3, 4, 5]),
-                Some((16_909_060, [5]))
-            )
-        );
-        assert!(rt; matches!(u64_at(&[255; 8]), Some((u64::MAX, []))));
-    }
-
-    #[test]
-    fn a_number_that_is_cut_is_none(rt: HostRuntime) {
-        assert!(rt; u16_at(&[255]).is_none());
-        assert!(rt; u32_at(&[255; 3]).is_none());
-        assert!(rt; u64_at(&[255; 7]).is_none());
-    }
-}

@@ -49,25 +49,3 @@ pub fn put_bytes(buf: &mut [u8], bytes: &[u8]) -> usize
     buf[..bytes.len()].copy_from_slice(bytes);
     bytes.len()
 }
-
-#[cfg(test)]
-mod tests {
-    use super::*;
-
-    #[test]
-    fn numbers_are_written_at_their_ends(rt: HostRuntime) {
-        let mut buf = [9; 9];
-        assert_eq!(rt; put_u8(&mut buf, 255), 1);
-        assert_eq!(rt; put_u16(&mut buf[1..], 258), 2);
-        assert_eq!(rt; put_u32(&mut buf[3..], 0), 4);
-        assert_eq!(rt; put_u16(&mut buf[7..], u16::MAX), 2);
-        assert_eq!(rt; buf, [255, 1, 2, 0, 0, 0, 0, 255, 255]);
-        assert_eq!(rt; put_u64(&mut buf, u64::MAX), 8);
-        assert_eq!(rt; buf, [255; 9]);
-        assert_eq!(rt; put_u64(&mut buf, 16_909_060), 8);
-        assert_eq!(rt; put_u32(&mut buf, u32::MAX), 4);
-        assert_eq!(rt; buf, [255, 255, 255, 255, 1, 2, 3, 4, 255]);
-        assert_eq!(rt; put_u8(&mut buf, 0), 1);
-        assert_eq!(rt; buf[0], 0);
-    }
-}

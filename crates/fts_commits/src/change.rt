@@ -75,22 +75,3 @@ impl NewTexts {
         self.texts.len()
     }
 }
-
-#[cfg(test)]
-mod tests {
-    use super::*;
-    use std::test::Fail;
-
-    #[test]
-    fn new_texts_are_found_by_place(rt: HostRuntime) -> Result<(), Fail> {
-        let alloc = rt.alloc();
-        let text = Vec::from_slice(alloc, b"ab")?;
-        let texts = NewTexts::from_vec(vec![in alloc; None, Some(text)]?);
-        if texts.len() == 2 {
-            assert!(rt; texts.text(0).is_none());
-            assert!(rt; texts.text(1) == Some(b"ab".as_slice()));
-        }
-        assert_eq!(rt; texts.len(), 2);
-        Ok(())
-    }
-}

@@ -20,6 +20,3 @@ pub use lists::{both, first_alone, united};
 pub use pairs::{common, without};
 pub use unions::{union, union_all};
 pub use walk::IdWalk;
-
-#[cfg(test)]
-mod tests;

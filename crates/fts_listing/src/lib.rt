@@ -16,6 +16,3 @@ mod listing;
 pub use kind::ListingKind;
 pub use laws::a_view_lists_one_thing;
 pub use listing::{Config, ListedWords, Listing, NumberedListing};
-
-#[cfg(test)]
-mod tests;

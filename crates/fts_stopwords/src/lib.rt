@@ -100,29 +100,3 @@ impl StopSet {
         }
     }
 }
-
-#[cfg(test)]
-mod tests {
-    use super::*;
-
-    #[test]
-    fn sets_have_their_words(rt: HostRuntime) {
-        assert_eq!(rt; default_words().len(), 36);
-        for word in default_words() {
-            assert!(rt; StopSet::Default.contains(word.as_bytes()), "{word}");
-            assert!(rt; !StopSet::Empty.contains(word.as_bytes()), "{word}");
-        }
-        assert!(rt; StopSet::Default.contains_lowered(b"ThE"));
-        assert!(rt; !StopSet::Default.contains(b"ThE"));
-        assert!(rt; !StopSet::Default.contains_lowered(b"apple"));
-    }
-
-    #[test]
-    fn words_of_a_text_are_looked_up(rt: HostRuntime) {
-        let text = b"ThE thee whERE".as_slice();
-        assert!(rt; StopSet::Default.contains_lowered_at(text, &Span { from: 0, to: 3 }));
-        assert!(rt; !StopSet::Default.contains_lowered_at(text, &Span { from: 4, to: 8 }));
-        assert!(rt; StopSet::Default.contains_lowered_at(text, &Span { from: 9, to: 14 }));
-        assert!(rt; !StopSet::Empty.contains_lowered_at(text, &Span { from: 0, to: 3 }));
-    }
-}

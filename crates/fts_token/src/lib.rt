@@ -19,8 +19,6 @@ mod lower;
 mod marks;
 mod placed;
 mod raw;
-#[cfg(test)]
-mod tests;
 mod words;
 
 pub use indexable::is_indexable;

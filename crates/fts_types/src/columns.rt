@@ -106,28 +106,3 @@ pub(crate) fn are_columns(names: &Names) -> bool
     }
     are_distinct(names.as_slice())
 }
-
-#[cfg(test)]
-mod tests {
-    use super::*;
-    use std::test::*;
-
-    #[test]
-    fn tells_the_names_of_columns(rt: HostRuntime) {
-        for (name, want) in [
-            ("body", true),
-            ("b", true),
-            ("a_1", true),
-            ("abcdefghijklmnopqrstuvwxyzabcdef", true),
-            ("abcdefghijklmnopqrstuvwxyzabcdefg", false),
-            ("", false),
-            ("1a", false),
-            ("_a", false),
-            ("Body", false),
-            ("id", false),
-            ("fts_doc_id", false),
-        ] {
-            assert_eq!(rt; is_column_name(name.as_bytes()), want, "at {name}");
-        }
-    }
-}

@@ -26,16 +26,3 @@ impl Limits {
         }
     }
 }
-
-#[cfg(test)]
-mod tests {
-    use super::*;
-
-    #[test]
-    fn a_database_has_a_million_rows_and_four_gibibytes(rt: HostRuntime) {
-        let limits = Limits::standard();
-        assert_eq!(rt; limits.rows, 1_000_000);
-        assert_eq!(rt; limits.ids, i64::MAX as u64);
-        assert_eq!(rt; limits.log_bytes, 1 << 32);
-    }
-}

@@ -44,22 +44,3 @@ impl SharedTexts {
         self.texts.clone()
     }
 }
-
-#[cfg(test)]
-mod tests {
-    use super::*;
-    use std::test::Fail;
-
-    #[test]
-    fn shared_texts_are_held_beyond_the_first_holder(rt: HostRuntime) -> Result<(), Fail> {
-        let alloc = rt.alloc();
-        let mut texts = RowTexts::new(alloc);
-        texts.push(b"pear".to_vec(alloc)?)?;
-        let shared = SharedTexts::new(alloc, texts)?;
-        let held = shared.pointer()?;
-        assert_eq!(rt; shared.texts().size(), Some(4));
-        drop(shared);
-        assert_eq!(rt; held.size(), Some(4));
-        Ok(())
-    }
-}

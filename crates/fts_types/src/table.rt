@@ -30,24 +30,3 @@ pub fn tables_rise()
         → slice_index next 0 ≤ 122 → table_of word ≤ table_of next }
     ensures behind { (word : List ℕ) → 122 < slice_index word 0 → table_of word ≡ 1 }
 {}
-
-#[cfg(test)]
-mod tests {
-    use super::*;
-
-    #[test]
-    fn words_lie_in_their_tables(rt: HostRuntime) {
-        let words: [(&[u8], u8); 7] = [
-            (b"9ab", 1),
-            (b"_x1", 1),
-            (b"elk", 2),
-            (b"jay", 3),
-            (b"owl", 4),
-            (b"pony", 5),
-            (b"yak", 6),
-        ];
-        for (word, table) in words {
-            assert_eq!(rt; partition_of(word), table, "{word:?}");
-        }
-    }
-}

@@ -123,25 +123,3 @@ impl Texts {
         self.texts.push(text)
     }
 }
-
-#[cfg(test)]
-mod tests {
-    use super::*;
-    use std::test::Fail;
-
-    #[test]
-    fn texts_are_kept(rt: HostRuntime) -> Result<(), Fail> {
-        let alloc = rt.alloc();
-        let mut texts = Texts::new(alloc);
-        assert!(rt; texts.is_empty() && !texts.is_row());
-        texts.push(b"a test".to_vec(alloc)?)?;
-        texts.push(b"phrase b".to_vec(alloc)?)?;
-        assert_eq!(rt; texts.len(), 2);
-        assert!(rt; texts.is_row());
-        let texts = Texts::from_vec(texts.into_vec());
-        assert_eq!(rt; texts.len(), 2);
-        assert_eq!(rt; texts.text(1), b"phrase b".as_slice());
-        assert_eq!(rt; texts.size(), Some(14));
-        Ok(())
-    }
-}

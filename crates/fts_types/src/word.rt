@@ -148,25 +148,3 @@ impl<'a> Equivalent<Word> for WordBytes<'a> {
         self.bytes == key.as_bytes()
     }
 }
-
-#[cfg(test)]
-mod tests {
-    use super::*;
-    use std::test::Fail;
-
-    #[test]
-    fn words_are_in_byte_order(rt: HostRuntime) -> Result<(), Fail> {
-        let alloc = rt.alloc();
-        let app = Word::copied(alloc, b"app")?;
-        let apple = Word::from_vec(b"apple".to_vec(alloc)?);
-        let b = Word::copied(alloc, b"b")?;
-        assert!(rt; app < apple && apple < b && app != apple);
-        assert!(rt; Word::copied(alloc, app.as_bytes())? == app);
-        assert_eq!(rt; apple.as_bytes(), b"apple".as_slice());
-        let long = Word::copied(alloc, b"deoxyribonucleic")?;
-        let longer = Word::from_vec(b"deoxyribonucleics".to_vec(alloc)?);
-        assert!(rt; long < longer);
-        assert_eq!(rt; longer.as_bytes(), b"deoxyribonucleics".as_slice());
-        Ok(())
-    }
-}

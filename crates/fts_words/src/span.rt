@@ -35,16 +35,3 @@ impl Span {
         &text[self.from..self.to]
     }
 }
-
-#[cfg(test)]
-mod tests {
-    use super::*;
-
-    #[test]
-    fn a_span_has_its_bytes(rt: HostRuntime) {
-        let span = Span { from: 4, to: 9 };
-        assert_eq!(rt; span.len(), 5);
-        assert!(rt; !span.is_empty());
-        assert_eq!(rt; span.of(b"The apple, the juice"), b"apple".as_slice());
-    }
-}

@@ -1,5 +1,6 @@
-use crate::{Config, ListedWords, Listing, NumberedListing};
+//! What a view of the index lists.
 use fts_ilist::{Ilist, Node, NodeGroup, Nodes, WordNodes};
+use fts_listing::{Config, ListedWords, Listing, NumberedListing};
 use fts_types::{DocIds, Word};
 use std::alloc::{AllocError, Global};
 use std::test::Fail;
@@ -32,12 +33,11 @@ fn words_are_listed(rt: HostRuntime) -> Result<(), Fail> {
         number: 9,
         listing: Listing::Words { words },
     };
-    assert_eq!(rt; (listed.number, shown(&listed.listing)), (9, ('w', 1)));
+    assert!(rt; (listed.number, shown(&listed.listing)) == (9, ('w', 1)));
     Ok(())
 }
 
-#[test]
-fn numbers_and_stopwords_are_listed(rt: HostRuntime) {
+fn is_config_listed() -> bool {
     let config = Config {
         min: 3,
         max: 84,
@@ -46,13 +46,18 @@ fn numbers_and_stopwords_are_listed(rt: HostRuntime) {
         synced: 5,
         checkpoint: None,
     };
-    assert_eq!(rt; shown(&Listing::Config { config }), ('c', 3));
-    assert_eq!(rt; shown(&Listing::Stopwords), ('s', 0));
+    shown(&Listing::Config { config }) == ('c', 3)
+}
+
+#[test]
+fn numbers_and_stopwords_are_listed(rt: HostRuntime) {
+    assert!(rt; is_config_listed());
+    assert!(rt; shown(&Listing::Stopwords) == ('s', 0));
 }
 
 #[test]
 fn ids_are_listed(rt: HostRuntime) -> Result<(), Fail> {
     let ids = DocIds::new(vec![in rt.alloc(); 4; 2]?);
-    assert_eq!(rt; shown(&Listing::Ids { ids }), ('i', 2));
+    assert!(rt; shown(&Listing::Ids { ids }) == ('i', 2));
     Ok(())
 }
