@@ -12,7 +12,8 @@ use Rattle.fts_commits.specs.declared.change.Change.TheVariants as change
 use Rattle.fts_sql.specs.Token.{Token, name, number, string, mark, IsSpelling}
 use Rattle.fts_sql.specs.Line.{Placed, placed, Ending, whole, Reads}
 use Rattle.fts_sql.specs.Table.{taken_by, Are, Often, Part, Once, Optional, Repeated, Says}
-use Rattle.fts_sql.specs.Statement.{values_in, strings_in, first_number, table_of, statement_of, tokens_in, IsStatement}
+use Rattle.fts_sql.specs.Statement.{values_in, strings_in, first_number, statement_of, tokens_in, IsStatement}
+use Rattle.fts_sql.specs.Grammar.{table_of}
 use Rattle.fts_sql.specs.declared.form.Form.{Form}
 use Rattle.fts_sql.specs.declared.form.Form.TheVariants as form
 use Rattle.fts_sql.specs.declared.piece.Piece.{Piece}

@@ -12,7 +12,8 @@ use Rattle.fts_sql.specs.declared.form.Form.{Form}
 use Rattle.fts_sql.specs.declared.form.Form.TheVariants as form
 use Rattle.fts_sql.specs.declared.form.TheConstants.{FORMS}
 use Rattle.fts_sql.specs.Table.{taken_by, Says}
-use Rattle.fts_sql.specs.Statement.{table_of, Writes}
+use Rattle.fts_sql.specs.Statement.{Writes}
+use Rattle.fts_sql.specs.Grammar.{table_of}
 use Rattle.fts_sql.specs.Session.{IsNumbered, IsSession}
 use Rattle.fts_sql.specs.Fault.{Viable}
 use Rattle.fts_sql.specs.Reader.{is_table, Spot, SaysFrom, behind, ends}

@@ -11,7 +11,8 @@ use Rattle.fts_sql.specs.declared.form.Form.TheVariants as form
 use Rattle.fts_sql.specs.declared.form.TheConstants.{FORMS}
 use Rattle.fts_sql.specs.declared.piece.Piece.TheVariants.{Mark, Session}
 use Rattle.fts_sql.specs.Table.{Says, Part, Optional}
-use Rattle.fts_sql.specs.Statement.{table_of, statement_of, Writes}
+use Rattle.fts_sql.specs.Statement.{statement_of, Writes}
+use Rattle.fts_sql.specs.Grammar.{table_of}
 use Rattle.fts_sql.specs.Fault.{Viable}
 use Rattle.fts_sql.specs.Reader.{is_table, can_end, Begins, IsReached, IsFurthest}
 use Rattle.fts_sql.proofs.Tables.{one_taken, spot_completes, spot_end, are_parted, parted_behind}

@@ -1,6 +1,7 @@
 pub mod Token
 pub mod Line
 pub mod Table
+pub mod Grammar
 pub mod Statement
 pub mod Session
 pub mod Fault

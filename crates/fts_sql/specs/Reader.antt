@@ -6,7 +6,8 @@ use Rattle.fts_sql.specs.Token.{Token}
 use Rattle.fts_sql.specs.Line.{Placed, Ending, whole, unreadable}
 use Rattle.fts_sql.specs.Fault.{Viable, IsMisplaced, IsCutShort, IsFaultAt}
 use Rattle.fts_sql.specs.Reading.{token_of}
-use Rattle.fts_sql.specs.Statement.{tokens_in, IsStatement, Writes, table_of}
+use Rattle.fts_sql.specs.Statement.{tokens_in, IsStatement, Writes}
+use Rattle.fts_sql.specs.Grammar.{table_of}
 use Rattle.fts_sql.specs.Table.{letters, is_piece, Are, Says, Part, Once, Optional, Repeated, parts_of}
 use Rattle.fts_sql.specs.declared.piece.Piece.{Piece}
 use Rattle.fts_sql.specs.declared.piece.Piece.TheVariants.{Keyword, Mark, Session}

@@ -6,11 +6,10 @@ use Rattle.fts_sql.specs.declared.statement.Statement.TheVariants.{Insert, Updat
 use Rattle.fts_sql.specs.declared.statement.Statement.TheVariants.{List as ListView, Begin, Commit, Rollback}
 use Rattle.fts_sql.specs.declared.form.Form.{Form}
 use Rattle.fts_sql.specs.declared.form.Form.TheVariants as form
-use Rattle.fts_sql.specs.declared.form.TheConstants.{INSERT, UPDATE, DELETE, MATCH, SYNC, OPTIMIZE, LIST}
-use Rattle.fts_sql.specs.declared.form.TheConstants.{BEGIN, START, COMMIT, ROLLBACK}
 use Rattle.fts_sql.specs.Token.{Token, name, number, string, mark}
 use Rattle.fts_sql.specs.Line.{Placed, placed, whole, Reads}
-use Rattle.fts_sql.specs.Table.{Says, Part, parts_of}
+use Rattle.fts_sql.specs.Table.{Says}
+use Rattle.fts_sql.specs.Grammar.{table_of}
 
 -- the names among some tokens, in their order
 abbrev pub names_in : List Token → List (List ℕ)
@@ -56,20 +55,6 @@ first_number (name written ∷ tokens) = first_number tokens
 first_number (number n ∷ tokens) = n
 first_number (string text ∷ tokens) = first_number tokens
 first_number (mark b ∷ tokens) = first_number tokens
-
--- the table of each form
-abbrev pub table_of : Form → List Part
-table_of form.Insert = parts_of INSERT
-table_of form.Update = parts_of UPDATE
-table_of form.Delete = parts_of DELETE
-table_of form.Match = parts_of MATCH
-table_of form.Sync = parts_of SYNC
-table_of form.Optimize = parts_of OPTIMIZE
-table_of form.List = parts_of LIST
-table_of form.Begin = parts_of BEGIN
-table_of form.Start = parts_of START
-table_of form.Commit = parts_of COMMIT
-table_of form.Rollback = parts_of ROLLBACK
 
 -- the statement of a form that takes these tokens
 abbrev pub statement_of : Form → List Token → Statement

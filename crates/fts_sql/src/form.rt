@@ -3,7 +3,8 @@
 
 ghost use Rattle.std.specs.Prelude.{◌≡◌, map, IfOk};
 ghost use Rattle.fts_sql.specs.Reading.{token_of};
-ghost use Rattle.fts_sql.specs.Statement.{table_of, statement_of};
+ghost use Rattle.fts_sql.specs.Statement.{statement_of};
+ghost use Rattle.fts_sql.specs.Grammar.{table_of};
 ghost use Rattle.fts_sql.specs.Reader.{tokens_at, IsRead};
 
 use crate::copy::{

@@ -3,7 +3,7 @@ use Rattle.fts_sql.specs.declared.form.TheConstants.{FORMS}
 use Rattle.fts_sql.specs.declared.form.Form.TheVariants.{Insert}
 use Rattle.fts_sql.specs.Fault.{Viable}
 use Rattle.fts_sql.specs.Reading.{token_of}
-use Rattle.fts_sql.specs.Statement.{table_of}
+use Rattle.fts_sql.specs.Grammar.{table_of}
 use Rattle.fts_sql.specs.Reader.{tokens_at, IsReached}
 use Rattle.fts_sql.proofs.Written.{viable_nothing, viable_of, past_later, past_more, past_reached, furthest}
 use Rattle.fts_sql.proofs.found.find.Goals as goal

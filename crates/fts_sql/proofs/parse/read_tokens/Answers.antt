@@ -1,6 +1,7 @@
 use Rattle.std.proofs.Common.{[], map, refl, sym, ap, ◌∙◌, subst, inl, inr}
 use Rattle.fts_sql.specs.Fault.{Viable}
-use Rattle.fts_sql.specs.Statement.{table_of, statement_of}
+use Rattle.fts_sql.specs.Statement.{statement_of}
+use Rattle.fts_sql.specs.Grammar.{table_of}
 use Rattle.fts_sql.specs.Table.{Says}
 use Rattle.fts_sql.specs.Reading.{ending_of, token_of}
 use Rattle.fts_sql.specs.Reader.{tokens_at, IsFoundIn}

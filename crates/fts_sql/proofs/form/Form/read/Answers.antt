@@ -1,5 +1,5 @@
 use Rattle.std.proofs.Common.{IfOk, sym, subst}
-use Rattle.fts_sql.specs.Statement.{table_of}
+use Rattle.fts_sql.specs.Grammar.{table_of}
 use Rattle.fts_sql.specs.Reader.{tokens_at, IsRead}
 use Rattle.fts_sql.proofs.form.Form.read.Goals as goal
 
