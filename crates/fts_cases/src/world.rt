@@ -3,8 +3,8 @@ use crate::script::Script;
 use fts_types::Limits;
 use std::alloc::{AllocError, Global};
 
-/// A stream that fails at one of its calls, by the number of this call from 1, and takes or gives so
-/// many bytes a call.
+/// A stream that fails at one of its calls, by the number of this call from 1, and takes or gives
+/// so many bytes a call.
 #[derive(Clone, Copy)]
 pub struct Faulty {
     pub call: u64,

@@ -14,7 +14,8 @@ use Rattle.fts_core.specs.declared.world.Place.TheVariants.{Closed}
 use Rattle.fts_core.specs.declared.world.World.{World}
 use Rattle.fts_core.specs.World.{moments}
 use Rattle.fts_core.specs.Parts.{behind}
-use Rattle.fts_core.specs.Core.{HasRightIndex, Fits}
+use Rattle.fts_steps.specs.Right.{HasRightIndex}
+use Rattle.fts_core.specs.Core.{Fits}
 use Rattle.fts_core.specs.Lists.{AreCreated, created_core}
 use Rattle.fts_core.proofs.Between.{since_now}
 use Rattle.fts_core.proofs.Right.{AllKnown, sure_right}

@@ -14,16 +14,19 @@ use Rattle.fts_steps.specs.Crash.{MayHold, MayHoldIndex, IsBetween, IsIndexBetwe
 use Rattle.fts_steps.specs.Step.{Ask, to_commit, Answer, committed, disk_fault, MayAnswer, after, changes_of, Leaves}
 use Rattle.fts_steps.specs.Step as step
 use Rattle.fts_engine.specs.declared.engine.Engine.{Engine}
-use Rattle.fts_engine.specs.Stands.{Stands, engine_sight, engine_limits, rows_device, index_device}
+use Rattle.fts_engine.specs.Stands.{Holds, engine_sight, engine_limits, rows_device, index_device}
 use Rattle.fts_core.specs.declared.world.Last.{Last}
 use Rattle.fts_core.specs.declared.world.Last.TheVariants.{Acknowledged}
 use Rattle.fts_core.specs.declared.world.Place.TheVariants.{Open}
 use Rattle.fts_core.specs.declared.world.World.{World}
 use Rattle.fts_core.specs.World.{Moments, moments}
 use Rattle.fts_core.specs.Parts.{world_of, behind}
-use Rattle.fts_core.specs.Core.{Core, Fits, HasRightIndex}
+use Rattle.fts_steps.specs.Right.{HasRightIndex}
+use Rattle.fts_core.specs.Core.{Core, Fits}
 use Rattle.fts_core.specs.Turns.{MakesStep, doubting}
 use Rattle.fts_core.proofs.Between.{IsOne, sure_holds, sure_index, within_commit, within_entry, since_began, since_now}
+use Rattle.fts_steps.proofs.Adding.{one_answer}
+use Rattle.fts_steps.proofs.Growing.{right_stays}
 use Rattle.fts_core.proofs.Right.{AllKnown, sure_right, doubt_right, loose_right}
 
 -- what stands behind a step that adds this
@@ -37,24 +40,27 @@ module _ {D E : Type 0} {disk : Ghosts D} {disk' : Ghosts E} (only : (d : D) (c 
   abbrev pub world : World D E disk disk'
   world = world_of (Open old) commits doubt last
 
-  stands : Stands core.now old
+  stands : Holds core.now old
   stands = fits.runs.1
+
+  abbrev each : step.StepOf engine_sight core.now (record { more = steps.more; ask = ask; answer = answer }) old new
+  each = steps.each core.now stands
 
   abbrev pub now_ : Running
   now_ = after core.now ask answer
 
-  stands_now : Stands now_ new
-  stands_now = subst (λ (more : List Entry). Stands (after (grown core.now more) ask answer) new) (steps.alone refl) (steps.stands core.now stands)
+  stands_now : Holds now_ new
+  stands_now = subst (λ (more : List Entry). Holds (after (grown core.now more) ask answer) new) (each.alone refl) each.stands
 
   pub may : MayAnswer (engine_limits old) core.now ask answer
-  may = subst (λ (more : List Entry). MayAnswer (engine_limits old) (grown core.now more) ask answer) (steps.alone refl) (steps.may core.now stands)
+  may = subst (λ (more : List Entry). MayAnswer (engine_limits old) (grown core.now more) ask answer) (each.alone refl) each.may
 
   -- nothing is in doubt while no fault stopped the engine
   sure : core.now.stopped ≡ None → core.now.doubt ≡ []
-  sure going = (stands.holds.logs told going).sure
+  sure going = (stands.logs told going).sure
 
   sure' : core.now.stopped ≡ None → core.now.loose ≡ []
-  sure' going = (stands.holds.index_logs told' going).sure
+  sure' going = (stands.index_logs told' going).sure
 
   -- the step
   pub turns : (undone : Running) → undone ≡ fold doubting core.now (changes_of ask answer) → MakesStep (moments world) ask answer core (behind_step core (moments world) now_ undone)
@@ -69,15 +75,15 @@ module _ {D E : Type 0} {disk : Ghosts D} {disk' : Ghosts E} (only : (d : D) (c 
   }
 
   limited : core.limits ≡ Some (engine_limits new)
-  limited = fits.runs.0 ∙ ap (λ (l : Limits). Some l) (sym steps.limits)
+  limited = fits.runs.0 ∙ ap (λ (l : Limits). Some l) (sym steps.keeps.limits)
 
   crash : Leaves (engine_sight {D = D} {E = E} {rows = disk} {index = disk'}).rows (IsBetween core.now now_) old new
   crash = subst (λ (more : List Entry). Leaves (engine_sight {D = D} {E = E} {rows = disk} {index = disk'}).rows (IsBetween core.now (after (grown core.now more) ask answer)) old new)
-      (steps.alone refl) (steps.crash refl told core.now stands)
+      (each.alone refl) (each.rows refl told)
 
   crash' : Leaves (engine_sight {D = D} {E = E} {rows = disk} {index = disk'}).index (IsIndexBetween core.now now_) old new
   crash' = subst (λ (more : List Entry). Leaves (engine_sight {D = D} {E = E} {rows = disk} {index = disk'}).index (IsIndexBetween core.now (after (grown core.now more) ask answer)) old new)
-      (steps.alone refl) (steps.index refl told' core.now stands)
+      (each.alone refl) (each.index refl told')
 
   -- ---- steps that add nothing
 
@@ -102,20 +108,20 @@ module _ {D E : Type 0} {disk : Ghosts D} {disk' : Ghosts E} (only : (d : D) (c 
       doubt = fits.doubt;
       last = (refl, refl);
       on_rows = record {
-        now = (stays.holds.on_rows told).crash;
-        undone = since_now disk (MayHold core.now.state core.now.doubt) (rows_device old) (rows_device new) only same (stands.holds.on_rows told).crash;
+        now = (stays.on_rows told).crash;
+        undone = since_now disk (MayHold core.now.state core.now.doubt) (rows_device old) (rows_device new) only same (stands.on_rows told).crash;
       };
       on_index = record {
-        now = (stays.holds.on_index told').crash;
-        undone = since_now disk' (MayHoldIndex core.now.state core.now.loose) (index_device old) (index_device new) only' same' (stands.holds.on_index told').crash;
+        now = (stays.on_index told').crash;
+        undone = since_now disk' (MayHoldIndex core.now.state core.now.loose) (index_device old) (index_device new) only' same' (stands.on_index told').crash;
       };
       runs = (limited, stays);
       right = fits.right;
       right_undone = fits.right;
     }
       where
-        stays : Stands core.now new
-        stays = subst (λ (running : Running). Stands running new) (sym now_is) stands_now
+        stays : Holds core.now new
+        stays = subst (λ (running : Running). Holds running new) (sym now_is) stands_now
 
 -- ---- who goes on
 
@@ -153,35 +159,36 @@ module _ {D E : Type 0} {disk : Ghosts D} {disk' : Ghosts E} (only : (d : D) (c 
       doubt = fits.doubt;
       last = (commit, refl, sure, refl);
       on_rows = record {
-        now = (stays.holds.on_rows told).crash;
+        now = (stays.on_rows told).crash;
         undone = since_began (engine_sight {D = D} {E = E} {rows = disk} {index = disk'}).rows (IsBetween core.now made_now) (MayHold core.now.state (commit ∷ [])) old new only
             (crash only only' told told' core old new commits doubt last fits (to_commit commit) (committed number) steps)
             (λ c between. within_commit core.now made_now commit c added between)
-            (λ c may. sure_holds core.now.state core.now.doubt (commit ∷ []) c sure ((stands.holds.on_rows told).crash c may));
+            (λ c may. sure_holds core.now.state core.now.doubt (commit ∷ []) c sure ((stands.on_rows told).crash c may));
       };
       on_index = record {
-        now = (stays.holds.on_index told').crash;
-        undone = since_now disk' (MayHoldIndex core.now.state core.now.loose) (index_device old) (index_device new) only' same' (stands.holds.on_index told').crash;
+        now = (stays.on_index told').crash;
+        undone = since_now disk' (MayHoldIndex core.now.state core.now.loose) (index_device old) (index_device new) only' same' (stands.on_index told').crash;
       };
       runs = (limited only only' told told' core old new commits doubt last fits (to_commit commit) (committed number) steps, stays);
-      right = sure_right made_now sure sure' stays.right;
-      right_undone = doubt_right known made_undone commit refl sure' stands.holds.has.keeps.entries stands.right;
+      right = sure_right made_now sure sure'
+          (right_stays core.now.state commit (known core.now.state.commits) (known (core.now.state.commits ++ commit ∷ [])) stands.has.keeps.entries fits.right.right);
+      right_undone = doubt_right known made_undone commit refl sure' stands.has.keeps.entries fits.right.right;
     }
       where
-        stands : Stands core.now old
+        stands : Holds core.now old
         stands = fits.runs.1
 
-        stays : Stands made_now new
+        stays : Holds made_now new
         stays = stands_now only only' told told' core old new commits doubt last fits (to_commit commit) (committed number) steps
 
         going : core.now.stopped ≡ None
-        going = told_goes core.now.stopped _ (committed number) (may only only' told told' core old new commits doubt last fits (to_commit commit) (committed number) steps) refl
+        going = told_goes core.now.stopped _ (committed number) (one_answer _ _ (may only only' told told' core old new commits doubt last fits (to_commit commit) (committed number) steps)) refl
 
         sure : core.now.doubt ≡ []
-        sure = (stands.holds.logs told going).sure
+        sure = (stands.logs told going).sure
 
         sure' : core.now.loose ≡ []
-        sure' = (stands.holds.index_logs told' going).sure
+        sure' = (stands.index_logs told' going).sure
 
         added : (core.now.state.commits ++ commit ∷ []) ++ core.now.doubt ≡ core.now.state.commits ++ commit ∷ []
         added = ap (λ (d : List Commit). (core.now.state.commits ++ commit ∷ []) ++ d) sure ∙ append-nil (core.now.state.commits ++ commit ∷ [])
@@ -200,38 +207,38 @@ module _ {D E : Type 0} {disk : Ghosts D} {disk' : Ghosts E} (only : (d : D) (c 
       doubt = refl;
       last = (refl, refl);
       on_rows = record {
-        now = (stays.holds.on_rows told).crash;
+        now = (stays.on_rows told).crash;
         undone = since_began (engine_sight {D = D} {E = E} {rows = disk} {index = disk'}).rows (IsBetween core.now failed_now) (MayHold core.now.state (commit ∷ [])) old new only
             (crash only only' told told' core old new commits doubt last fits (to_commit commit) (disk_fault faults) steps)
             (λ c between. within_commit core.now failed_now commit c refl between)
-            (λ c may. sure_holds core.now.state core.now.doubt (commit ∷ []) c sure ((stands.holds.on_rows told).crash c may));
+            (λ c may. sure_holds core.now.state core.now.doubt (commit ∷ []) c sure ((stands.on_rows told).crash c may));
       };
       on_index = record {
-        now = (stays.holds.on_index told').crash;
-        undone = since_now disk' (MayHoldIndex core.now.state core.now.loose) (index_device old) (index_device new) only' same' (stands.holds.on_index told').crash;
+        now = (stays.on_index told').crash;
+        undone = since_now disk' (MayHoldIndex core.now.state core.now.loose) (index_device old) (index_device new) only' same' (stands.on_index told').crash;
       };
       runs = (limited only only' told told' core old new commits doubt last fits (to_commit commit) (disk_fault faults) steps, stays);
       right = right;
       right_undone = right;
     }
       where
-        stands : Stands core.now old
+        stands : Holds core.now old
         stands = fits.runs.1
 
-        stays : Stands failed_now new
+        stays : Holds failed_now new
         stays = stands_now only only' told told' core old new commits doubt last fits (to_commit commit) (disk_fault faults) steps
 
         going : core.now.stopped ≡ None
         going = writes_goes core.now.stopped _ (may only only' told told' core old new commits doubt last fits (to_commit commit) (disk_fault faults) steps)
 
         sure : core.now.doubt ≡ []
-        sure = (stands.holds.logs told going).sure
+        sure = (stands.logs told going).sure
 
         sure' : core.now.loose ≡ []
-        sure' = (stands.holds.index_logs told' going).sure
+        sure' = (stands.index_logs told' going).sure
 
         right : HasRightIndex failed_now
-        right = doubt_right known failed_now commit refl sure' stands.holds.has.keeps.entries stands.right
+        right = doubt_right known failed_now commit refl sure' stands.has.keeps.entries fits.right.right
 
 -- ---- entries of the index log
 
@@ -250,49 +257,50 @@ module _ {D E : Type 0} {disk : Ghosts D} {disk' : Ghosts E} (only : (d : D) (c 
     (old new : Engine D E disk disk') (commits : Vec Commit Global) (doubt : Option Commit) (last : Last) (fits : Fits core (world_of (Open old) commits doubt last))
     (ask : Ask) (answer : Answer) (steps : step.Steps engine_sight ask answer old new) (more : List IndexEntry) (one : IsOne more) (going : core.now.stopped ≡ None)
     (same : rows_device new ≡ rows_device old) where
-  stands_ : Stands core.now old
+  stands_ : Holds core.now old
   stands_ = fits.runs.1
 
   surely : core.now.doubt ≡ []
-  surely = (stands_.holds.logs told going).sure
+  surely = (stands_.logs told going).sure
 
   surely' : core.now.loose ≡ []
-  surely' = (stands_.holds.index_logs told' going).sure
+  surely' = (stands_.index_logs told' going).sure
 
   -- before the entry or behind it
   before_entry : (c : Files) → disk'.images (index_device old) c → MayHoldIndex core.now.state more c
-  before_entry c may = sure_index core.now.state core.now.loose more c surely' ((stands_.holds.on_index told').crash c may)
+  before_entry c may = sure_index core.now.state core.now.loose more c surely' ((stands_.on_index told').crash c may)
 
   -- it was made
   pub written_fits : (index : IndexState) → after core.now ask answer ≡ with_more core.now more index
+      → (HasEntries (with_entries core.now.state more) → IsRight (with_entries core.now.state more))
       → Fits (behind_step core (moments (world_of (Open old) commits doubt last)) (after core.now ask answer) (with_loose core.now more)) (behind (Open new) commits doubt)
-  written_fits index is =
+  written_fits index is right_more =
       subst (λ (now : Running). Fits (behind_step core (moments (world_of (Open old) commits doubt last)) now (with_loose core.now more)) (behind (Open new) commits doubt)) (sym is)
       (record {
         acknowledged = fits.acknowledged;
         doubt = fits.doubt;
         last = (refl, refl);
         on_rows = record {
-          now = (stays.holds.on_rows told).crash;
-          undone = since_now disk (MayHold core.now.state core.now.doubt) (rows_device old) (rows_device new) only same (stands_.holds.on_rows told).crash;
+          now = (stays.on_rows told).crash;
+          undone = since_now disk (MayHold core.now.state core.now.doubt) (rows_device old) (rows_device new) only same (stands_.on_rows told).crash;
         };
         on_index = record {
-          now = (stays.holds.on_index told').crash;
+          now = (stays.on_index told').crash;
           undone = since_began (engine_sight {D = D} {E = E} {rows = disk} {index = disk'}).index (IsIndexBetween core.now now) (MayHoldIndex core.now.state more) old new only'
               (subst (λ (n : Running). Leaves (engine_sight {D = D} {E = E} {rows = disk} {index = disk'}).index (IsIndexBetween core.now n) old new) is
               (crash' only only' told told' core old new commits doubt last fits ask answer steps))
               (λ c between. within_entry core.now now more c one (λ entries file index. index) added between) before_entry;
         };
         runs = (limited only only' told told' core old new commits doubt last fits ask answer steps, stays);
-        right = sure_right now surely surely' stays.right;
-        right_undone = loose_right (with_loose core.now more) more surely refl stands_.right (λ has. stays.right);
+        right = sure_right now surely surely' (right_more stays.has.keeps.entries);
+        right_undone = loose_right (with_loose core.now more) more surely refl fits.right.right right_more;
       })
     where
       now : Running
       now = with_more core.now more index
 
-      stays : Stands now new
-      stays = subst (λ (n : Running). Stands n new) is (stands_now only only' told told' core old new commits doubt last fits ask answer steps)
+      stays : Holds now new
+      stays = subst (λ (n : Running). Holds n new) is (stands_now only only' told told' core old new commits doubt last fits ask answer steps)
 
       added : (core.now.state.entries ++ more) ++ core.now.loose ≡ core.now.state.entries ++ more
       added = ap (λ (l : List IndexEntry). (core.now.state.entries ++ more) ++ l) surely' ∙ append-nil (core.now.state.entries ++ more)
@@ -308,11 +316,11 @@ module _ {D E : Type 0} {disk : Ghosts D} {disk' : Ghosts E} (only : (d : D) (c 
         doubt = fits.doubt;
         last = (refl, refl);
         on_rows = record {
-          now = (stays.holds.on_rows told).crash;
-          undone = since_now disk (MayHold core.now.state core.now.doubt) (rows_device old) (rows_device new) only same (stands_.holds.on_rows told).crash;
+          now = (stays.on_rows told).crash;
+          undone = since_now disk (MayHold core.now.state core.now.doubt) (rows_device old) (rows_device new) only same (stands_.on_rows told).crash;
         };
         on_index = record {
-          now = (stays.holds.on_index told').crash;
+          now = (stays.on_index told').crash;
           undone = since_began (engine_sight {D = D} {E = E} {rows = disk} {index = disk'}).index (IsIndexBetween core.now now) (MayHoldIndex core.now.state more) old new only'
               (subst (λ (n : Running). Leaves (engine_sight {D = D} {E = E} {rows = disk} {index = disk'}).index (IsIndexBetween core.now n) old new) is
               (crash' only only' told told' core old new commits doubt last fits ask answer steps))
@@ -326,8 +334,8 @@ module _ {D E : Type 0} {disk : Ghosts D} {disk' : Ghosts E} (only : (d : D) (c 
       now : Running
       now = left_loose core.now more faults
 
-      stays : Stands now new
-      stays = subst (λ (n : Running). Stands n new) is (stands_now only only' told told' core old new commits doubt last fits ask answer steps)
+      stays : Holds now new
+      stays = subst (λ (n : Running). Holds n new) is (stands_now only only' told told' core old new commits doubt last fits ask answer steps)
 
       right : HasRightIndex now
-      right = loose_right now more surely refl stands_.right right_more
+      right = loose_right now more surely refl fits.right.right right_more

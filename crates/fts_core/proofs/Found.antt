@@ -8,7 +8,7 @@ use Rattle.fts_disk.specs.Device.{Files}
 use Rattle.fts_disk.specs.Crash.{Only}
 use Rattle.fts_disk.specs.Moments.{LeavesAsBefore, Looks}
 use Rattle.fts_disk.specs.declared.disk.Disk.{Ghosts}
-use Rattle.fts_steps.specs.State.{State, with_commits, with_entries, IsRows, IsIndex, IsCreated}
+use Rattle.fts_steps.specs.State.{State, with_commits, with_entries, IsRight, IsRows, IsIndex, IsCreated}
 use Rattle.fts_steps.specs.Fault.{IsIndexFaultAt}
 use Rattle.fts_steps.specs.Running.{Running, opened}
 use Rattle.fts_steps.specs.Crash.{MayHold, MayHoldIndex}
@@ -19,14 +19,15 @@ use Rattle.fts_engine.specs.declared.error.Device.TheVariants.{Rows, Index}
 use Rattle.fts_engine.specs.declared.error.OpenError.{OpenError}
 use Rattle.fts_engine.specs.declared.error.OpenError.TheVariants.{NoMemory, NotCreated, Damaged, DiskFault}
 use Rattle.fts_engine.specs.Opening.{IsNoRows}
-use Rattle.fts_engine.specs.Stands.{Holds, Stands, engine_limits, rows_device, index_device}
+use Rattle.fts_engine.specs.Stands.{Holds, engine_limits, rows_device, index_device}
 use Rattle.fts_engine.proofs.Single.{one_rows, one_index}
 use Rattle.fts_core.specs.declared.world.Last.{Last}
 use Rattle.fts_core.specs.declared.world.Place.TheVariants.{Closed, Open}
 use Rattle.fts_core.specs.declared.world.World.{World}
 use Rattle.fts_core.specs.World.{moments, rows_at, index_at}
 use Rattle.fts_core.specs.Parts.{world_of, behind}
-use Rattle.fts_core.specs.Core.{Core, MayBe, HasRightIndex, TakesBack, Fits, IsLeftOn}
+use Rattle.fts_steps.specs.Right.{MayBe, HasRightIndex}
+use Rattle.fts_core.specs.Core.{Core, TakesBack, Fits, IsLeftOn}
 use Rattle.fts_core.specs.Turns.{Opens, Refuses, IsFreeRefusal, Crashes, left_by}
 use Rattle.fts_core.proofs.Right.{sure_right}
 use Rattle.fts_core.proofs.Between.{since_now}
@@ -114,8 +115,8 @@ module _ {D E : Type 0} {disk : Ghosts D} {disk' : Ghosts E} (stay : (d : D) →
     pub opens : Opens (moments world) limits core found_core
     opens = record { state = state; finds = may_be; now = refl; undone = refl; limited = refl; since = refl }
 
-    stands : Stands (opened state) engine
-    stands = record { holds = holds; right = fits.right.found state may_be holds.has.keeps.entries }
+    right_found : IsRight state
+    right_found = fits.right.found state may_be holds.has.keeps.entries
 
     pub found_fits : (commits : Vec Commit Global) (doubt : Option Commit) (last : Last) → commits.items ≡ state.commits → option_to_list doubt ≡ []
         → TakesBack last (opened state) core.now → Fits found_core (world_of (Open engine) commits doubt last)
@@ -125,8 +126,8 @@ module _ {D E : Type 0} {disk : Ghosts D} {disk' : Ghosts E} (stay : (d : D) →
       last = back;
       on_rows = record { now = (holds.on_rows told).crash; undone = λ c left. fits.on_rows.now c (looks.crash.any_moment.each c left) };
       on_index = record { now = (holds.on_index told').crash; undone = λ c left. fits.on_index.now c (looks'.crash.any_moment.each c left) };
-      runs = (ap (λ (l : Limits). Some l) (sym limited), stands);
-      right = sure_right (opened state) refl refl stands.right;
+      runs = (ap (λ (l : Limits). Some l) (sym limited), holds);
+      right = sure_right (opened state) refl refl right_found;
       right_undone = fits.right;
     }
 
@@ -185,8 +186,8 @@ module _ {D E : Type 0} {disk : Ghosts D} {disk' : Ghosts E} (stay : (d : D) →
         may' : (c : Files) → disk'.images index c → MayHoldIndex now.state now.loose c
         may' c here = subst (λ (f : List ℕ). IsIndex now.state f ⊎ IsIndex (with_entries now.state now.loose) f) (sym (alone' c here 0)) held'
 
-    pub crashes : (within : Bool) → Crashes within core (crashed_core (left_by within core))
-    crashes within = record { now = refl; undone = refl; closed = refl }
+    pub crashes : (within : Bool) → Crashes (record { rows = disk.moment rows; index = disk'.moment index }) within core (crashed_core (left_by within core))
+    crashes within = record { now = refl; undone = refl; closed = refl; since = refl }
 
     -- after the last call
     pub crashed_after : IsLeftOn disk false core.since.rows (rows_at world.place) rows → IsLeftOn disk' false core.since.index (index_at world.place) index

@@ -1,5 +1,5 @@
 -- What holds of each event of a list.
-use Rattle.std.proofs.Common.{◌≡◌, ℕ, List, [], ◌∷◌, ap, subst, sym, ◌∙◌}
+use Rattle.std.proofs.Common.{◌≡◌, ℕ, List, [], ◌∷◌, length, ap, subst, sym, ◌∙◌}
 use Rattle.std.specs.Prelude.{Ok, Err}
 use Rattle.fts_types.specs.Rules.{rules_of}
 use Rattle.fts_commits.specs.Commit.{replay}
@@ -8,21 +8,23 @@ use Rattle.fts_meaning.specs.Leaf as leaf
 use Rattle.fts_meaning.specs.View as view
 use Rattle.fts_query.specs.Seen.{leaves_seen, view_seen}
 use Rattle.fts_steps.specs.Running.{Running}
-use Rattle.fts_steps.specs.Step.{viewed, state_view}
+use Rattle.fts_steps.specs.State.{IsRight}
+use Rattle.fts_steps.specs.Step.{state_view}
 use Rattle.fts_core.specs.declared.event.Event.{Event}
 use Rattle.fts_core.specs.declared.event.Event.TheVariants.{Opening, Commit, SyncBatch, OptimizeStep, View, Listing, Crash}
 use Rattle.fts_core.specs.declared.event.Outcome.{Outcome}
 use Rattle.fts_core.specs.declared.event.Outcome.TheVariants.{NoEngine, DoesNotFit, Opened, Committed, Synced, Optimized, Viewed, Listed, Crashed}
 use Rattle.fts_core.specs.declared.world.World.{World}
 use Rattle.fts_core.specs.World.{Moments, moments}
-use Rattle.fts_core.specs.Core.{Core, Fits, IsWithOrWithout}
+use Rattle.fts_steps.specs.Right.{IsWithOrWithout}
+use Rattle.fts_core.specs.Core.{Core, Fits}
 use Rattle.fts_core.specs.Turns.{Turns}
 use Rattle.fts_core.specs.Lists.{AllowsAll}
-use Rattle.fts_core.specs.Headline.{Law, Always, TellsAcknowledged, ViewsTellAcknowledged, OpeningsFindAcknowledged, IndexesAreRight}
+use Rattle.fts_core.specs.Headline.{Law, Always, TellsAcknowledged, ViewsTellAcknowledged, OpeningsFindAcknowledged, IndexesAreRight, KeepsPromises}
 
 -- what holds of each event by its turn holds along a list
 module _ {D E : Type 0} {disk : Ghosts D} {disk' : Ghosts E} (law : Law D E)
-    (turned : (began : Moments) (event : Event D E) (outcome : Outcome) (old new : Core) (world : World D E disk disk') → Turns began event outcome old new → Fits new world
+    (turned : (began : Moments) (event : Event D E) (outcome : Outcome) (old new : Core) (world : World D E disk disk') → Turns disk disk' began event outcome old new → Fits new world
     → law event outcome old new) where
   pub always : (core : Core) (old new : World D E disk disk') (events : List (Event D E)) (outcomes : List Outcome) → Fits core old → AllowsAll old events outcomes new
       → Always law core old events outcomes new
@@ -39,22 +41,20 @@ module _ {D E : Type 0} {disk : Ghosts D} {disk' : Ghosts E} (law : Law D E)
   always core old new [] (outcome ∷ outcomes) fits never = absurd never
   always core old new (event ∷ events) [] fits never = absurd never
 
-told_view : (told other : view.View) → viewed other ≡ viewed told → told ≡ other
-told_view told other same = (let e = same in cc)
-
 -- a view tells of the acknowledged commits
-tells : (core : Core) (asked : List leaf.Leaf) (told : view.View) → state_view core.now.state asked ≡ told → TellsAcknowledged core asked told
-tells core asked told same = record {
-  number = ap (λ (v : view.View). v.number) (sym same);
+tells : (core : Core) (asked : List leaf.Leaf) (told : view.View) → told.number ≡ length core.now.state.commits → told ≡ state_view core.now.state asked → TellsAcknowledged core asked told
+tells core asked told number same = record {
+  number = number;
   stands = λ terms is.
-      sym same ∙ ap (λ (n : ℕ). view.view_of (rules_of core.now.state.settings) (replay core.now.state.commits).list n asked) (ap (λ (v : view.View). v.number) same)
+      same ∙ ap (λ (n : ℕ). view.view_of (rules_of core.now.state.settings) (replay core.now.state.commits).list n asked) (sym number)
       ∙ ap (view.view_of (rules_of core.now.state.settings) (replay core.now.state.commits).list told.number) is;
 }
 
 module _ {D E : Type 0} {disk : Ghosts D} {disk' : Ghosts E} where
-  pub view_turned : (began : Moments) (event : Event D E) (outcome : Outcome) (old new : Core) (world : World D E disk disk') → Turns began event outcome old new → Fits new world
+  pub view_turned : (began : Moments) (event : Event D E) (outcome : Outcome) (old new : Core) (world : World D E disk disk') → Turns disk disk' began event outcome old new → Fits new world
       → ViewsTellAcknowledged event outcome old new
-  view_turned began (View asked) (Viewed (Ok told)) old new world turn fits = tells old (leaves_seen asked.items) (view_seen told) (sym (told_view (view_seen told) _ turn.may))
+  view_turned began (View asked) (Viewed (Ok told)) old new world turn fits =
+      tells old (leaves_seen asked.items) (view_seen told) turn.may.0 (turn.may.1 (subst (λ (r : Running). IsRight r.state) turn.now fits.right.right))
   view_turned began (View asked) (Viewed (Err error)) old new world turn fits = tt
   view_turned began (View asked) NoEngine old new world turn fits = tt
   view_turned began (View asked) DoesNotFit old new world turn fits = tt
@@ -71,7 +71,7 @@ module _ {D E : Type 0} {disk : Ghosts D} {disk' : Ghosts E} where
   view_turned began (Listing kind) outcome old new world turn fits = tt
   view_turned began (Crash rows index within) outcome old new world turn fits = tt
 
-  pub opening_turned : (began : Moments) (event : Event D E) (outcome : Outcome) (old new : Core) (world : World D E disk disk') → Turns began event outcome old new → Fits new world
+  pub opening_turned : (began : Moments) (event : Event D E) (outcome : Outcome) (old new : Core) (world : World D E disk disk') → Turns disk disk' began event outcome old new → Fits new world
       → OpeningsFindAcknowledged event outcome old new
   opening_turned began (Opening limits) (Opened (Ok done)) old new world turn fits = record {
     commits = subst (λ (r : Running). IsWithOrWithout old.now.state.commits old.now.doubt r.state.commits) (sym turn.1.now) turn.1.finds.commits;
@@ -94,6 +94,14 @@ module _ {D E : Type 0} {disk : Ghosts D} {disk' : Ghosts E} where
   opening_turned began (Listing kind) outcome old new world turn fits = tt
   opening_turned began (Crash rows index within) outcome old new world turn fits = tt
 
-  pub index_turned : (began : Moments) (event : Event D E) (outcome : Outcome) (old new : Core) (world : World D E disk disk') → Turns began event outcome old new → Fits new world
+  pub index_turned : (began : Moments) (event : Event D E) (outcome : Outcome) (old new : Core) (world : World D E disk disk') → Turns disk disk' began event outcome old new → Fits new world
       → IndexesAreRight event outcome old new
   index_turned began event outcome old new world turn fits = fits.right
+
+  pub promises : (began : Moments) (event : Event D E) (outcome : Outcome) (old new : Core) (world : World D E disk disk') → Turns disk disk' began event outcome old new → Fits new world
+      → KeepsPromises event outcome old new
+  promises began event outcome old new world turn fits = (
+    view_turned began event outcome old new world turn fits,
+    opening_turned began event outcome old new world turn fits,
+    index_turned began event outcome old new world turn fits,
+  )

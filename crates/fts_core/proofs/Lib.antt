@@ -8,4 +8,5 @@ pub mod Created
 pub mod Turned
 pub mod Stepping
 pub mod Opens
-pub mod Called
+pub mod Real
+pub mod Killing

@@ -25,7 +25,8 @@ use Rattle.fts_core.specs.declared.world.Place.TheVariants.{Closed, Open}
 use Rattle.fts_core.specs.declared.world.World.{World}
 use Rattle.fts_core.specs.World.{rows_at, index_at}
 use Rattle.fts_core.specs.Parts.{world_of, behind}
-use Rattle.fts_core.specs.Core.{Core, IsWithOrWithout, TakesBack, Fits}
+use Rattle.fts_steps.specs.Right.{IsWithOrWithout}
+use Rattle.fts_core.specs.Core.{Core, TakesBack, Fits}
 use Rattle.fts_core.specs.Turns.{IsFreeRefusal}
 use Rattle.fts_core.specs.Lists.{Turned}
 use Rattle.fts_core.proofs.Found.{free_refusal, created, some_rows, some_index, may_be, found_core, opens, found_fits, refused_core, refuses, refused_fits}

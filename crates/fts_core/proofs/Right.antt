@@ -15,14 +15,14 @@ use Rattle.fts_entries.proofs.Coming.{come_last}
 use Rattle.fts_entries.proofs.Next.{is_next}
 use Rattle.fts_steps.specs.State.{turns_of, index_state}
 use Rattle.fts_steps.specs.Running.{next_batch, next_optimized}
-use Rattle.fts_steps.specs.Step.{Answer, to_sync, writes, unless_stopped, unless_full, plain_answer, all_flushed}
+use Rattle.fts_steps.specs.Step.{Answer, to_sync, writes, would_write, unless_stopped, unless_full, plain_answer, all_flushed}
 use Rattle.fts_steps.proofs.Growing.{batch_right, step_right}
 use Rattle.fts_engine.proofs.Indexing.{turns_count}
 use Rattle.fts_core.proofs.Between.{IsOne}
 use Rattle.fts_steps.specs.State.{State, with_commits, with_entries, HasEntries, IsRight}
 use Rattle.fts_steps.specs.Running.{Running}
 use Rattle.fts_steps.proofs.Growing.{AreKnown, right_stays}
-use Rattle.fts_core.specs.Core.{IsWithOrWithout, HasRightIndex}
+use Rattle.fts_steps.specs.Right.{IsWithOrWithout, HasRightIndex}
 
 -- a state is its parts
 pub same_state : (a b : State) → a.settings ≡ b.settings → a.commits ≡ b.commits → a.entries ≡ b.entries → a ≡ b
@@ -93,11 +93,15 @@ next_right known state s is some has right =
     (λ some. batch_right state state.settings.batch_docs _ _ _ has (known state.commits).ascend
     (is_next (rules_of state.settings) state.settings.batch_docs (turns_of state) (index_state state) some) right) some
 
-pub batch_more : AllKnown → (limits : Limits) (running : Running) → running.index ≡ index_state running.state → IsTrue (writes (plain_answer limits running to_sync)) → HasEntries running.state
-    → IsRight running.state → IsRight (with_entries running.state (next_batch running ∷ []))
-batch_more known limits running is wrote has right =
+-- a batch that would be written flushes some
+pub some_batch : (limits : Limits) (running : Running) → IsTrue (would_write (plain_answer limits running to_sync)) → running.index.flushed < length (turns_of running.state)
+some_batch limits running wrote =
     let some : running.index.flushed < length running.state.commits = ltb-true running.index.flushed (length running.state.commits) (from_batch running.stopped _ limits _ _ _ wrote) in
-    next_right known running.state running.index is (subst (λ (n : ℕ). running.index.flushed < n) (sym (turns_count no_rows running.state.commits)) some) has right
+    subst (λ (n : ℕ). running.index.flushed < n) (sym (turns_count no_rows running.state.commits)) some
+
+pub batch_more : AllKnown → (limits : Limits) (running : Running) → running.index ≡ index_state running.state → IsTrue (would_write (plain_answer limits running to_sync)) → HasEntries running.state
+    → IsRight running.state → IsRight (with_entries running.state (next_batch running ∷ []))
+batch_more known limits running is wrote has right = next_right known running.state running.index is (some_batch limits running wrote) has right
 
 -- the next step of OPTIMIZE is one entry or none, and no batch
 abbrev pub IsNoBatch : IndexEntry → Type 0

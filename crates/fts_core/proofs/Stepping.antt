@@ -24,7 +24,8 @@ use Rattle.fts_steps.specs.declared.sync.SyncBatch.TheVariants as sync
 use Rattle.fts_steps.specs.declared.optimize.OptimizeStep.{OptimizeStep}
 use Rattle.fts_steps.specs.declared.optimize.OptimizeStep.TheVariants as optimize
 use Rattle.fts_steps.specs.Running.{made, failed, optimized, with_what, next_batch, next_optimized, next_index}
-use Rattle.fts_steps.specs.Step.{Ask, to_commit, to_sync, to_optimize, to_view, to_list, Answer, MayAnswer, committed, disk_fault, flushed, passed, after, changes_of, is_disk_fault, writes}
+use Rattle.fts_steps.specs.Step.{Ask, to_commit, to_sync, to_optimize, to_view, to_list, Answer, MayAnswer, committed, disk_fault, flushed, passed, after, changes_of, is_disk_fault, writes, would_write}
+use Rattle.fts_steps.proofs.Adding.{one_answer}
 use Rattle.fts_steps.specs.Step as step
 use Rattle.fts_steps.specs.Answers.{commit_answer_of, sync_answer_of, optimize_answer_of, view_answer_of, listing_answer_of}
 use Rattle.fts_engine.specs.declared.engine.Engine.{Engine}
@@ -79,7 +80,7 @@ module _ {D E : Type 0} {disk : Ghosts D} {disk' : Ghosts E} where
   no_commit core old engine commits doubt last is fits commit cannot =
       let fits' : Fits core (world_of (Open engine) commits doubt last) = subst (λ (w : World D E disk disk'). Fits core w) is fits in (
         (λ none. let no_engine : ◌≡◌ {A = Option Limits} (Some (engine_limits engine)) None = sym fits'.runs.0 ∙ none in absurd (let e = no_engine in cc)),
-        (λ can. cannot (subst (λ (s : Settings). CanCommit (length s.columns) commit) fits'.runs.1.holds.has.keeps.settings can)),
+        (λ can. cannot (subst (λ (s : Settings). CanCommit (length s.columns) commit) fits'.runs.1.has.keeps.settings can)),
       )
 
 module _ {D E : Type 0} {disk : Ghosts D} {disk' : Ghosts E} (h : IsHonest disk) (h' : IsHonest disk') (core : Core) (old new : Engine D E disk disk') (commits : Vec Commit Global)
@@ -110,7 +111,7 @@ module _ {D E : Type 0} {disk : Ghosts D} {disk' : Ghosts E} (h : IsHonest disk)
 
   module _ (commit : Commit) (able : CanCommit (length (engine_settings old).columns) commit) where
     fit : FitTable commit core
-    fit = subst (λ (s : Settings). CanCommit (length s.columns) commit) (sym fits.runs.1.holds.has.keeps.settings) able
+    fit = subst (λ (s : Settings). CanCommit (length s.columns) commit) (sym fits.runs.1.has.keeps.settings) able
 
     -- the refusals that leave the logs
     no_changes : (error : CommitError) → is_disk_fault (commit_answer_of (Err error)) ≡ false → changes_of (to_commit commit) (commit_answer_of (Err error)) ≡ []
@@ -158,11 +159,12 @@ module _ {D E : Type 0} {disk : Ghosts D} {disk' : Ghosts E} (h : IsHonest disk)
 
   module _ (ask : Ask) (answer : Answer) (steps : step.Steps engine_sight ask answer old new) (same : rows_log new ≡ rows_log old) (more : List IndexEntry) (one : IsOne more)
       (going : core.now.stopped ≡ None) where
-    wrote : (index : IndexState) → after core.now ask answer ≡ with_more core.now more index → with_loose core.now more ≡ fold doubting core.now (changes_of ask answer) → Stepped ask answer
-    wrote index is undone = record {
+    wrote : (index : IndexState) → after core.now ask answer ≡ with_more core.now more index → with_loose core.now more ≡ fold doubting core.now (changes_of ask answer)
+        → (HasEntries (with_entries core.now.state more) → IsRight (with_entries core.now.state more)) → Stepped ask answer
+    wrote index is undone right_more = record {
       next = behind_step core (moments old_world) (after core.now ask answer) (with_loose core.now more);
       turns = turns h.only h'.only h.told h'.told core old new commits doubt last fits ask answer steps (with_loose core.now more) undone;
-      still = written_fits h.only h'.only h.told h'.told core old new commits doubt last fits ask answer steps more one going (same_rows same) index is;
+      still = written_fits h.only h'.only h.told h'.told core old new commits doubt last fits ask answer steps more one going (same_rows same) index is right_more;
     }
 
     loosened : (faults : ℕ) → after core.now ask answer ≡ left_loose core.now more faults → after core.now ask answer ≡ fold doubting core.now (changes_of ask answer)
@@ -177,10 +179,10 @@ module _ {D E : Type 0} {disk : Ghosts D} {disk' : Ghosts E} (h : IsHonest disk)
   may_ ask answer steps = may h.only h'.only h.told h'.told core old new commits doubt last fits ask answer steps
 
   has_ : HasEntries core.now.state
-  has_ = fits.runs.1.holds.has.keeps.entries
+  has_ = fits.runs.1.has.keeps.entries
 
   right_ : IsRight core.now.state
-  right_ = fits.runs.1.right
+  right_ = fits.right.right
 
   -- the index log is the same where nothing was written
   abbrev pub IsUntouched : Answer → Type 0
@@ -190,7 +192,9 @@ module _ {D E : Type 0} {disk : Ghosts D} {disk' : Ghosts E} (h : IsHonest disk)
       → Stepped to_sync (sync_answer_of result)
   synced known (Ok (sync.Flushed through count)) steps same untouched =
       wrote to_sync (flushed through count) steps same (next_batch core.now ∷ []) (inr (next_batch core.now, refl))
-      (told_goes core.now.stopped _ (flushed through count) (may_ to_sync (flushed through count) steps) refl) (next_index core.now.state core.now.index) refl refl
+      (told_goes core.now.stopped _ (flushed through count) (one_answer _ _ (may_ to_sync (flushed through count) steps)) refl) (next_index core.now.state core.now.index) refl refl
+      (λ has. batch_more known (engine_limits old) core.now fits.runs.1.has.left
+      (subst (λ (a : Option Answer). IsTrue (would_write a)) (sym (may_ to_sync (flushed through count) steps)) refl) has_ right_)
   synced known (Ok (sync.Nothing count)) steps same untouched = keeps to_sync (sync_answer_of (Ok (sync.Nothing count))) steps refl same (untouched refl refl)
   synced known (Err index_error.NoMemory) steps same untouched = keeps to_sync (sync_answer_of (Err index_error.NoMemory)) steps refl same (untouched refl refl)
   synced known (Err (index_error.LogFull at)) steps same untouched = keeps to_sync (sync_answer_of (Err (index_error.LogFull at))) steps refl same (untouched refl refl)
@@ -198,24 +202,24 @@ module _ {D E : Type 0} {disk : Ghosts D} {disk' : Ghosts E} (h : IsHonest disk)
   synced known (Err (index_error.DiskFault faults)) steps same untouched =
       let can = may_ to_sync (disk_fault faults) steps in
       loosened to_sync (disk_fault faults) steps same (next_batch core.now ∷ []) (inr (next_batch core.now, refl)) (writes_goes core.now.stopped _ can) faults refl refl
-      (λ has. batch_more known (engine_limits old) core.now fits.runs.1.holds.has.left can has_ right_)
+      (λ has. batch_more known (engine_limits old) core.now fits.runs.1.has.left can has_ right_)
 
-  passed_on : (told : OptimizeStep) → step.Steps engine_sight to_optimize (passed told) old new → rows_log new ≡ rows_log old → IsTrue (writes (passed told))
+  passed_on : AllKnown → (told : OptimizeStep) → step.Steps engine_sight to_optimize (passed told) old new → rows_log new ≡ rows_log old → IsTrue (writes (passed told))
       → after core.now to_optimize (passed told) ≡ with_what core.now optimized → fold doubting core.now (changes_of to_optimize (passed told)) ≡ doubting core.now optimized
       → Stepped to_optimize (passed told)
-  passed_on told steps same writes_ is undone =
+  passed_on known told steps same writes_ is undone =
       wrote to_optimize (passed told) steps same (next_optimized core.now) (next_is_step core.now.state.entries core.now.index).one
-      (told_goes core.now.stopped _ (passed told) (may_told told (may_ to_optimize (passed told) steps)) writes_)
-      (fold (after_entry (turns_of core.now.state)) core.now.index (next_optimized core.now)) is (sym undone)
+      (told_goes core.now.stopped _ (passed told) (one_answer _ _ (may_told told (may_ to_optimize (passed told) steps))) writes_)
+      (fold (after_entry (turns_of core.now.state)) core.now.index (next_optimized core.now)) is (sym undone) (λ has. step_more known core.now has_ right_ has)
     where
-      may_told : (told : OptimizeStep) → MayAnswer (engine_limits old) core.now to_optimize (passed told) → step.plain_answer (engine_limits old) core.now to_optimize ≡ passed told
+      may_told : (told : OptimizeStep) → MayAnswer (engine_limits old) core.now to_optimize (passed told) → step.plain_answer (engine_limits old) core.now to_optimize ≡ Some (passed told)
       may_told told may = may
 
   pub optimized_ : AllKnown → (result : Result OptimizeStep IndexError) → step.Steps engine_sight to_optimize (optimize_answer_of result) old new → rows_log new ≡ rows_log old
       → IsUntouched (optimize_answer_of result) → Stepped to_optimize (optimize_answer_of result)
-  optimized_ known (Ok optimize.Began) steps same untouched = passed_on optimize.Began steps same refl refl refl
-  optimized_ known (Ok optimize.Word) steps same untouched = passed_on optimize.Word steps same refl refl refl
-  optimized_ known (Ok optimize.Finished) steps same untouched = passed_on optimize.Finished steps same refl refl refl
+  optimized_ known (Ok optimize.Began) steps same untouched = passed_on known optimize.Began steps same refl refl refl
+  optimized_ known (Ok optimize.Word) steps same untouched = passed_on known optimize.Word steps same refl refl refl
+  optimized_ known (Ok optimize.Finished) steps same untouched = passed_on known optimize.Finished steps same refl refl refl
   optimized_ known (Ok optimize.Nothing) steps same untouched = keeps to_optimize (optimize_answer_of (Ok optimize.Nothing)) steps refl same (untouched refl refl)
   optimized_ known (Err index_error.NoMemory) steps same untouched = keeps to_optimize (optimize_answer_of (Err index_error.NoMemory)) steps refl same (untouched refl refl)
   optimized_ known (Err (index_error.LogFull at)) steps same untouched = keeps to_optimize (optimize_answer_of (Err (index_error.LogFull at))) steps refl same (untouched refl refl)

@@ -1,14 +1,14 @@
 -- What stands of a database, and which worlds it fits.
-use Rattle.std.specs.Prelude.{◌≡◌, ◌⊎◌, ℕ, List, [], ◌∷◌, ◌++◌, Bool, true, false, Option, Some, None, option_to_list}
+use Rattle.std.specs.Prelude.{◌≡◌, ℕ, [], ◌∷◌, ◌++◌, Bool, true, false, Option, Some, None, option_to_list}
 use Rattle.fts_types.specs.declared.limits.Limits.{Limits}
 use Rattle.fts_commits.specs.Commit.{Commit}
 use Rattle.fts_disk.specs.Device.{Files}
 use Rattle.fts_disk.specs.Crash.{Images, Only}
 use Rattle.fts_disk.specs.declared.disk.Disk.{Ghosts}
-use Rattle.fts_steps.specs.State.{State, HasEntries, IsRight}
 use Rattle.fts_steps.specs.Running.{Running}
 use Rattle.fts_steps.specs.Crash.{MayHold, MayHoldIndex}
-use Rattle.fts_engine.specs.Stands.{Stands, engine_limits}
+use Rattle.fts_steps.specs.Right.{HasRightIndex}
+use Rattle.fts_engine.specs.Stands.{Holds, engine_limits}
 use Rattle.fts_core.specs.declared.event.Event.{Event}
 use Rattle.fts_core.specs.declared.event.Event.TheVariants.{Crash}
 use Rattle.fts_core.specs.declared.world.Last.{Last}
@@ -27,23 +27,6 @@ pub record Core : Type 0 where
   pub limits : Option Limits
   pub since : Moments
 
--- ---- what an opening may find
-
--- the list, or the list and what is in doubt behind it
-abbrev pub IsWithOrWithout : {A : Type 0} → List A → List A → List A → Type 0
-IsWithOrWithout all doubt found = (found ≡ all) ⊎ (found ≡ all ++ doubt)
-
--- the database of what stands: of each log what is in doubt may be there or not
-pub record MayBe (running : Running) (state : State) : Type 0 where
-  pub settings : state.settings ≡ running.state.settings
-  pub commits : IsWithOrWithout running.state.commits running.doubt state.commits
-  pub entries : IsWithOrWithout running.state.entries running.loose state.entries
-
--- the index is right: what is not deleted of it is exactly what the rows have. And so it is of whatever may be found
-pub record HasRightIndex (running : Running) : Type 0 where
-  pub right : IsRight running.state
-  pub found : (state : State) → MayBe running state → HasEntries state → IsRight state
-
 -- ---- which worlds it fits
 
 -- a crash now leaves of a device what has P, and one at a moment since the last call began what has Q
@@ -54,7 +37,7 @@ pub record MayLeave {D : Type 0} (disk : Ghosts D) (P Q : Images) (since : ℕ) 
 -- no engine is open; or one is, under its limits, and it stands for what stands
 abbrev pub RunsAt : {D E : Type 0} {rows : Ghosts D} {index : Ghosts E} → Core → Place D E rows index → Type 0
 RunsAt core (Closed rows index) = core.limits ≡ None
-RunsAt core (Open engine) = (core.limits ≡ Some (engine_limits engine)) × Stands core.now engine
+RunsAt core (Open engine) = (core.limits ≡ Some (engine_limits engine)) × Holds core.now engine
 
 -- what a crash within the last call takes back
 abbrev pub TakesBack : Last → Running → Running → Type 0

@@ -13,7 +13,8 @@ use Rattle.fts_core.specs.declared.event.Outcome.{Outcome}
 use Rattle.fts_core.specs.declared.event.Outcome.TheVariants.{Opened, Viewed}
 use Rattle.fts_core.specs.declared.world.World.{World}
 use Rattle.fts_core.specs.World.{moments}
-use Rattle.fts_core.specs.Core.{Core, Fits, CanCome, IsWithOrWithout, HasRightIndex}
+use Rattle.fts_steps.specs.Right.{IsWithOrWithout, HasRightIndex}
+use Rattle.fts_core.specs.Core.{Core, Fits, CanCome}
 use Rattle.fts_core.specs.Turns.{Turns, IsFreeRefusal}
 
 -- a law of one event: with its outcome, and with what stood before it and stands behind it
@@ -26,7 +27,8 @@ abbrev pub Always : {D E : Type 0} {rows : Ghosts D} {index : Ghosts E}
     → Law D E → Core → World D E rows index → List (Event D E) → List Outcome → World D E rows index → Type 0
 Always law core old [] [] new = new ≡ old
 Always {D} {E} {rows} {index} law core old (event ∷ events) (outcome ∷ outcomes) new = CanCome core old event
-    → (next : Core) × (mid : World D E rows index) × Turns (moments old) event outcome core next × Fits next mid
+    → (next : Core) × (mid : World D E rows index)
+    × Turns rows index (moments old) event outcome core next × Fits next mid
     × law event outcome core next × Always law next mid events outcomes new
 Always law core old [] (outcome ∷ outcomes) new = ⊥
 Always law core old (event ∷ events) [] new = ⊥
@@ -59,6 +61,11 @@ OpeningsFindAcknowledged event outcome old new = Unit {0}
 -- have; and so it is of whatever an opening may find
 abbrev pub IndexesAreRight : {D E : Type 0} → Law D E
 IndexesAreRight event outcome old new = HasRightIndex new.now
+
+-- the headline: so of each event
+abbrev pub KeepsPromises : {D E : Type 0} → Law D E
+KeepsPromises event outcome old new = ViewsTellAcknowledged event outcome old new
+    × OpeningsFindAcknowledged event outcome old new × IndexesAreRight event outcome old new
 
 -- from whatever stands in the first world, the law holds along these events
 abbrev pub Along : {D E : Type 0} {rows : Ghosts D} {index : Ghosts E}

@@ -4,4 +4,4 @@ pub mod Core
 pub mod Turns
 pub mod Lists
 pub mod Headline
-pub mod Calls
+pub mod Killed

@@ -16,7 +16,7 @@ use Rattle.fts_core.specs.Turns.{Turns}
 pub record Turned {D E : Type 0} {rows : Ghosts D} {index : Ghosts E} (event : Event D E) (outcome : Outcome)
     (core : Core) (old new : World D E rows index) : Type 0 where
   pub next : Core
-  pub turns : Turns (moments old) event outcome core next
+  pub turns : Turns rows index (moments old) event outcome core next
   pub fits : Fits next new
 
 -- from whatever stood in the old world, the event leads to something that stands in the new one

@@ -3,6 +3,7 @@ use Rattle.std.specs.Prelude.{◌≡◌, ◌≢◌, List, [], ◌∷◌, Bool, t
 use Rattle.fts_types.specs.declared.limits.Limits.{Limits}
 use Rattle.fts_types.specs.Limits.{standard_limits}
 use Rattle.fts_commits.specs.declared.change.Change.{Change}
+use Rattle.fts_disk.specs.declared.disk.Disk.{Ghosts}
 use Rattle.fts_commits.specs.Fits.{CanCommit}
 use Rattle.fts_query.specs.Seen.{leaves_seen}
 use Rattle.fts_steps.specs.State.{State}
@@ -22,7 +23,8 @@ use Rattle.fts_core.specs.declared.event.Outcome.{Outcome}
 use Rattle.fts_core.specs.declared.event.Outcome.TheVariants.{NoEngine, DoesNotFit, Opened, Committed, Synced}
 use Rattle.fts_core.specs.declared.event.Outcome.TheVariants.{Optimized, Viewed, Listed, Crashed}
 use Rattle.fts_core.specs.World.{Moments}
-use Rattle.fts_core.specs.Core.{Core, MayBe}
+use Rattle.fts_steps.specs.Right.{MayBe}
+use Rattle.fts_core.specs.Core.{Core}
 
 -- what stands if what a step added is not known to be there: it is in doubt
 abbrev pub doubting : Running → What → Running
@@ -68,15 +70,16 @@ pub record Refuses (began : Moments) (error : OpenError) (old new : Core) : Type
   pub closed : new.limits ≡ None
   pub since : new.since ≡ began
 
--- a crash: within the last call what it answered counts as not given
+-- a crash: within the last call what it answered counts as not given. The devices that it leaves are at these moments
 abbrev pub left_by : Bool → Core → Running
 left_by true old = old.undone
 left_by false old = old.now
 
-pub record Crashes (within : Bool) (old new : Core) : Type 0 where
+pub record Crashes (left : Moments) (within : Bool) (old new : Core) : Type 0 where
   pub now : new.now ≡ left_by within old
   pub undone : new.undone ≡ left_by within old
   pub closed : new.limits ≡ None
+  pub since : new.since ≡ left
 
 -- the event asks something of an engine
 abbrev pub AsksEngine : {D E : Type 0} → Event D E → Type 0
@@ -97,19 +100,22 @@ FitsNot event core = ⊥
 
 -- what stands behind an event with this outcome, by what stood before it and the moments at which it began; with any
 -- other outcome it does not come
-abbrev pub Turns : {D E : Type 0} → Moments → Event D E → Outcome → Core → Core → Type 0
-Turns began event NoEngine old new = AsksEngine event × (old.limits ≡ None) × (new ≡ old)
-Turns began event DoesNotFit old new = FitsNot event old × (new ≡ old)
-Turns began (Opening limits) (Opened (Ok done)) old new =
+abbrev pub Turns : {D E : Type 0} → Ghosts D → Ghosts E → Moments → Event D E → Outcome → Core → Core → Type 0
+Turns rows index began event NoEngine old new = AsksEngine event × (old.limits ≡ None) × (new ≡ old)
+Turns rows index began event DoesNotFit old new = FitsNot event old × (new ≡ old)
+Turns rows index began (Opening limits) (Opened (Ok done)) old new =
     AreWithin standard_limits limits × Opens began limits old new
-Turns began (Opening limits) (Opened (Err error)) old new =
+Turns rows index began (Opening limits) (Opened (Err error)) old new =
     AreWithin standard_limits limits × Refuses began error old new
-Turns began (Commit changes) (Committed result) old new =
+Turns rows index began (Commit changes) (Committed result) old new =
     FitTable changes old × MakesStep began (to_commit changes) (commit_answer_of result) old new
-Turns began SyncBatch (Synced result) old new = MakesStep began to_sync (sync_answer_of result) old new
-Turns began OptimizeStep (Optimized result) old new = MakesStep began to_optimize (optimize_answer_of result) old new
-Turns began (View leaves) (Viewed result) old new =
+Turns rows index began SyncBatch (Synced result) old new = MakesStep began to_sync (sync_answer_of result) old new
+Turns rows index began OptimizeStep (Optimized result) old new =
+    MakesStep began to_optimize (optimize_answer_of result) old new
+Turns rows index began (View leaves) (Viewed result) old new =
     MakesStep began (to_view (leaves_seen leaves.items)) (view_answer_of result) old new
-Turns began (Listing kind) (Listed result) old new = MakesStep began (to_list kind) (listing_answer_of result) old new
-Turns began (Crash rows index within) Crashed old new = Crashes within old new
-Turns began event outcome old new = ⊥
+Turns rows index began (Listing kind) (Listed result) old new =
+    MakesStep began (to_list kind) (listing_answer_of result) old new
+Turns rows index began (Crash rows' index' within) Crashed old new =
+    Crashes (record { rows = rows.moment rows'; index = index.moment index' }) within old new
+Turns rows index began event outcome old new = ⊥

@@ -22,13 +22,13 @@ mod crash;
 mod event;
 mod fits;
 mod indexing;
+mod killed;
 mod opening;
 mod run;
-mod script;
 mod view;
 mod world;
 
 pub use event::{Event, Outcome};
+pub use killed::killed_runs_open;
 pub use run::{step, steps};
-pub use script::runs_make_steps;
 pub use world::{Last, Place, World};

@@ -6,7 +6,8 @@ ghost use Rattle.fts_steps.specs.State.{State};
 ghost use Rattle.fts_steps.specs.Running.{Running, opened};
 ghost use Rattle.fts_engine.specs.Bounds.{AreWithin};
 ghost use Rattle.fts_engine.specs.Stands.{Keeps};
-ghost use Rattle.fts_core.specs.Core.{IsWithOrWithout, TakesBack};
+ghost use Rattle.fts_steps.specs.Right.{IsWithOrWithout};
+ghost use Rattle.fts_core.specs.Core.{TakesBack};
 ghost use Rattle.fts_core.specs.Lists.{Allows};
 
 use crate::{Event, Last, Outcome, Place, World};

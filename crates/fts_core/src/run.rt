@@ -1,8 +1,7 @@
 //! One event, and a list of events.
 ghost use Rattle.std.specs.Prelude.{◌≡◌, IsTrue, IfOk, IfErr, length};
-ghost use Rattle.fts_core.specs.Lists.{Allows, AllowsAll};
-ghost use Rattle.fts_core.specs.Headline.{Along, ViewsTellAcknowledged};
-ghost use Rattle.fts_core.specs.Headline.{OpeningsFindAcknowledged, IndexesAreRight};
+ghost use Rattle.fts_core.specs.Lists.{Allows};
+ghost use Rattle.fts_core.specs.Headline.{Along, KeepsPromises};
 
 use crate::commit::commit;
 use crate::crash::crash;
@@ -43,23 +42,17 @@ pub fn step<D: Disk + Drop, E: Disk + Drop>(
 ///
 /// Its contract is the headline, of devices that tell their content and of a world in which
 /// something stands, as that of `World::new`, for each event up to the first crash that can't come
-/// so: each view has the number of the acknowledged commits, and stands for their rows (`views`);
-/// each opening that answers `Ok` finds them, or them and the commit in doubt, and none answers
-/// that there is no database or a damaged one (`openings`); the index is right (`indexes`).
+/// so: each view has the number of the acknowledged commits, and stands for their rows; each
+/// opening that answers `Ok` finds them, or them and the commit in doubt, and none answers that
+/// there is no database or a damaged one; the index is right (`headline`).
 pub fn steps<D: Disk + Drop, E: Disk + Drop>(
     alloc: Global,
     world: World<D, E>,
     events: Vec<Event<D, E>>,
 ) -> Result<(World<D, E>, Vec<Outcome>), (World<D, E>, Vec<Event<D, E>>)>
     ensures counted { IfOk result (λ r. length r.1.items ≡ length events.items) }
-    ensures each { IfOk result (λ r. IsTrue D.tells → IsTrue E.tells
-        → AllowsAll world events.items r.1.items r.0) }
-    ensures views { IfOk result (λ r. IsTrue D.tells → IsTrue E.tells
-        → Along ViewsTellAcknowledged world events.items r.1.items r.0) }
-    ensures openings { IfOk result (λ r. IsTrue D.tells → IsTrue E.tells
-        → Along OpeningsFindAcknowledged world events.items r.1.items r.0) }
-    ensures indexes { IfOk result (λ r. IsTrue D.tells → IsTrue E.tells
-        → Along IndexesAreRight world events.items r.1.items r.0) }
+    ensures headline { IfOk result (λ r. IsTrue D.tells → IsTrue E.tells
+        → Along KeepsPromises world events.items r.1.items r.0) }
     ensures back { IfErr result (λ e. (e.0 ≡ world) × (e.1 ≡ events)) }
 {
     let mut outcomes = match Vec::with_capacity(alloc, events.len()) {

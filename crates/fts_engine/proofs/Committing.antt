@@ -3,7 +3,7 @@ use Rattle.std.proofs.Common.{◌≡◌, ℕ, ◌+◌, ◌-◌, ◌<◌, List, [
 use Rattle.std.proofs.lemmas.List.{map-append, length-map}
 use Rattle.std.proofs.lemmas.List.Elements.{All-push}
 use Rattle.std.proofs.lemmas.Bool.{ltb-true, false_from_ne_true}
-use Rattle.std.specs.Prelude.{Bool, true, false, nat_lt, Result, Ok, None}
+use Rattle.std.specs.Prelude.{Bool, true, false, nat_lt, Result, Ok, Some, None}
 use Rattle.fts_disk.specs.Device.{Files}
 use Rattle.fts_disk.specs.Crash.{Images}
 use Rattle.fts_disk.specs.declared.disk.Disk.{Ghosts}
@@ -27,11 +27,11 @@ use Rattle.fts_rowcodec.specs.Payload.{commit_payload, settings_payload, IsWritt
 use Rattle.fts_entries.specs.Entry.{IndexEntry, IndexState}
 use Rattle.fts_entries.specs.Exact.{IsExact}
 use Rattle.fts_ixcodec.specs.Payload.{entry_payload}
-use Rattle.fts_steps.specs.State.{State, payloads, index_payloads, rows_magic, index_magic, end_after, with_commits, turns_of, IsSound, HasEntries}
+use Rattle.fts_steps.specs.State.{State, payloads, index_payloads, rows_magic, index_magic, end_after, with_commits, turns_of, IsSound, HasEntries, IsRight}
 use Rattle.fts_steps.specs.Running.{Running}
 use Rattle.fts_steps.proofs.Growing.{entries_stay}
 use Rattle.fts_steps.specs.Crash.{MayHold}
-use Rattle.fts_steps.specs.Step.{Answer, to_commit, to_view, committed, full, viewed, plain_answer, changes_of, is_disk_fault, MayAnswer}
+use Rattle.fts_steps.specs.Step.{Answer, to_commit, committed, full, plain_answer, state_view, changes_of, is_disk_fault, MayAnswer}
 use Rattle.fts_commits.specs.declared.refusal.Refusal.{Refusal}
 use Rattle.fts_rows.specs.declared.error.PlanError.{PlanError}
 use Rattle.fts_rows.specs.declared.error.PlanError.TheVariants.{NoMemory, Refused}
@@ -40,7 +40,7 @@ use Rattle.fts_engine.specs.Refusing.{refusal_answer}
 use Rattle.fts_engine.specs.declared.engine.Engine.{Engine}
 use Rattle.fts_engine.specs.Bounds.{AreWithin}
 use Rattle.fts_engine.specs.Kept.{kept_settings, kept_rows, kept_limits}
-use Rattle.fts_engine.specs.Stands.{Keeps, KeepsLog, Stands, OnRows, OnIndex, engine_limits}
+use Rattle.fts_engine.specs.Stands.{Keeps, KeepsLog, Holds, OnRows, OnIndex, engine_limits}
 use Rattle.fts_engine.proofs.Accepting.{accepted_more, replay_accepted, AreAccepted-push}
 use Rattle.fts_engine.proofs.Fitting.{accepted_fits, replay_fits}
 
@@ -60,14 +60,14 @@ sound-push state commit after sound written ok = record {
 module _ (running : Running) (commit : Commit) (limits : Limits) (after : Rows) (going : running.stopped ≡ None)
     (ok : after_commit limits commit (replay running.state.commits) ≡ Ok after) where
   answered : (past : Bool) → nat_lt limits.log_bytes (end_after running.state commit) ≡ past
-      → plain_answer limits running (to_commit commit) ≡ elim past [ true ↦ full (end_after running.state commit) | false ↦ committed (length running.state.commits + 1) ]
+      → plain_answer limits running (to_commit commit) ≡ Some (elim past [ true ↦ full (end_after running.state commit) | false ↦ committed (length running.state.commits + 1) ])
   answered true is = rw (going, ok, is) refl
   answered false is = rw (going, ok, is) refl
 
-  pub is_full : limits.log_bytes < end_after running.state commit → plain_answer limits running (to_commit commit) ≡ full (end_after running.state commit)
+  pub is_full : limits.log_bytes < end_after running.state commit → plain_answer limits running (to_commit commit) ≡ Some (full (end_after running.state commit))
   is_full past = answered true (grind (arith, past))
 
-  pub is_committed : (limits.log_bytes < end_after running.state commit → ⊥) → plain_answer limits running (to_commit commit) ≡ committed (length running.state.commits + 1)
+  pub is_committed : (limits.log_bytes < end_after running.state commit → ⊥) → plain_answer limits running (to_commit commit) ≡ Some (committed (length running.state.commits + 1))
   is_committed within = answered false (false_from_ne_true _ (λ past. within (ltb-true limits.log_bytes _ past)))
 
 -- ---- one log
@@ -221,22 +221,21 @@ module _ {D E : Type 0} {disk : Ghosts D} {disk' : Ghosts E} (running : Running)
 
   -- a view of what is kept is the state's
   pub is_viewed : (asked : List Leaf) (number : ℕ) (view : View) → number ≡ length running.state.commits
-      → view ≡ view_of (rules_of (kept_settings engine.kept)) (kept_rows engine.kept).list number asked
-      → plain_answer (engine_limits engine) running (to_view asked) ≡ viewed view
+      → view ≡ view_of (rules_of (kept_settings engine.kept)) (kept_rows engine.kept).list number asked → view ≡ state_view running.state asked
   is_viewed asked number view numbered same =
-      ap (λ (s : Settings). viewed (view_of (rules_of s) (replay running.state.commits).list (length running.state.commits) asked)) keeps.settings
-      ∙ ap (λ (rows : Rows). viewed (view_of (rules_of (kept_settings engine.kept)) rows.list (length running.state.commits) asked)) (sym keeps.rows)
-      ∙ ap (λ (n : ℕ). viewed (view_of (rules_of (kept_settings engine.kept)) (kept_rows engine.kept).list n asked)) (sym numbered)
-      ∙ ap viewed (sym same)
+      same
+      ∙ ap (λ (n : ℕ). view_of (rules_of (kept_settings engine.kept)) (kept_rows engine.kept).list n asked) numbered
+      ∙ ap (λ (rows : Rows). view_of (rules_of (kept_settings engine.kept)) rows.list (length running.state.commits) asked) keeps.rows
+      ∙ ap (λ (s : Settings). view_of (rules_of s) (replay running.state.commits).list (length running.state.commits) asked) (sym keeps.settings)
 
 -- what is kept of an engine that stands for what runs is right
-pub exact_kept : {D E : Type 0} {disk : Ghosts D} {disk' : Ghosts E} (running : Running) (engine : Engine D E disk disk') → Stands running engine
-    → IsExact (rules_of (kept_settings engine.kept)) (kept_rows engine.kept).list (turns_of running.state) running.index
-exact_kept running engine stands =
-    let has = stands.holds.has in
+pub exact_kept : {D E : Type 0} {disk : Ghosts D} {disk' : Ghosts E} (running : Running) (engine : Engine D E disk disk') → Holds running engine
+    → IsRight running.state → IsExact (rules_of (kept_settings engine.kept)) (kept_rows engine.kept).list (turns_of running.state) running.index
+exact_kept running engine stands right =
+    let has = stands.has in
     subst (λ (s : Settings). IsExact (rules_of s) (kept_rows engine.kept).list (turns_of running.state) running.index) has.keeps.settings
     (subst (λ (rows : Rows). IsExact (rules_of running.state.settings) rows.list (turns_of running.state) running.index) (sym has.keeps.rows)
-    (subst (λ (s : IndexState). IsExact (rules_of running.state.settings) (replay running.state.commits).list (turns_of running.state) s) (sym has.left) stands.right))
+    (subst (λ (s : IndexState). IsExact (rules_of running.state.settings) (replay running.state.commits).list (turns_of running.state) s) (sym has.left) right))
 
 -- the number of the next commit is one more than there are
 pub numbered : (running : Running) → {n : ℕ} → n ≡ length (payloads running.state) → n ≡ length running.state.commits + 1

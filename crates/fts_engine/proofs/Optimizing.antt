@@ -1,11 +1,11 @@
 -- What a step of OPTIMIZE answers, and what it leaves.
-use Rattle.std.proofs.Common.{◌≡◌, ◌≢◌, ℕ, ◌+◌, ◌<◌, ◌≤◌, ◌^◌, List, [], ◌∷◌, ◌++◌, length, length-append, refl, ap, subst, sym, ◌∙◌, arith, inl, inr, ⊎_elim}
+use Rattle.std.proofs.Common.{◌≡◌, ℕ, ◌<◌, ◌≤◌, ◌^◌, List, [], ◌∷◌, ◌++◌, length, length-append, refl, ap, subst, sym, ◌∙◌, arith, inl, inr, ⊎_elim}
 use Rattle.std.proofs.lemmas.Bool.{ltb-true, false_from_ne_true, false≢true, or_cases}
 use Rattle.std.proofs.lemmas.List.{map-append}
 use Rattle.std.proofs.lemmas.List.Elements.{All-head, All-tail, All-from_recursion}
 use Rattle.std.proofs.lemmas.List.Folds.{list_any-append}
 use Rattle.std.proofs.lemmas.Slice.Eq.{bytes_eq-Decides}
-use Rattle.std.specs.Prelude.{true, false, nat_lt, fold, None, All}
+use Rattle.std.specs.Prelude.{true, false, nat_lt, fold, Some, None, All}
 use Rattle.std.specs.List.{AllByRecursion, flat_map}
 use Rattle.std.specs.Map.{keys_of}
 use Rattle.std.specs.Str.{bytes_eq}
@@ -31,12 +31,12 @@ use Rattle.fts_index.specs.declared.passing.PassPlan.{PassPlan}
 use Rattle.fts_index.specs.declared.passing.PassPlan.TheVariants.{Begin, Word, Finish}
 use Rattle.fts_index.specs.Passing.{step_entry, FitsStep, HasPackedNodes}
 use Rattle.fts_index.specs.declared.index.Index.{Index}
-use Rattle.fts_steps.specs.State.{State, turns_of, index_state, index_magic, index_payloads, index_end_after, with_entries, HasEntries, IsRight}
+use Rattle.fts_steps.specs.State.{State, turns_of, index_state, index_magic, index_payloads, index_end_after, with_entries, HasEntries}
 use Rattle.fts_steps.specs.Running.{Running, next_optimized}
 use Rattle.fts_steps.specs.Crash.{MayHoldIndex}
 use Rattle.fts_steps.specs.Step.{to_optimize, full, passed, step_of, optimize_answer, plain_answer}
 use Rattle.fts_steps.specs.declared.optimize.OptimizeStep.TheVariants.{Nothing}
-use Rattle.fts_steps.proofs.Growing.{step_stands, step_leaves, step_right}
+use Rattle.fts_steps.proofs.Growing.{step_stands, step_leaves}
 use Rattle.fts_engine.specs.declared.engine.Engine.{Engine}
 use Rattle.fts_engine.specs.declared.kept.Kept.{Kept}
 use Rattle.fts_engine.specs.Batch.{IsFramedStep}
@@ -47,20 +47,20 @@ use Rattle.fts_engine.proofs.Committing.{left_either}
 -- ---- what it answers
 
 module _ (limits : Limits) (running : Running) (going : running.stopped ≡ None) where
-  answered : (steps : List IndexEntry) → next_optimized running ≡ steps → plain_answer limits running to_optimize ≡ optimize_answer limits running.state steps
+  answered : (steps : List IndexEntry) → next_optimized running ≡ steps → plain_answer limits running to_optimize ≡ Some (optimize_answer limits running.state steps)
   answered steps is = rw (going, is) refl
 
   -- where there is nothing to do, it says so
-  pub is_idle : next_optimized running ≡ [] → plain_answer limits running to_optimize ≡ passed Nothing
+  pub is_idle : next_optimized running ≡ [] → plain_answer limits running to_optimize ≡ Some (passed Nothing)
   is_idle is = answered [] is
 
   module _ (entry : IndexEntry) (is : next_optimized running ≡ entry ∷ []) where
     -- else where the log would end, if that is past its limit
-    pub is_full : limits.log_bytes < index_end_after running.state entry → plain_answer limits running to_optimize ≡ full (index_end_after running.state entry)
+    pub is_full : limits.log_bytes < index_end_after running.state entry → plain_answer limits running to_optimize ≡ Some (full (index_end_after running.state entry))
     is_full past = answered (entry ∷ []) is ∙ (let over : nat_lt limits.log_bytes (index_end_after running.state entry) ≡ true = grind (arith, past) in rw over refl)
 
     -- else what it did
-    pub is_passed : (limits.log_bytes < index_end_after running.state entry → ⊥) → plain_answer limits running to_optimize ≡ passed (step_of entry)
+    pub is_passed : (limits.log_bytes < index_end_after running.state entry → ⊥) → plain_answer limits running to_optimize ≡ Some (passed (step_of entry))
     is_passed within =
         answered (entry ∷ []) is
         ∙ (let under : nat_lt limits.log_bytes (index_end_after running.state entry) ≡ false = false_from_ne_true _ (λ past. within (ltb-true limits.log_bytes _ past)) in rw under refl)
@@ -162,9 +162,6 @@ module _ {D E : Type 0} {disk : Ghosts D} {disk' : Ghosts E} (running : Running)
       ∙ ap (λ (s : IndexState). after_entry (turns_of state) s entry) has.left
       ∙ sym (step_leaves state entry has.keeps.entries has.indexed.are.ascend next_left)
       ∙ ap index_state behind_is
-
-  pub right_after : IsRight state → IsRight behind
-  right_after right = subst IsRight behind_is (step_right state entry has.keeps.entries has.indexed.are.ascend next_left right)
 
   -- the index of what is kept stands for the state behind it
   pub indexed_after : (new : Kept) → IsIndexed new state.commits (after_entry (turns_of state) running.index entry)

@@ -12,18 +12,17 @@ use Rattle.fts_disk.proofs.Runs.{reads_now, leaves_weaker}
 use Rattle.fts_log.specs.Log.{StandsFor, device_of}
 use Rattle.fts_log.specs.declared.log.Log.{Log}
 use Rattle.fts_entries.specs.Entry.{IndexEntry, IndexState, after_entry}
-use Rattle.fts_steps.specs.State.{State, payloads, index_payloads, index_state, turns_of, with_commits, with_entries, IsRight, IsRows, IsIndex}
+use Rattle.fts_steps.specs.State.{State, payloads, index_payloads, index_state, turns_of, with_commits, with_entries, IsRows, IsIndex}
 use Rattle.fts_steps.specs.Crash.{MayHold, MayHoldIndex, IsBetween, IsIndexBetween}
 use Rattle.fts_steps.specs.Running.{Running, What, made, batched, optimized, failed, batch_failed, optimize_failed, grown, with_what, next_index, next_batch, next_optimized}
-use Rattle.fts_steps.specs.Step.{Ask, to_commit, to_sync, to_optimize, Answer, disk_fault, committed, stopped, is_disk_fault, changes_of, after, unless_stopped, writes, MayAnswer, Leaves, Steps, plain_answer}
+use Rattle.fts_steps.specs.Step.{Ask, to_commit, to_sync, to_optimize, Answer, disk_fault, committed, stopped, is_disk_fault, changes_of, after, unless_stopped, would_write, MayAnswer, Leaves, Keeps as StepKeeps, Steps, plain_answer}
 use Rattle.fts_steps.proofs.Adding.{rows_stay, index_stay}
-use Rattle.fts_steps.proofs.Growing.{index_stays, right_stays}
+use Rattle.fts_steps.proofs.Growing.{index_stays}
 use Rattle.fts_types.specs.declared.settings.Settings.{Settings}
 use Rattle.fts_engine.specs.declared.engine.Engine.{Engine}
 use Rattle.fts_engine.specs.Kept.{kept_settings, kept_rows, kept_limits, IsIndexed, StaysIndexed}
-use Rattle.fts_engine.specs.Stands.{Keeps, Has, Holds, Stands, OnRows, OnIndex, engine_sight, engine_limits, engine_faults, rows_device, index_device, stopped_at}
+use Rattle.fts_engine.specs.Stands.{Keeps, Holds, OnRows, OnIndex, engine_sight, engine_limits, engine_faults, rows_device, index_device, stopped_at}
 use Rattle.fts_engine.proofs.Committing.{keeps_in, on_rows, on_index}
-use Rattle.fts_engine.proofs.Indexing.{turns_known}
 
 -- ---- what a log still is
 
@@ -120,34 +119,42 @@ module _ {D E : Type 0} {disk : Ghosts D} {disk' : Ghosts E} (old new : Engine D
 
   -- a step that changes nothing
   pub refuses : (ask : Ask) (answer : Answer) → changes_of ask answer ≡ [] → is_disk_fault answer ≡ false
-      → ((running : Running) → Stands running old → MayAnswer (engine_limits old) running ask answer) → Steps engine_sight ask answer old new
+      → ((running : Running) → Holds running old → MayAnswer (engine_limits old) running ask answer) → Steps engine_sight ask answer old new
   refuses ask answer adds calm may = record {
     more = [];
-    alone = λ e. refl;
-    may = may;
-    stands = λ running stands. subst (λ (whats : List What). Stands (grown running (map (λ (what : What). record { by = 0; what = what }) whats)) new) (sym adds)
-        (record { holds = holds_still running stands.holds; right = stands.right });
-    crash = λ e told running stands. inl (ap (λ (log : Log D disk). device_of log) same);
-    index = λ e told running stands. inl (ap (λ (log : Log E disk'). device_of log) index);
-    settings = settings;
-    limits = limits;
-    faults = record {
-      rose = λ fault. absurd (false≢true (sym calm ∙ fault));
-      calm = λ e. same_faults;
-      never_falls = omega (arith, same_faults);
+    each = λ running stands. record {
+      alone = λ e. refl;
+      may = may running stands;
+      stands = subst (λ (whats : List What). Holds (grown running (map (λ (what : What). record { by = 0; what = what }) whats)) new) (sym adds) (holds_still running stands);
+      rows = λ e told. inl (ap (λ (log : Log D disk). device_of log) same);
+      index = λ e told. inl (ap (λ (log : Log E disk'). device_of log) index);
+      keeps = kept;
     };
-    sum = λ n is. absurd (no_fault answer n calm is);
+    tells = λ e. absurd (false≢true e);
+    keeps = kept;
   }
+    where
+      kept : StepKeeps engine_sight answer old new
+      kept = record {
+        settings = settings;
+        limits = limits;
+        faults = record {
+          rose = λ fault. absurd (false≢true (sym calm ∙ fault));
+          calm = λ e. same_faults;
+          never_falls = omega (arith, same_faults);
+        };
+        sum = λ n is. absurd (no_fault answer n calm is);
+      }
 
 -- after a fault each commit and each batch is refused
-pub is_stopped : {D E : Type 0} {disk : Ghosts D} {disk' : Ghosts E} (engine : Engine D E disk disk') (faults : ℕ) (running : Running) → Stands running engine
-    → stopped_at engine ≡ Some faults → (answer : Answer) → unless_stopped running.stopped answer ≡ stopped faults
-is_stopped engine faults running stands is answer = let same : running.stopped ≡ Some faults = sym stands.holds.has.stopped ∙ is in rw same refl
+pub is_stopped : {D E : Type 0} {disk : Ghosts D} {disk' : Ghosts E} (engine : Engine D E disk disk') (faults : ℕ) (running : Running) → Holds running engine
+    → stopped_at engine ≡ Some faults → (answer : Answer) → Some (unless_stopped running.stopped answer) ≡ Some (stopped faults)
+is_stopped engine faults running stands is answer = let same : running.stopped ≡ Some faults = sym stands.has.stopped ∙ is in rw same refl
 
 -- changes that fit the engine's settings fit those of the state for which it stands
-pub can_still : {D E : Type 0} {disk : Ghosts D} {disk' : Ghosts E} (running : Running) (engine : Engine D E disk disk') → Stands running engine → (commit : Commit)
+pub can_still : {D E : Type 0} {disk : Ghosts D} {disk' : Ghosts E} (running : Running) (engine : Engine D E disk disk') → Holds running engine → (commit : Commit)
     → CanCommit (length (kept_settings engine.kept).columns) commit → CanCommit (length running.state.settings.columns) commit
-can_still running engine stands commit can = subst (λ (s : Settings). CanCommit (length s.columns) commit) (sym stands.holds.has.keeps.settings) can
+can_still running engine stands commit can = subst (λ (s : Settings). CanCommit (length s.columns) commit) (sym stands.has.keeps.settings) can
 
 -- the sum of two counts rises as one does
 rose_sum : (before after more : ℕ) → Rose before after → Rose (before + more) (after + more)
@@ -173,8 +180,8 @@ left_in_doubt disk old new running commit faults counts may run = record {
 module _ {D E : Type 0} {disk : Ghosts D} {disk' : Ghosts E} (old new : Engine D E disk disk') (commit : Commit) (settings : kept_settings new.kept ≡ kept_settings old.kept)
     (limits : kept_limits new.kept ≡ kept_limits old.kept) (index : new.index ≡ old.index) (going : stopped_at old ≡ None) where
   -- the index log is as it was
-  index_stays_on : (running : Running) → Stands running old → IsTrue disk'.tells → OnIndex disk' running (index_device new)
-  index_stays_on running stands told = subst (λ (log : Log E disk'). OnIndex disk' running (device_of log)) (sym index) (stands.holds.on_index told)
+  index_stays_on : (running : Running) → Holds running old → IsTrue disk'.tells → OnIndex disk' running (index_device new)
+  index_stays_on running stands told = subst (λ (log : Log E disk'). OnIndex disk' running (device_of log)) (sym index) (stands.on_index told)
 
   same_index : index_device new ≡ index_device old
   same_index = ap (λ (log : Log E disk'). device_of log) index
@@ -184,109 +191,118 @@ module _ {D E : Type 0} {disk : Ghosts D} {disk' : Ghosts E} (old new : Engine D
 
   -- the commit was made: its number, what is kept, and the log with its entry
   pub commits : (number : ℕ) → stopped_at new ≡ stopped_at old → disk.faults (rows_device new) ≡ disk.faults (rows_device old)
-      → ((running : Running) → Stands running old → running.stopped ≡ None → plain_answer (engine_limits old) running (to_commit commit) ≡ committed number)
-      → ((running : Running) → Stands running old → Keeps (with_commits running.state (commit ∷ [])) new)
-      → ((running : Running) → Stands running old → IsTrue disk.tells → running.stopped ≡ None → StandsFor (payloads (with_commits running.state (commit ∷ []))) new.rows)
-      → ((running : Running) → Stands running old → IsTrue disk.tells → running.stopped ≡ None
+      → ((running : Running) → Holds running old → running.stopped ≡ None → plain_answer (engine_limits old) running (to_commit commit) ≡ Some (committed number))
+      → ((running : Running) → Holds running old → Keeps (with_commits running.state (commit ∷ [])) new)
+      → ((running : Running) → Holds running old → IsTrue disk.tells → running.stopped ≡ None → StandsFor (payloads (with_commits running.state (commit ∷ []))) new.rows)
+      → ((running : Running) → Holds running old → IsTrue disk.tells → running.stopped ≡ None
       → LeavesOnly disk (rows_device old) (rows_device new) (MayHold running.state (commit ∷ [])))
-      → ((running : Running) → Stands running old → IsIndexed new.kept (running.state.commits ++ commit ∷ []) running.index)
+      → ((running : Running) → Holds running old → IsIndexed new.kept (running.state.commits ++ commit ∷ []) running.index)
       → Steps engine_sight (to_commit commit) (committed number) old new
   commits number still calm may keeps logged left indexed = record {
     more = [];
-    alone = λ e. refl;
-    may = λ running stands. may running stands (sym stands.holds.has.stopped ∙ going);
-    stands = λ running stands.
-        let holds = stands.holds in
-        let before = holds.has.keeps in
-        record {
-          right = right_stays running.state commit (turns_known _ _ _ running.state.commits running.index holds.has.indexed)
-              (turns_known _ _ _ (running.state.commits ++ commit ∷ []) running.index (indexed running stands)) before.entries stands.right;
-          holds = record {
-            has = record {
-              keeps = keeps running stands;
-              indexed = indexed running stands;
-              left = holds.has.left ∙ sym (index_stays running.state (commit ∷ []) before.entries);
-              stopped = still ∙ holds.has.stopped;
-            };
-            logs = λ told going. record { entries = logged running stands told going; sure = (holds.logs told going).sure };
-            index_logs = λ told going. record {
-              entries = subst (λ (log : Log E disk'). StandsFor (index_payloads running.state) log) (sym index) (holds.index_logs told going).entries;
-              sure = (holds.index_logs told going).sure;
-            };
-            on_rows = λ told. on_rows (with_what running (made commit)) _ new.rows (keeps running stands).sound (keeps running stands).log
-                (logged running stands told (sym holds.has.stopped ∙ going));
-            on_index = λ told.
-                let on = index_stays_on running stands told in
-                record {
-                  reads = λ going. index_stay running.state (commit ∷ []) (disk'.seen (index_device new) 0) (on.reads going);
-                  may_read = may_hold running (disk'.seen (index_device new)) on.may_read;
-                  crash = λ c may. may_hold running c (on.crash c may);
-                };
-          };
-        };
-    crash = λ e told running stands.
-        let sure = (stands.holds.logs told (sym stands.holds.has.stopped ∙ going)).sure in
-        inr (leaves_weaker disk (rows_device old) (rows_device new) (MayHold running.state (commit ∷ [])) (IsBetween running (with_what running (made commit)))
-        (between_made running commit sure) (left running stands told (sym stands.holds.has.stopped ∙ going)));
-    index = λ e told running stands. inl same_index;
-    settings = settings;
-    limits = limits;
-    faults = record { rose = λ e. absurd (false≢true e); calm = λ e. omega (arith, calm, same_count); never_falls = omega (arith, calm, same_count) };
-    sum = λ n e. absurd cc;
+    each = λ running stands. record {
+      alone = λ e. refl;
+      may = may running stands (sym stands.has.stopped ∙ going);
+      stands = behind running stands;
+      rows = λ e told.
+          let sure = (stands.logs told (sym stands.has.stopped ∙ going)).sure in
+          inr (leaves_weaker disk (rows_device old) (rows_device new) (MayHold running.state (commit ∷ [])) (IsBetween running (with_what running (made commit)))
+          (between_made running commit sure) (left running stands told (sym stands.has.stopped ∙ going)));
+      index = λ e told. inl same_index;
+      keeps = kept;
+    };
+    tells = λ e. absurd (false≢true e);
+    keeps = kept;
   }
     where
+      kept : StepKeeps engine_sight (committed number) old new
+      kept = record {
+        settings = settings;
+        limits = limits;
+        faults = record { rose = λ e. absurd (false≢true e); calm = λ e. omega (arith, calm, same_count); never_falls = omega (arith, calm, same_count) };
+        sum = λ n e. absurd cc;
+      }
+
       may_hold : (running : Running) (c : Files) → MayHoldIndex running.state running.loose c → MayHoldIndex (with_commits running.state (commit ∷ [])) running.loose c
       may_hold running c (inl before) = inl (index_stay running.state (commit ∷ []) (c 0) before)
       may_hold running c (inr behind) = inr (index_stay (with_entries running.state running.loose) (commit ∷ []) (c 0) behind)
 
+      behind : (running : Running) → Holds running old → Holds (with_what running (made commit)) new
+      behind running stands = record {
+        has = record {
+          keeps = keeps running stands;
+          indexed = indexed running stands;
+          left = stands.has.left ∙ sym (index_stays running.state (commit ∷ []) stands.has.keeps.entries);
+          stopped = still ∙ stands.has.stopped;
+        };
+        logs = λ told going. record { entries = logged running stands told going; sure = (stands.logs told going).sure };
+        index_logs = λ told going. record {
+          entries = subst (λ (log : Log E disk'). StandsFor (index_payloads running.state) log) (sym index) (stands.index_logs told going).entries;
+          sure = (stands.index_logs told going).sure;
+        };
+        on_rows = λ told. on_rows (with_what running (made commit)) _ new.rows (keeps running stands).sound (keeps running stands).log
+            (logged running stands told (sym stands.has.stopped ∙ going));
+        on_index = λ told.
+            let on = index_stays_on running stands told in
+            record {
+              reads = λ going. index_stay running.state (commit ∷ []) (disk'.seen (index_device new) 0) (on.reads going);
+              may_read = may_hold running (disk'.seen (index_device new)) on.may_read;
+              crash = λ c may. may_hold running c (on.crash c may);
+            };
+      }
+
   -- the device failed: what is kept stays, and the commit is in doubt
   pub fails : (faults : ℕ) → stopped_at new ≡ Some faults → Rose (disk.faults (rows_device old)) (disk.faults (rows_device new))
       → disk.faults (rows_device old) ≤ disk.faults (rows_device new) → faults ≡ engine_faults new
-      → ((running : Running) → Stands running old → running.stopped ≡ None → plain_answer (engine_limits old) running (to_commit commit) ≡ committed (length running.state.commits + 1))
-      → ((running : Running) → Stands running old → Keeps running.state new)
+      → ((running : Running) → Holds running old → running.stopped ≡ None → plain_answer (engine_limits old) running (to_commit commit) ≡ Some (committed (length running.state.commits + 1)))
+      → ((running : Running) → Holds running old → Keeps running.state new)
       → ((t : ℕ) (c : Files) → IsTrue disk.tells → t ≤ disk.moment (rows_device new) → disk.images (rows_device new) c → disk.left_since (rows_device new) t c)
       → (IsTrue disk.tells → disk.images (rows_device new) (disk.seen (rows_device new)))
-      → ((running : Running) → Stands running old → IsTrue disk.tells → running.stopped ≡ None
+      → ((running : Running) → Holds running old → IsTrue disk.tells → running.stopped ≡ None
       → LeavesOnly disk (rows_device old) (rows_device new) (MayHold running.state (commit ∷ [])))
       → StaysIndexed old.kept new.kept → Steps engine_sight (to_commit commit) (disk_fault faults) old new
   fails faults noted rose up sum may keeps counts stays left indexed = record {
     more = [];
-    alone = λ e. refl;
-    may = λ running stands. subst (λ (a : Answer). IsTrue (writes a)) (sym (may running stands (sym stands.holds.has.stopped ∙ going))) refl;
-    stands = λ running stands.
-        let holds = stands.holds in
-        record {
-          right = stands.right;
-          holds = record {
-            has = record {
-              keeps = keeps running stands;
-              indexed = indexed running.state.commits running.index holds.has.indexed;
-              left = holds.has.left;
-              stopped = noted;
-            };
-            logs = λ told e. absurd (no_none faults e);
-            index_logs = λ told e. absurd (no_none faults e);
-            on_rows = λ told. left_in_doubt disk (rows_device old) (rows_device new) running commit faults (λ t c le may. counts t c told le may) (stays told)
-                (left running stands told (sym holds.has.stopped ∙ going));
-            on_index = λ told.
-                let on = index_stays_on running stands told in
-                record { reads = λ e. absurd (no_none faults e); may_read = on.may_read; crash = on.crash };
-          };
+    each = λ running stands. record {
+      alone = λ e. refl;
+      may = subst (λ (a : Option Answer). IsTrue (would_write a)) (sym (may running stands (sym stands.has.stopped ∙ going))) refl;
+      stands = record {
+        has = record {
+          keeps = keeps running stands;
+          indexed = indexed running.state.commits running.index stands.has.indexed;
+          left = stands.has.left;
+          stopped = noted;
         };
-    crash = λ e told running stands.
-        inr (leaves_weaker disk (rows_device old) (rows_device new) (MayHold running.state (commit ∷ [])) (IsBetween running (with_what running (failed faults (commit ∷ []))))
-        (between_failed running commit faults) (left running stands told (sym stands.holds.has.stopped ∙ going)));
-    index = λ e told running stands. inl same_index;
-    settings = settings;
-    limits = limits;
-    faults = record {
-      rose = λ e. subst (λ (n : ℕ). Rose (engine_faults old) (disk.faults (rows_device new) + n)) (sym same_count)
-          (rose_sum (disk.faults (rows_device old)) (disk.faults (rows_device new)) (disk'.faults (index_device old)) rose);
-      calm = λ no. absurd (no refl);
-      never_falls = omega (arith, up, same_count);
+        logs = λ told e. absurd (no_none faults e);
+        index_logs = λ told e. absurd (no_none faults e);
+        on_rows = λ told. left_in_doubt disk (rows_device old) (rows_device new) running commit faults (λ t c le may. counts t c told le may) (stays told)
+            (left running stands told (sym stands.has.stopped ∙ going));
+        on_index = λ told.
+            let on = index_stays_on running stands told in
+            record { reads = λ e. absurd (no_none faults e); may_read = on.may_read; crash = on.crash };
+      };
+      rows = λ e told.
+          inr (leaves_weaker disk (rows_device old) (rows_device new) (MayHold running.state (commit ∷ [])) (IsBetween running (with_what running (failed faults (commit ∷ []))))
+          (between_failed running commit faults) (left running stands told (sym stands.has.stopped ∙ going)));
+      index = λ e told. inl same_index;
+      keeps = kept;
     };
-    sum = λ n e. (let same : faults ≡ n = (let is = e in cc) in sym same ∙ sum);
+    tells = λ e. absurd (false≢true e);
+    keeps = kept;
   }
+    where
+      kept : StepKeeps engine_sight (disk_fault faults) old new
+      kept = record {
+        settings = settings;
+        limits = limits;
+        faults = record {
+          rose = λ e. subst (λ (n : ℕ). Rose (engine_faults old) (disk.faults (rows_device new) + n)) (sym same_count)
+              (rose_sum (disk.faults (rows_device old)) (disk.faults (rows_device new)) (disk'.faults (index_device old)) rose);
+          calm = λ no. absurd (no refl);
+          never_falls = omega (arith, up, same_count);
+        };
+        sum = λ n e. (let same : faults ≡ n = (let is = e in cc) in sym same ∙ sum);
+      }
 
 -- ---- an entry of the index log
 
@@ -315,8 +331,8 @@ optimizes = record { made_is = λ running. refl; fails_is = λ running faults. r
 module _ {D E : Type 0} {disk : Ghosts D} {disk' : Ghosts E} (old new : Engine D E disk disk') (settings : kept_settings new.kept ≡ kept_settings old.kept)
     (limits : kept_limits new.kept ≡ kept_limits old.kept) (rows : new.rows ≡ old.rows) (going : stopped_at old ≡ None)
     (ask : Ask) (what : What) (failing : ℕ → What) (more : Running → List IndexEntry) (next : Running → IndexState) (writing : WritesEntry ask what failing more next) where
-  rows_stay_on : (running : Running) → Stands running old → IsTrue disk.tells → OnRows disk running (rows_device new)
-  rows_stay_on running stands told = subst (λ (log : Log D disk). OnRows disk running (device_of log)) (sym rows) (stands.holds.on_rows told)
+  rows_stay_on : (running : Running) → Holds running old → IsTrue disk.tells → OnRows disk running (rows_device new)
+  rows_stay_on running stands told = subst (λ (log : Log D disk). OnRows disk running (device_of log)) (sym rows) (stands.on_rows told)
 
   same_rows : rows_device new ≡ rows_device old
   same_rows = ap (λ (log : Log D disk). device_of log) rows
@@ -330,60 +346,40 @@ module _ {D E : Type 0} {disk : Ghosts D} {disk' : Ghosts E} (old new : Engine D
   -- the entry was written: what is kept, and the log with it
   pub writes_entry : (answer : Answer) → changes_of ask answer ≡ what ∷ [] → is_disk_fault answer ≡ false
       → stopped_at new ≡ stopped_at old → disk'.faults (index_device new) ≡ disk'.faults (index_device old)
-      → ((running : Running) → Stands running old → running.stopped ≡ None → MayAnswer (engine_limits old) running ask answer)
-      → ((running : Running) → Stands running old → Keeps (behind running).state new)
-      → ((running : Running) → Stands running old → IsTrue disk'.tells → running.stopped ≡ None → StandsFor (index_payloads (behind running).state) new.index)
-      → ((running : Running) → Stands running old → IsTrue disk'.tells → running.stopped ≡ None
+      → ((running : Running) → Holds running old → running.stopped ≡ None → MayAnswer (engine_limits old) running ask answer)
+      → ((running : Running) → Holds running old → Keeps (behind running).state new)
+      → ((running : Running) → Holds running old → IsTrue disk'.tells → running.stopped ≡ None → StandsFor (index_payloads (behind running).state) new.index)
+      → ((running : Running) → Holds running old → IsTrue disk'.tells → running.stopped ≡ None
       → LeavesOnly disk' (index_device old) (index_device new) (MayHoldIndex running.state (more running)))
-      → ((running : Running) → Stands running old → IsIndexed new.kept running.state.commits (next running))
-      → ((running : Running) → Stands running old → IsRight (behind running).state)
-      → ((running : Running) → Stands running old → next running ≡ index_state (behind running).state)
+      → ((running : Running) → Holds running old → IsIndexed new.kept running.state.commits (next running))
+      → ((running : Running) → Holds running old → next running ≡ index_state (behind running).state)
       → Steps engine_sight ask answer old new
-  writes_entry answer adds no_disk_fault still calm may keeps logged left indexed right leaves = record {
+  writes_entry answer adds no_disk_fault still calm may keeps logged left indexed leaves = record {
     more = [];
-    alone = λ e. refl;
-    may = λ running stands. may running stands (sym stands.holds.has.stopped ∙ going);
-    stands = λ running stands.
-        let holds = stands.holds in
-        let has : Has (behind running) new = record {
-          keeps = keeps running stands;
-          indexed = indexed running stands;
-          left = leaves running stands;
-          stopped = still ∙ holds.has.stopped;
-        } in
-        subst (λ (r : Running). Stands r new) (sym (after_is running))
-        (record {
-          right = right running stands;
-          holds = record {
-            has = has;
-            logs = λ told going. record {
-              entries = subst (λ (log : Log D disk). StandsFor (payloads running.state) log) (sym rows) (holds.logs told going).entries;
-              sure = (holds.logs told going).sure;
-            };
-            index_logs = λ told going. record { entries = logged running stands told going; sure = (holds.index_logs told going).sure };
-            on_rows = λ told.
-                let on = rows_stay_on running stands told in
-                record {
-                  reads = λ going. rows_stay running.state (more running) (disk.seen (rows_device new) 0) (on.reads going);
-                  may_read = may_hold running (disk.seen (rows_device new)) on.may_read;
-                  crash = λ c may. may_hold running c (on.crash c may);
-                };
-            on_index = λ told. on_index (behind running) _ new.index (keeps running stands).entries (keeps running stands).index
-                (logged running stands told (sym holds.has.stopped ∙ going));
-          };
-        });
-    crash = λ e told running stands. inl same_rows;
-    index = λ e told running stands.
-        let sure = (stands.holds.index_logs told (sym stands.holds.has.stopped ∙ going)).sure in
-        subst (λ (r : Running). Leaves (engine_sight {D = D} {E = E} {rows = disk} {index = disk'}).index (IsIndexBetween running r) old new) (sym (after_is running))
-        (inr (leaves_weaker disk' (index_device old) (index_device new) (MayHoldIndex running.state (more running)) (IsIndexBetween running (behind running))
-        (between_written running (more running) (next running) sure) (left running stands told (sym stands.holds.has.stopped ∙ going))));
-    settings = settings;
-    limits = limits;
-    faults = record { rose = λ e. absurd (false≢true (sym no_disk_fault ∙ e)); calm = λ e. omega (arith, calm, same_rows_count); never_falls = omega (arith, calm, same_rows_count) };
-    sum = λ n e. absurd (no_fault answer n no_disk_fault e);
+    each = λ running stands. record {
+      alone = λ e. refl;
+      may = may running stands (sym stands.has.stopped ∙ going);
+      stands = subst (λ (r : Running). Holds r new) (sym (after_is running)) (held running stands);
+      rows = λ e told. inl same_rows;
+      index = λ e told.
+          let sure = (stands.index_logs told (sym stands.has.stopped ∙ going)).sure in
+          subst (λ (r : Running). Leaves (engine_sight {D = D} {E = E} {rows = disk} {index = disk'}).index (IsIndexBetween running r) old new) (sym (after_is running))
+          (inr (leaves_weaker disk' (index_device old) (index_device new) (MayHoldIndex running.state (more running)) (IsIndexBetween running (behind running))
+          (between_written running (more running) (next running) sure) (left running stands told (sym stands.has.stopped ∙ going))));
+      keeps = kept;
+    };
+    tells = λ e. absurd (false≢true e);
+    keeps = kept;
   }
     where
+      kept : StepKeeps engine_sight answer old new
+      kept = record {
+        settings = settings;
+        limits = limits;
+        faults = record { rose = λ e. absurd (false≢true (sym no_disk_fault ∙ e)); calm = λ e. omega (arith, calm, same_rows_count); never_falls = omega (arith, calm, same_rows_count) };
+        sum = λ n e. absurd (no_fault answer n no_disk_fault e);
+      }
+
       after_is : (running : Running) → after running ask answer ≡ behind running
       after_is running = ap (λ (whats : List What). grown running (map (λ (what : What). record { by = 0; what = what }) whats)) adds ∙ writing.made_is running
 
@@ -391,56 +387,86 @@ module _ {D E : Type 0} {disk : Ghosts D} {disk' : Ghosts E} (old new : Engine D
       may_hold running c (inl before) = inl (rows_stay running.state (more running) (c 0) before)
       may_hold running c (inr behind) = inr (rows_stay (with_commits running.state running.doubt) (more running) (c 0) behind)
 
+      held : (running : Running) → Holds running old → Holds (behind running) new
+      held running stands = record {
+        has = record {
+          keeps = keeps running stands;
+          indexed = indexed running stands;
+          left = leaves running stands;
+          stopped = still ∙ stands.has.stopped;
+        };
+        logs = λ told going. record {
+          entries = subst (λ (log : Log D disk). StandsFor (payloads running.state) log) (sym rows) (stands.logs told going).entries;
+          sure = (stands.logs told going).sure;
+        };
+        index_logs = λ told going. record { entries = logged running stands told going; sure = (stands.index_logs told going).sure };
+        on_rows = λ told.
+            let on = rows_stay_on running stands told in
+            record {
+              reads = λ going. rows_stay running.state (more running) (disk.seen (rows_device new) 0) (on.reads going);
+              may_read = may_hold running (disk.seen (rows_device new)) on.may_read;
+              crash = λ c may. may_hold running c (on.crash c may);
+            };
+        on_index = λ told. on_index (behind running) _ new.index (keeps running stands).entries (keeps running stands).index
+            (logged running stands told (sym stands.has.stopped ∙ going));
+      }
+
   -- the device failed: what is kept stays, and the entry is in doubt
   pub loosens : (faults : ℕ) → stopped_at new ≡ Some faults → Rose (disk'.faults (index_device old)) (disk'.faults (index_device new))
       → disk'.faults (index_device old) ≤ disk'.faults (index_device new) → faults ≡ engine_faults new
-      → ((running : Running) → Stands running old → running.stopped ≡ None → MayAnswer (engine_limits old) running ask (disk_fault faults))
-      → ((running : Running) → Stands running old → Keeps running.state new)
+      → ((running : Running) → Holds running old → running.stopped ≡ None → MayAnswer (engine_limits old) running ask (disk_fault faults))
+      → ((running : Running) → Holds running old → Keeps running.state new)
       → ((t : ℕ) (c : Files) → IsTrue disk'.tells → t ≤ disk'.moment (index_device new) → disk'.images (index_device new) c → disk'.left_since (index_device new) t c)
       → (IsTrue disk'.tells → disk'.images (index_device new) (disk'.seen (index_device new)))
-      → ((running : Running) → Stands running old → IsTrue disk'.tells → running.stopped ≡ None
+      → ((running : Running) → Holds running old → IsTrue disk'.tells → running.stopped ≡ None
       → LeavesOnly disk' (index_device old) (index_device new) (MayHoldIndex running.state (more running)))
       → StaysIndexed old.kept new.kept → Steps engine_sight ask (disk_fault faults) old new
   loosens faults noted rose up sum may keeps counts stays left indexed = record {
     more = [];
-    alone = λ e. refl;
-    may = λ running stands. may running stands (sym stands.holds.has.stopped ∙ going);
-    stands = λ running stands.
-        let holds = stands.holds in
-        subst (λ (r : Running). Stands r new) (sym (after_is running))
-        (record {
-          right = stands.right;
-          holds = record {
-            has = record {
-              keeps = keeps running stands;
-              indexed = indexed running.state.commits running.index holds.has.indexed;
-              left = holds.has.left;
-              stopped = noted;
-            };
-            logs = λ told e. absurd (no_none faults e);
-            index_logs = λ told e. absurd (no_none faults e);
-            on_rows = λ told.
-                let on = rows_stay_on running stands told in
-                record { reads = λ e. absurd (no_none faults e); may_read = on.may_read; crash = on.crash };
-            on_index = λ told. may_be_there disk' (index_device old) (index_device new) running (more running) faults (λ t c le may. counts t c told le may) (stays told)
-                (left running stands told (sym holds.has.stopped ∙ going));
-          };
-        });
-    crash = λ e told running stands. inl same_rows;
-    index = λ e told running stands.
-        subst (λ (r : Running). Leaves (engine_sight {D = D} {E = E} {rows = disk} {index = disk'}).index (IsIndexBetween running r) old new) (sym (after_is running))
-        (inr (leaves_weaker disk' (index_device old) (index_device new) (MayHoldIndex running.state (more running)) (IsIndexBetween running (left_loose running (more running) faults))
-        (between_loose running (more running) faults) (left running stands told (sym stands.holds.has.stopped ∙ going))));
-    settings = settings;
-    limits = limits;
-    faults = record {
-      rose = λ e. subst (λ (n : ℕ). Rose (engine_faults old) (n + disk'.faults (index_device new))) (sym same_rows_count)
-          (rose_behind (disk.faults (rows_device old)) (disk'.faults (index_device old)) (disk'.faults (index_device new)) rose);
-      calm = λ no. absurd (no refl);
-      never_falls = omega (arith, up, same_rows_count);
+    each = λ running stands. record {
+      alone = λ e. refl;
+      may = may running stands (sym stands.has.stopped ∙ going);
+      stands = subst (λ (r : Running). Holds r new) (sym (after_is running)) (held running stands);
+      rows = λ e told. inl same_rows;
+      index = λ e told.
+          subst (λ (r : Running). Leaves (engine_sight {D = D} {E = E} {rows = disk} {index = disk'}).index (IsIndexBetween running r) old new) (sym (after_is running))
+          (inr (leaves_weaker disk' (index_device old) (index_device new) (MayHoldIndex running.state (more running)) (IsIndexBetween running (left_loose running (more running) faults))
+          (between_loose running (more running) faults) (left running stands told (sym stands.has.stopped ∙ going))));
+      keeps = kept;
     };
-    sum = λ n e. (let same : faults ≡ n = (let is = e in cc) in sym same ∙ sum);
+    tells = λ e. absurd (false≢true e);
+    keeps = kept;
   }
     where
+      kept : StepKeeps engine_sight (disk_fault faults) old new
+      kept = record {
+        settings = settings;
+        limits = limits;
+        faults = record {
+          rose = λ e. subst (λ (n : ℕ). Rose (engine_faults old) (n + disk'.faults (index_device new))) (sym same_rows_count)
+              (rose_behind (disk.faults (rows_device old)) (disk'.faults (index_device old)) (disk'.faults (index_device new)) rose);
+          calm = λ no. absurd (no refl);
+          never_falls = omega (arith, up, same_rows_count);
+        };
+        sum = λ n e. (let same : faults ≡ n = (let is = e in cc) in sym same ∙ sum);
+      }
+
       after_is : (running : Running) → after running ask (disk_fault faults) ≡ left_loose running (more running) faults
       after_is running = ap (λ (whats : List What). grown running (map (λ (what : What). record { by = 0; what = what }) whats)) (writing.fault_is faults) ∙ writing.fails_is running faults
+
+      held : (running : Running) → Holds running old → Holds (left_loose running (more running) faults) new
+      held running stands = record {
+        has = record {
+          keeps = keeps running stands;
+          indexed = indexed running.state.commits running.index stands.has.indexed;
+          left = stands.has.left;
+          stopped = noted;
+        };
+        logs = λ told e. absurd (no_none faults e);
+        index_logs = λ told e. absurd (no_none faults e);
+        on_rows = λ told.
+            let on = rows_stay_on running stands told in
+            record { reads = λ e. absurd (no_none faults e); may_read = on.may_read; crash = on.crash };
+        on_index = λ told. may_be_there disk' (index_device old) (index_device new) running (more running) faults (λ t c le may. counts t c told le may) (stays told)
+            (left running stands told (sym stands.has.stopped ∙ going));
+      }

@@ -2,7 +2,7 @@
 use Rattle.std.proofs.Common.{◌≡◌, ℕ, ◌-◌, ◌<◌, ◌≤◌, List, [], ◌∷◌, ◌++◌, refl, ap, subst, sym, ◌∙◌, length, arith, inl, inr}
 use Rattle.std.proofs.lemmas.Bool.{ltb-true, false_from_ne_true}
 use Rattle.std.proofs.lemmas.List.{map-append}
-use Rattle.std.specs.Prelude.{Bool, true, false, nat_lt, None, All}
+use Rattle.std.specs.Prelude.{Bool, true, false, nat_lt, Some, None, All}
 use Rattle.std.proofs.lemmas.List.Elements.{All-weaker}
 use Rattle.fts_disk.specs.Device.{Files}
 use Rattle.fts_disk.specs.Crash.{Images}
@@ -24,11 +24,11 @@ use Rattle.fts_entries.proofs.Alive.{alive_ascend}
 use Rattle.fts_entries.proofs.BatchRows.{alive_rows}
 use Rattle.fts_ixcodec.specs.Payload.{entry_payload, IsEntry, HasSize}
 use Rattle.fts_index.specs.declared.sync.SyncPlan.{SyncPlan}
-use Rattle.fts_steps.specs.State.{State, turns_of, index_state, index_magic, index_payloads, index_end_after, with_entries, HasEntries, IsRight}
+use Rattle.fts_steps.specs.State.{State, turns_of, index_state, index_magic, index_payloads, index_end_after, with_entries, HasEntries}
 use Rattle.fts_steps.specs.Running.{Running, batched, with_what, next_index, next_flushed, next_batch}
 use Rattle.fts_steps.specs.Crash.{MayHoldIndex}
 use Rattle.fts_steps.specs.Step.{Answer, to_sync, full, flushed, all_flushed, plain_answer}
-use Rattle.fts_steps.proofs.Growing.{batch_stands, batch_leaves, batch_right}
+use Rattle.fts_steps.proofs.Growing.{batch_stands, batch_leaves}
 use Rattle.fts_engine.specs.declared.engine.Engine.{Engine}
 use Rattle.fts_engine.specs.declared.kept.Kept.{Kept}
 use Rattle.fts_rowcodec.proofs.Bounds.{few_columns, some_columns}
@@ -49,26 +49,26 @@ module _ (limits : Limits) (running : Running) (going : running.stopped ≡ None
   ]
 
   answered : (past left : Bool) → nat_lt limits.log_bytes (index_end_after running.state (next_batch running)) ≡ past
-      → nat_lt running.index.flushed (length running.state.commits) ≡ left → plain_answer limits running to_sync ≡ outcome past left
+      → nat_lt running.index.flushed (length running.state.commits) ≡ left → plain_answer limits running to_sync ≡ Some (outcome past left)
   answered true true is is' = rw (going, is', is) refl
   answered false true is is' = rw (going, is', is) refl
   answered past false is is' = rw (going, is') refl
 
   -- where all commits are flushed, it tells how many there are
   pub is_nothing : (commits : ℕ) → commits ≡ length running.state.commits → length running.state.commits ≤ running.index.flushed
-      → plain_answer limits running to_sync ≡ all_flushed commits
+      → plain_answer limits running to_sync ≡ Some (all_flushed commits)
   is_nothing commits count most =
-      answered _ false refl (false_from_ne_true _ (λ left. let less = ltb-true running.index.flushed _ left in omega (arith, less, most))) ∙ ap all_flushed (sym count)
+      answered _ false refl (false_from_ne_true _ (λ left. let less = ltb-true running.index.flushed _ left in omega (arith, less, most))) ∙ ap (λ (n : ℕ). Some (all_flushed n)) (sym count)
 
   module _ (less : running.index.flushed < length running.state.commits) where
     -- else where the log would end, if that is past its limit
     pub is_too_long : limits.log_bytes < index_end_after running.state (next_batch running)
-        → plain_answer limits running to_sync ≡ full (index_end_after running.state (next_batch running))
+        → plain_answer limits running to_sync ≡ Some (full (index_end_after running.state (next_batch running)))
     is_too_long past = answered true true (grind (arith, past)) (grind (arith, less))
 
     -- else through which the next batch flushes
     pub is_flushed : (limits.log_bytes < index_end_after running.state (next_batch running) → ⊥)
-        → plain_answer limits running to_sync ≡ flushed (next_flushed running) (length running.state.commits)
+        → plain_answer limits running to_sync ≡ Some (flushed (next_flushed running) (length running.state.commits))
     is_flushed within =
         answered false true (false_from_ne_true _ (λ past. within (ltb-true limits.log_bytes _ past))) (grind (arith, less))
 
@@ -120,10 +120,6 @@ module _ {D E : Type 0} {disk : Ghosts D} {disk' : Ghosts E} (running : Running)
   leaves_after = ap (λ (s : IndexState). after_batch (rules_of state.settings) state.settings.batch_docs (turns_of state) s) has.left
       ∙ sym (batch_leaves state state.settings.batch_docs plan.through plan.synced plan.nodes.items has.keeps.entries has.indexed.are.ascend made_left)
       ∙ ap (λ (e : IndexEntry). index_state (with_entries state (e ∷ []))) is_next
-
-  pub right_after : IsRight state → IsRight (with_what running batched).state
-  right_after right = subst (λ (e : IndexEntry). IsRight (with_entries state (e ∷ []))) is_next
-      (batch_right state state.settings.batch_docs plan.through plan.synced plan.nodes.items has.keeps.entries has.indexed.are.ascend made_left right)
 
   -- the index of what is kept stands for the state behind it
   pub indexed_after : (new : Kept) → IsIndexed new state.commits (after_batch (rules_of (kept_settings kept)) (kept_settings kept).batch_docs (turns_from no_rows state.commits) running.index)

@@ -6,6 +6,7 @@ pub mod Batch
 pub mod Bounds
 pub mod Refusing
 pub mod Stands
+pub mod Devices
 pub mod Opening
 pub mod Covered
 pub mod Restoring

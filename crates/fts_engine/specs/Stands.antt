@@ -9,10 +9,10 @@ use Rattle.fts_types.specs.declared.settings.Settings.{Settings}
 use Rattle.fts_types.specs.Limits.{standard_limits}
 use Rattle.fts_commits.specs.Commit.{replay}
 use Rattle.fts_steps.specs.State.{State, payloads, index_payloads, rows_magic, index_magic, index_state, IsSound}
-use Rattle.fts_steps.specs.State.{HasEntries, IsRight, IsRows, IsIndex}
+use Rattle.fts_steps.specs.State.{HasEntries, IsRows, IsIndex}
 use Rattle.fts_steps.specs.Running.{Running}
 use Rattle.fts_steps.specs.Crash.{MayHold, MayHoldIndex}
-use Rattle.fts_steps.specs.Step.{Sight}
+use Rattle.fts_steps.specs.Step.{Sight, no_account}
 use Rattle.fts_engine.specs.declared.engine.Engine.{Engine}
 use Rattle.fts_engine.specs.Bounds.{AreWithin}
 use Rattle.fts_engine.specs.Kept.{kept_settings, kept_rows, kept_limits, IsIndexed}
@@ -117,20 +117,17 @@ pub record Holds {D E : Type 0} {rows : Ghosts D} {index : Ghosts E} (running : 
   pub on_rows : IsTrue rows.tells → OnRows rows running (rows_device engine)
   pub on_index : IsTrue index.tells → OnIndex index running (index_device engine)
 
--- the engine stands for what runs: it holds it, and its index is right
-pub record Stands {D E : Type 0} {rows : Ghosts D} {index : Ghosts E} (running : Running)
-    (engine : Engine D E rows index) : Type 0 where
-  pub holds : Holds running engine
-  pub right : IsRight running.state
-
 -- what contracts see of an engine that one thread owns
 abbrev pub engine_sight : {D E : Type 0} {rows : Ghosts D} {index : Ghosts E} → Sight (Engine D E rows index)
 engine_sight {D} {E} {rows} {index} = record {
   is_shared = false;
+  Place = Unit {0};
+  place = λ engine. tt;
+  account = λ engine. no_account;
   settings = engine_settings;
   limits = engine_limits;
   faults = engine_faults;
-  stands = Stands;
+  stands = Holds;
   rows = record { Device = D; disk = rows; device = rows_device };
   index = record { Device = E; disk = index; device = index_device };
 }

@@ -147,7 +147,8 @@ impl Kept {
     /// What the rows have for these leaves, as the view of so many commits, where the index is
     /// right.
     pub fn view(&self, alloc: Global, number: u64, leaves: Vec<Leaf>) -> Result<View, AllocError>
-        ensures { IfOk result (λ view. (commits : List Commit) (s : IndexState)
+        ensures numbered { IfOk result (λ view. (view_seen view).number ≡ number) }
+        ensures right { IfOk result (λ view. (commits : List Commit) (s : IndexState)
             → IsIndexed self.now commits s
             → IsExact (rules_of (kept_settings self.now)) (kept_rows self.now).list
             (turns_from no_rows commits) s → view_seen view

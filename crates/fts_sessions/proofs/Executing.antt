@@ -176,13 +176,7 @@ module _ {S : Type 0} (sight : Sight S) (line : List ℕ) (transaction : Transac
   no_step old new reply left says calm same = subst (λ (s : S). Executes sight (whole line) transaction old reply left s) (sym same) (record {
     calls = [];
     says = says;
-    alone = λ e. tt;
-    follows = λ running stands. tt;
-    stands = λ running stands. stands;
-    crash = λ e told running sure stands. inl refl;
-    index = λ e told running sure stands. inl refl;
-    settings = refl;
-    limits = refl;
+    made = refl;
     faults = record { rose = λ is. absurd (calm is); calm = λ no. refl; never_falls = omega arith };
   })
 
@@ -217,13 +211,7 @@ module _ {S : Type 0} (sight : Sight S) (line : List ℕ) (transaction : Transac
     gone_on old new reply left went leaves = record {
       calls = went.calls;
       says = inl (request, is, went.says, leaves);
-      alone = went.alone;
-      follows = went.follows;
-      stands = went.stands;
-      crash = went.crash;
-      index = went.index;
-      settings = went.settings;
-      limits = went.limits;
+      made = went.made;
       faults = went.faults;
     }
 
@@ -235,14 +223,8 @@ module _ {S : Type 0} (sight : Sight S) (line : List ℕ) (transaction : Transac
     one_step old new reply left ask e made leaves = record {
       calls = record { more = made.made.more; ask = ask; answer = made.answer } ∷ [];
       says = inl (request, is, (e, tells (sight.settings old) made.answer ∙ ap ends made.told), leaves);
-      alone = λ single. (made.made.alone single, tt);
-      follows = λ running stands. (made.made.may running stands, tt);
-      stands = λ running stands. made.made.stands running stands;
-      crash = λ single told running sure stands. made.made.crash single told running stands;
-      index = λ single told running sure stands. made.made.index single told running stands;
-      settings = made.made.settings;
-      limits = made.made.limits;
-      faults = told_fault made.answer reply (sight.faults old) (sight.faults new) made.told made.made.faults;
+      made = (new, (made.made, refl), refl);
+      faults = told_fault made.answer reply (sight.faults old) (sight.faults new) made.told made.made.keeps.faults;
     }
 
     module _ (stays : (settings : Settings) → behind settings transaction request NoMemory ≡ transaction) where

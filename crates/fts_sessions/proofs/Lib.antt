@@ -12,3 +12,4 @@ pub mod OneSearch
 pub mod Searching
 pub mod Single
 pub mod Rising
+pub mod Directly

@@ -24,7 +24,7 @@ use Rattle.fts_steps.specs.declared.optimize.OptimizeStep.{OptimizeStep}
 use Rattle.fts_steps.specs.declared.optimize.OptimizeStep.TheVariants as did
 use Rattle.fts_steps.specs.Running.{Running, What, made, batched, optimized, failed, batch_failed, optimize_failed, Entry, with_what, grown, next_flushed, next_batch, next_optimized}
 use Rattle.fts_steps.specs.Step.{Ask, to_commit, to_sync, to_optimize, to_view, to_find, to_list, to_measure, Answer, committed, refused, full, flushed, all_flushed, passed, viewed, found, listed, measured, disk_fault, stopped, no_memory}
-use Rattle.fts_steps.specs.Step.{unless_full, unless_stopped, commit_answer, batch_answer, optimize_answer, plain_answer, step_of, Lists, MayAnswer, entries_of, after, Call, after_call, after_all, Follows, AreAlone}
+use Rattle.fts_steps.specs.Step.{unless_full, unless_stopped, commit_answer, batch_answer, optimize_answer, plain_answer, step_of, Lists, Finds, MayAnswer, entries_of, after, Call, after_call, after_all, Follows, AreAlone}
 use Rattle.fts_sessions.specs.Query.{Search, looks_for, too_long, syntax_at, too_deep_at}
 use Rattle.fts_sessions.specs.Request.{Request, opens, closes, rolls_back, changes, searches, syncs, optimizes, lists, blank, unknown, unread}
 use Rattle.fts_sessions.specs.Table.{are_names, first_unknown, table_named, columns_named, change_of}
@@ -120,7 +120,11 @@ optimize_tells : (running : Running) (limits : Limits) (entries : List IndexEntr
 optimize_tells running limits [] = tt
 optimize_tells running limits (entry ∷ entries) = full_tells running to_optimize limits (index_end_after running.state entry) (passed (step_of entry)) tt
 
-plain_tells : (limits : Limits) (running : Running) (ask : Ask) → Tells running ask (plain_answer limits running ask)
+abbrev TellsSome : Running → Ask → Option Answer → Type 0
+TellsSome running ask None = Unit {0}
+TellsSome running ask (Some answer) = Tells running ask answer
+
+plain_tells : (limits : Limits) (running : Running) (ask : Ask) → TellsSome running ask (plain_answer limits running ask)
 plain_tells limits running (to_commit commit) = stopped_tells running (to_commit commit) running.stopped
     (commit_answer limits running.state commit (after_commit limits commit (replay running.state.commits)))
     (commit_tells running limits commit (after_commit limits commit (replay running.state.commits)))
@@ -128,7 +132,7 @@ plain_tells limits running to_sync = stopped_tells running to_sync running.stopp
 plain_tells limits running to_optimize = stopped_tells running to_optimize running.stopped (optimize_answer limits running.state (next_optimized running))
     (optimize_tells running limits (next_optimized running))
 plain_tells limits running (to_view asked) = tt
-plain_tells limits running (to_find terms) = refl
+plain_tells limits running (to_find terms) = tt
 plain_tells limits running (to_list kind) = tt
 plain_tells limits running to_measure = tt
 
@@ -141,11 +145,23 @@ listed_count running (to_view asked) number listing is = absurd is
 listed_count running (to_find terms) number listing is = absurd is
 listed_count running to_measure number listing is = absurd is
 
+found_count : (running : Running) (ask : Ask) (number : ℕ) (docs : List ℕ) → Finds running ask number docs → number ≡ count_of running
+found_count running (to_find terms) number docs is = is.0
+found_count running (to_commit commit) number docs is = absurd is
+found_count running to_sync number docs is = absurd is
+found_count running to_optimize number docs is = absurd is
+found_count running (to_view asked) number docs is = absurd is
+found_count running (to_list kind) number docs is = absurd is
+found_count running to_measure number docs is = absurd is
+
+told_plain : (limits : Limits) (running : Running) (ask : Ask) (answer : Answer) → plain_answer limits running ask ≡ Some answer → Tells running ask answer
+told_plain limits running ask answer is = subst (TellsSome running ask) is (plain_tells limits running ask)
+
 answer_tells : (limits : Limits) (running : Running) (ask : Ask) (answer : Answer) → MayAnswer limits running ask answer → Tells running ask answer
-answer_tells limits running ask (committed number) may = subst (Tells running ask) may (plain_tells limits running ask)
-answer_tells limits running ask (found number docs) may = subst (Tells running ask) may (plain_tells limits running ask)
-answer_tells limits running ask (flushed through commits) may = subst (Tells running ask) may (plain_tells limits running ask)
-answer_tells limits running ask (all_flushed commits) may = subst (Tells running ask) may (plain_tells limits running ask)
+answer_tells limits running ask (committed number) may = told_plain limits running ask (committed number) may
+answer_tells limits running ask (found number docs) may = found_count running ask number docs may
+answer_tells limits running ask (flushed through commits) may = told_plain limits running ask (flushed through commits) may
+answer_tells limits running ask (all_flushed commits) may = told_plain limits running ask (all_flushed commits) may
 answer_tells limits running ask (listed number listing) may = listed_count running ask number listing may
 answer_tells limits running ask (refused why) may = tt
 answer_tells limits running ask (full end_) may = tt

@@ -19,7 +19,7 @@ use Rattle.fts_sessions.specs.Execute.{Makes}
 use Rattle.fts_eval.proofs.Answering.{ascend_from_increasing}
 use Rattle.fts_steps.specs.State.{State}
 use Rattle.fts_steps.specs.Running.{Running, What, made, batched, optimized, failed, batch_failed, optimize_failed, Entry, with_what, grown}
-use Rattle.fts_steps.specs.Step.{Answer, viewed, found, no_memory, is_disk_fault, to_view, to_find, state_view, MayAnswer, Sight, Steps}
+use Rattle.fts_steps.specs.Step.{Answer, viewed, found, no_memory, is_disk_fault, to_view, to_find, state_view, MayAnswer, Sight, Keeps, Steps}
 
 -- what was added keeps the settings
 with_settings : (running : Running) (what : What) → (with_what running what).state.settings ≡ running.state.settings
@@ -50,19 +50,14 @@ rows_ascend law commits =
     (ascend_from_increasing 0 (map (λ (row : Row). row.doc) (filter (λ (row : Row). true) rows))
     (λ k less. law commits (λ (row : Row). true) k (k + 1) 0 (omega arith) less) (λ less. omega arith))
 
-one_view : (a b : View) → viewed a ≡ viewed b → a ≡ b
-one_view a b same = cc
-
 -- a database's view stands for its rows, and so the query finds the rows in which it holds
-finds_rows : IdsAscend → (state : State) (terms : Terms) (view : View) (docs : List ℕ) → viewed (state_view state (leaves (rules_of state.settings) terms)) ≡ viewed view → IsFoundIn view terms docs
-    → found (length state.commits) (scan (rules_of state.settings) (replay state.commits).list terms) ≡ found view.number docs
-finds_rows law state terms view docs told answers =
+finds_rows : IdsAscend → (state : State) (terms : Terms) (view : View) (docs : List ℕ) → view.number ≡ length state.commits
+    → view ≡ state_view state (leaves (rules_of state.settings) terms) → IsFoundIn view terms docs → docs ≡ scan (rules_of state.settings) (replay state.commits).list terms
+finds_rows law state terms view docs number same answers =
     let rules = rules_of state.settings in
     let rows = (replay state.commits).list in
-    let same : view_of rules rows (length state.commits) (leaves rules terms) ≡ view = one_view _ _ told in
-    let number : length state.commits ≡ view.number = ap (λ (v : View). v.number) same in
-    let stands : StandsFor rules rows terms view = sym same ∙ ap (λ (n : ℕ). view_of rules rows n (leaves rules terms)) number in
-    ap (λ (n : ℕ). found n (scan rules rows terms)) number ∙ ap (found view.number) (sym (answers rules rows (rows_ascend law state.commits) stands))
+    let stands : StandsFor rules rows terms view = same ∙ ap (λ (n : ℕ). view_of rules rows n (leaves rules terms)) (sym number) in
+    answers rules rows (rows_ascend law state.commits) stands
 
 module _ {S : Type 0} (sight : Sight S) (asked : List Leaf) (terms : Terms) (old new : S) where
   -- a view's step is that of a search that may answer so
@@ -70,16 +65,26 @@ module _ {S : Type 0} (sight : Sight S) (asked : List Leaf) (terms : Terms) (old
       → ((running : Running) → sight.stands running old → MayAnswer (sight.limits old) (grown running step.more) (to_find terms) answer) → Steps sight (to_find terms) answer old new
   as_search told answer step calm calm' may = record {
     more = step.more;
-    alone = step.alone;
-    may = may;
-    stands = step.stands;
-    crash = step.crash;
-    index = step.index;
-    settings = step.settings;
-    limits = step.limits;
-    faults = subst (λ (b : Bool). CountsFault (IsTrue b) (sight.faults old) (sight.faults new)) (calm ∙ sym calm') step.faults;
-    sum = λ n is. absurd (false≢true (sym calm' ∙ ap is_disk_fault is));
+    each = λ running stands.
+        let each = step.each running stands in record {
+          alone = each.alone;
+          may = may running stands;
+          stands = each.stands;
+          rows = each.rows;
+          index = each.index;
+          keeps = kept;
+        };
+    tells = λ shared. step.tells shared;
+    keeps = kept;
   }
+    where
+      kept : Keeps sight answer old new
+      kept = record {
+        settings = step.keeps.settings;
+        limits = step.keeps.limits;
+        faults = subst (λ (b : Bool). CountsFault (IsTrue b) (sight.faults old) (sight.faults new)) (calm ∙ sym calm') step.keeps.faults;
+        sum = λ n is. absurd (false≢true (sym calm' ∙ ap is_disk_fault is));
+      }
 
   -- want of memory for the view, and for what is found in it
   starved : (told : Answer) → is_disk_fault told ≡ false → Steps sight (to_view asked) told old new → Steps sight (to_find terms) no_memory old new
@@ -95,7 +100,10 @@ module _ {S : Type 0} (sight : Sight S) (asked : List Leaf) (terms : Terms) (old
       let state = (grown running step.more).state in
       let same : settings ≡ state.settings = sym (grown_settings running step.more ∙ told running stands) in
       let asks : asked ≡ leaves (rules_of state.settings) terms = are ∙ ap (λ (s : Settings). leaves (rules_of s) terms) same in
-      finds_rows law state terms view docs (ap (λ (all : List Leaf). viewed (state_view state all)) (sym asks) ∙ step.may running stands) answers)
+      let may = (step.each running stands).may in (
+        may.0,
+        λ right. finds_rows law state terms view docs may.0 (may.1 right ∙ ap (λ (all : List Leaf). state_view state all) asks) answers,
+      ))
 
   -- the reply that tells it is that of the search's step
   pub told_found : IdsAscend → (settings : Settings) (view : View) (told : Reply) → asked ≡ leaves (rules_of settings) terms

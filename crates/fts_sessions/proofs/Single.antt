@@ -1,4 +1,5 @@
-use Rattle.std.proofs.Common.{◌≡◌, ◌⊎◌, ℕ, List, [], ◌∷◌, ◌++◌, refl, ap, subst, sym, ◌∙◌, inl, inr, ⊎_elim}
+use Rattle.std.proofs.Common.{◌≡◌, ◌⊎◌, ℕ, List, [], ◌∷◌, ◌++◌, length, refl, ap, subst, sym, ◌∙◌, inl, inr}
+use Rattle.std.specs.Prelude.{Option, Some, None}
 use Rattle.fts_types.specs.declared.limits.Limits.{Limits}
 use Rattle.fts_types.specs.declared.settings.Settings.{Settings}
 use Rattle.fts_io.specs.Text.{Line, whole, too_long}
@@ -13,9 +14,14 @@ use Rattle.fts_sql.proofs.Laws.{one_statement}
 use Rattle.fts_sql.proofs.Single.{one_fault, statement_or_fault, blank_or_statement}
 use Rattle.fts_listing.specs.declared.listing.Listing.{Listing}
 use Rattle.fts_listing.proofs.One.{listed_one}
-use Rattle.fts_steps.specs.State.{turns_of}
+use Rattle.fts_types.specs.Rules.{rules_of}
+use Rattle.fts_commits.specs.Commit.{replay}
+use Rattle.fts_meaning.specs.Scan.{scan}
+use Rattle.fts_meaning.specs.View.{View}
+use Rattle.fts_steps.specs.State.{IsRight, turns_of}
+use Rattle.fts_steps.proofs.Adding.{one_answer as some_answer}
 use Rattle.fts_steps.specs.Running.{Running, Entry, grown}
-use Rattle.fts_steps.specs.Step.{Ask, to_commit, to_sync, to_optimize, to_view, to_find, to_list, to_measure, Answer, Call, MayAnswer, Lists, Follows, AreAlone, plain_answer, after_call}
+use Rattle.fts_steps.specs.Step.{Ask, to_commit, to_sync, to_optimize, to_view, to_find, to_list, to_measure, Answer, Call, MayAnswer, Views, Finds, Lists, FollowsRight, AreAlone, plain_answer, state_view, after_call}
 use Rattle.fts_steps.specs.Step.{committed, refused, full, flushed, all_flushed, passed, viewed, found, listed, measured, disk_fault, stopped, no_memory}
 use Rattle.fts_sessions.specs.Query.{Search, IsSearch}
 use Rattle.fts_sessions.specs.Table.{IsChange}
@@ -131,71 +137,97 @@ one_ask a b same = cc
 
 -- ---- one answer
 
--- an answer of a listing
-abbrev IsListing : Running → Ask → Answer → Type 0
-IsListing running ask answer = (number : ℕ) × (listing : Listing) × (answer ≡ listed number listing) × Lists running ask number listing
+-- what an answer is whose reply is no fault and no want of memory, where the index is right
+abbrev IsSure : Limits → Running → Ask → Answer → Type 0
+IsSure limits running (to_view asked) answer = answer ≡ viewed (state_view running.state asked)
+IsSure limits running (to_find terms) answer =
+    answer ≡ found (length running.state.commits) (scan (rules_of running.state.settings) (replay running.state.commits).list terms)
+IsSure limits running (to_list kind) answer = (number : ℕ) × (listing : Listing) × (answer ≡ listed number listing) × Lists running (to_list kind) number listing
+IsSure limits running (to_commit commit) answer = plain_answer limits running (to_commit commit) ≡ Some answer
+IsSure limits running to_sync answer = plain_answer limits running to_sync ≡ Some answer
+IsSure limits running to_optimize answer = plain_answer limits running to_optimize ≡ Some answer
+IsSure limits running to_measure answer = plain_answer limits running to_measure ≡ Some answer
 
--- an answer whose reply is no fault and no want of memory is the plain one, or that of a listing
-plain_or_listing : (limits : Limits) (running : Running) (ask : Ask) (answer : Answer) → MayAnswer limits running ask answer → IsCalm (reply_to answer)
-    → (answer ≡ plain_answer limits running ask) ⊎ IsListing running ask answer
-plain_or_listing limits running ask (committed number) may calm = inl (sym may)
-plain_or_listing limits running ask (refused why) may calm = inl (sym may)
-plain_or_listing limits running ask (full end_) may calm = inl (sym may)
-plain_or_listing limits running ask (flushed through commits) may calm = inl (sym may)
-plain_or_listing limits running ask (all_flushed commits) may calm = inl (sym may)
-plain_or_listing limits running ask (passed step) may calm = inl (sym may)
-plain_or_listing limits running ask (viewed view) may calm = inl (sym may)
-plain_or_listing limits running ask (found number docs) may calm = inl (sym may)
-plain_or_listing limits running ask (listed number listing) may calm = inr (number, listing, refl, may)
-plain_or_listing limits running ask (measured size) may calm = inl (sym may)
-plain_or_listing limits running ask (stopped faults) may calm = inl (sym may)
-plain_or_listing limits running ask (disk_fault faults) may calm = absurd (calm.no_fault refl)
-plain_or_listing limits running ask no_memory may calm = absurd (calm.no_want refl)
+no_some : (answer : Answer) → ◌≡◌ {A = Option Answer} None (Some answer) → ⊥
+no_some answer is = let no = is in cc
 
--- a view lists one thing
-one_listing : (running : Running) (ask : Ask) (number number' : ℕ) (listing listing' : Listing) → Lists running ask number listing → Lists running ask number' listing'
-    → listed number listing ≡ listed number' listing'
-one_listing running (to_list kind) number number' listing listing' h k =
-    ap (λ (n : ℕ). listed n listing) (h.0 ∙ sym k.0)
-    ∙ ap (listed number') (listed_one running.state.settings (turns_of running.state) running.index kind listing listing' h.1 k.1)
-one_listing running (to_commit commit) number number' listing listing' h k = absurd h
-one_listing running to_sync number number' listing listing' h k = absurd h
-one_listing running to_optimize number number' listing listing' h k = absurd h
-one_listing running (to_view leaves) number number' listing listing' h k = absurd h
-one_listing running (to_find terms) number number' listing listing' h k = absurd h
-one_listing running to_measure number number' listing listing' h k = absurd h
+sure_plain : (limits : Limits) (running : Running) (ask : Ask) (answer : Answer) → plain_answer limits running ask ≡ Some answer → IsSure limits running ask answer
+sure_plain limits running (to_view asked) answer is = absurd (no_some answer is)
+sure_plain limits running (to_find terms) answer is = absurd (no_some answer is)
+sure_plain limits running (to_list kind) answer is = absurd (no_some answer is)
+sure_plain limits running (to_commit commit) answer is = is
+sure_plain limits running to_sync answer is = is
+sure_plain limits running to_optimize answer is = is
+sure_plain limits running to_measure answer is = is
 
--- and no plain answer is that of a listing
-not_plain : (limits : Limits) (running : Running) (ask : Ask) (number : ℕ) (listing : Listing) (answer : Answer) → Lists running ask number listing
-    → answer ≡ plain_answer limits running ask → IsCalm (reply_to answer) → ⊥
-not_plain limits running (to_list kind) number listing answer h is calm = calm.no_want (ap reply_to is)
-not_plain limits running (to_commit commit) number listing answer h is calm = h
-not_plain limits running to_sync number listing answer h is calm = h
-not_plain limits running to_optimize number listing answer h is calm = h
-not_plain limits running (to_view leaves) number listing answer h is calm = h
-not_plain limits running (to_find terms) number listing answer h is calm = h
-not_plain limits running to_measure number listing answer h is calm = h
+sure_view : (limits : Limits) (running : Running) (ask : Ask) (view : View) → IsRight running.state → Views running ask view → IsSure limits running ask (viewed view)
+sure_view limits running (to_view asked) view right is = ap viewed (is.1 right)
+sure_view limits running (to_find terms) view right is = absurd is
+sure_view limits running (to_list kind) view right is = absurd is
+sure_view limits running (to_commit commit) view right is = absurd is
+sure_view limits running to_sync view right is = absurd is
+sure_view limits running to_optimize view right is = absurd is
+sure_view limits running to_measure view right is = absurd is
 
-same_answer : (limits : Limits) (running : Running) (ask : Ask) (a b : Answer) → MayAnswer limits running ask a → MayAnswer limits running ask b
+sure_found : (limits : Limits) (running : Running) (ask : Ask) (number : ℕ) (docs : List ℕ) → IsRight running.state → Finds running ask number docs
+    → IsSure limits running ask (found number docs)
+sure_found limits running (to_find terms) number docs right is = ap (λ (n : ℕ). found n docs) is.0 ∙ ap (found (length running.state.commits)) (is.1 right)
+sure_found limits running (to_view asked) number docs right is = absurd is
+sure_found limits running (to_list kind) number docs right is = absurd is
+sure_found limits running (to_commit commit) number docs right is = absurd is
+sure_found limits running to_sync number docs right is = absurd is
+sure_found limits running to_optimize number docs right is = absurd is
+sure_found limits running to_measure number docs right is = absurd is
+
+sure_listed : (limits : Limits) (running : Running) (ask : Ask) (number : ℕ) (listing : Listing) → Lists running ask number listing → IsSure limits running ask (listed number listing)
+sure_listed limits running (to_list kind) number listing is = (number, listing, refl, is)
+sure_listed limits running (to_view asked) number listing is = absurd is
+sure_listed limits running (to_find terms) number listing is = absurd is
+sure_listed limits running (to_commit commit) number listing is = absurd is
+sure_listed limits running to_sync number listing is = absurd is
+sure_listed limits running to_optimize number listing is = absurd is
+sure_listed limits running to_measure number listing is = absurd is
+
+sure_answer : (limits : Limits) (running : Running) (ask : Ask) (answer : Answer) → IsRight running.state → MayAnswer limits running ask answer → IsCalm (reply_to answer)
+    → IsSure limits running ask answer
+sure_answer limits running ask (committed number) right may calm = sure_plain limits running ask (committed number) may
+sure_answer limits running ask (refused why) right may calm = sure_plain limits running ask (refused why) may
+sure_answer limits running ask (full end_) right may calm = sure_plain limits running ask (full end_) may
+sure_answer limits running ask (flushed through commits) right may calm = sure_plain limits running ask (flushed through commits) may
+sure_answer limits running ask (all_flushed commits) right may calm = sure_plain limits running ask (all_flushed commits) may
+sure_answer limits running ask (passed step) right may calm = sure_plain limits running ask (passed step) may
+sure_answer limits running ask (viewed view) right may calm = sure_view limits running ask view right may
+sure_answer limits running ask (found number docs) right may calm = sure_found limits running ask number docs right may
+sure_answer limits running ask (listed number listing) right may calm = sure_listed limits running ask number listing may
+sure_answer limits running ask (measured size) right may calm = sure_plain limits running ask (measured size) may
+sure_answer limits running ask (stopped faults) right may calm = sure_plain limits running ask (stopped faults) may
+sure_answer limits running ask (disk_fault faults) right may calm = absurd (calm.no_fault refl)
+sure_answer limits running ask no_memory right may calm = absurd (calm.no_want refl)
+
+one_sure : (limits : Limits) (running : Running) (ask : Ask) (a b : Answer) → IsSure limits running ask a → IsSure limits running ask b → a ≡ b
+one_sure limits running (to_view asked) a b h k = h ∙ sym k
+one_sure limits running (to_find terms) a b h k = h ∙ sym k
+one_sure limits running (to_list kind) a b (number, listing, is, h) (number', listing', is', k) =
+    is ∙ ap (λ (n : ℕ). listed n listing) (h.0 ∙ sym k.0)
+    ∙ ap (listed number') (listed_one running.state.settings (turns_of running.state) running.index kind listing listing' h.1 k.1) ∙ sym is'
+one_sure limits running (to_commit commit) a b h k = some_answer a b (sym h ∙ k)
+one_sure limits running to_sync a b h k = some_answer a b (sym h ∙ k)
+one_sure limits running to_optimize a b h k = some_answer a b (sym h ∙ k)
+one_sure limits running to_measure a b h k = some_answer a b (sym h ∙ k)
+
+same_answer : (limits : Limits) (running : Running) (ask : Ask) (a b : Answer) → IsRight running.state → MayAnswer limits running ask a → MayAnswer limits running ask b
     → IsCalm (reply_to a) → IsCalm (reply_to b) → a ≡ b
-same_answer limits running ask a b may may' calm calm' =
-    ⊎_elim
-    (λ (plain : a ≡ plain_answer limits running ask). ⊎_elim
-    (λ (plain' : b ≡ plain_answer limits running ask). plain ∙ sym plain')
-    (λ (other : IsListing running ask b). absurd (not_plain limits running ask other.0 other.1 a other.3 plain calm))
-    (plain_or_listing limits running ask b may' calm'))
-    (λ (one : IsListing running ask a). ⊎_elim
-    (λ (plain' : b ≡ plain_answer limits running ask). absurd (not_plain limits running ask one.0 one.1 b one.3 plain' calm'))
-    (λ (other : IsListing running ask b). one.2 ∙ one_listing running ask one.0 other.0 one.1 other.1 one.3 other.3 ∙ sym other.2)
-    (plain_or_listing limits running ask b may' calm'))
-    (plain_or_listing limits running ask a may calm)
+same_answer limits running ask a b right may may' calm calm' =
+    one_sure limits running ask a b (sure_answer limits running ask a right may calm) (sure_answer limits running ask b right may' calm')
 
 -- the answers to one step, with nothing in between
 one_answer : (limits : Limits) (running : Running) (call call' : Call) → call.ask ≡ call'.ask → call.more ≡ [] → call'.more ≡ []
+    → IsRight (grown running call.more).state
     → MayAnswer limits (grown running call.more) call.ask call.answer → MayAnswer limits (grown running call'.more) call'.ask call'.answer
     → IsCalm (reply_to call.answer) → IsCalm (reply_to call'.answer) → call.answer ≡ call'.answer
-one_answer limits running call call' same alone alone' may may' calm calm' =
+one_answer limits running call call' same alone alone' right may may' calm calm' =
     same_answer limits running call'.ask call.answer call'.answer
+    (subst (λ (more : List Entry). IsRight (grown running more).state) alone right)
     (subst (λ (ask : Ask). MayAnswer limits running ask call.answer) same
     (subst (λ (more : List Entry). MayAnswer limits (grown running more) call.ask call.answer) alone may))
     (subst (λ (more : List Entry). MayAnswer limits (grown running more) call'.ask call'.answer) alone' may') calm calm'
@@ -274,26 +306,26 @@ Same here here' reply reply' = (here ≡ here') × (reply ≡ reply')
 -- behind the same answers a request, on one engine, makes the same steps and has the same reply
 one_from : (limits : Limits) (running : Running) (settings : Settings) (transaction : Transaction) (request : Request) (answers : List Answer) (here here' more more' : List Call) (reply reply' : Reply)
     → Converses settings transaction request answers here reply → Converses settings transaction request answers here' reply'
-    → Follows limits running (here ++ more) → Follows limits running (here' ++ more') → AreAlone (here ++ more) → AreAlone (here' ++ more')
+    → FollowsRight limits running (here ++ more) → FollowsRight limits running (here' ++ more') → AreAlone (here ++ more) → AreAlone (here' ++ more')
     → IsCalm reply → IsCalm reply' → Same here here' reply reply'
 one_from limits running settings transaction request answers [] [] more more' reply reply' c d f g alone alone' calm calm' = (refl, one_ending reply reply' (sym c ∙ d))
 one_from limits running settings transaction request answers [] (call ∷ calls) more more' reply reply' c d f g alone alone' calm calm' = absurd (let e = sym c ∙ d.0 in cc)
 one_from limits running settings transaction request answers (call ∷ calls) [] more more' reply reply' c d f g alone alone' calm calm' = absurd (let e = sym d ∙ c.0 in cc)
 one_from limits running settings transaction request answers (call ∷ calls) (call' ∷ calls') more more' reply reply' c d f g alone alone' calm calm' =
     let asked : call.ask ≡ call'.ask = one_ask call.ask call'.ask (sym c.0 ∙ d.0) in
-    let answered : call.answer ≡ call'.answer = one_answer limits running call call' asked alone.0 alone'.0 f.0 g.0
+    let answered : call.answer ≡ call'.answer = one_answer limits running call call' asked alone.0 alone'.0 f.0.1 f.0.0 g.0.0
     (calm_answer settings transaction request answers call.ask call.answer calls reply c.0 c.1 calm)
     (calm_answer settings transaction request answers call'.ask call'.answer calls' reply' d.0 d.1 calm') in
     let same : call ≡ call' = one_step call call' (alone.0 ∙ sym alone'.0) asked answered in
     let rest = one_from limits (after_call running call) settings transaction request (answers ++ call.answer ∷ []) calls calls' more more' reply reply' c.1
     (subst (λ (answer : Answer). Converses settings transaction request (answers ++ answer ∷ []) calls' reply') (sym answered) d.1) f.1
-    (subst (λ (one : Call). Follows limits (after_call running one) (calls' ++ more')) (sym same) g.1) alone.1 alone'.1 calm calm' in
+    (subst (λ (one : Call). FollowsRight limits (after_call running one) (calls' ++ more')) (sym same) g.1) alone.1 alone'.1 calm calm' in
     (ap (λ (one : Call). one ∷ calls) same ∙ ap (λ (all : List Call). call' ∷ all) rest.0, rest.1)
 
 -- a request, on one engine, makes the same steps and has the same reply, where this is no fault and no want of memory
 pub one_conversation : (limits : Limits) (running : Running) (settings : Settings) (transaction : Transaction) (request : Request) (here here' more more' : List Call) (reply reply' : Reply)
     → Converses settings transaction request [] here reply → Converses settings transaction request [] here' reply'
-    → Follows limits running (here ++ more) → Follows limits running (here' ++ more') → AreAlone (here ++ more) → AreAlone (here' ++ more')
+    → FollowsRight limits running (here ++ more) → FollowsRight limits running (here' ++ more') → AreAlone (here ++ more) → AreAlone (here' ++ more')
     → IsCalm reply → IsCalm reply' → Same here here' reply reply'
 one_conversation limits running settings transaction request here here' more more' reply reply' c d f g alone alone' calm calm' =
     one_from limits running settings transaction request [] here here' more more' reply reply' c d f g alone alone' calm calm'

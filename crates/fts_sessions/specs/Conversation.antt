@@ -203,7 +203,7 @@ Converses settings transaction request answers (call ∷ calls) reply =
 -- what is open behind a request, by its reply: only BEGIN, COMMIT, ROLLBACK and a change that is buffered leave
 -- something else than what was open
 abbrev pub behind : Settings → Transaction → Request → Reply → Transaction
-behind settings transaction opens reply = behind_begin reply
+behind settings transaction opens reply = behind_begin transaction reply
 behind settings transaction closes reply = behind_commit transaction reply
 behind settings transaction rolls_back reply = None
 behind settings transaction (changes statement) reply =

@@ -1,12 +1,10 @@
-use Rattle.std.specs.Prelude.{◌≡◌, ◌⊎◌, ℕ, false, List, [], IsTrue}
+use Rattle.std.specs.Prelude.{◌≡◌, ◌⊎◌, ℕ, List, []}
 use Rattle.fts_faults.specs.Count.{CountsFault}
 use Rattle.fts_io.specs.Text.{Line}
 use Rattle.fts_types.specs.declared.settings.Settings.{Settings}
 use Rattle.fts_schema.specs.declared.reply.Reply.{Reply}
 use Rattle.fts_schema.specs.declared.reply.Reply.TheVariants.{NoMemory, DiskFault}
-use Rattle.fts_steps.specs.Running.{Running, IsSure}
-use Rattle.fts_steps.specs.Crash.{IsBetween, IsIndexBetween}
-use Rattle.fts_steps.specs.Step.{Ask, Answer, Call, Sight, Leaves, Steps, Follows, AreAlone, after_all}
+use Rattle.fts_steps.specs.Step.{Ask, Answer, Call, Sight, Steps, AreMade}
 use Rattle.fts_sessions.specs.Query.{Search, IsSearch}
 use Rattle.fts_sessions.specs.Request.{Request, IsRequest}
 use Rattle.fts_sessions.specs.Transaction.{Transaction}
@@ -20,23 +18,13 @@ Says settings line transaction calls reply left =
     × (left ≡ behind settings transaction request reply))
     ⊎ ((calls ≡ []) × (reply ≡ NoMemory) × (left ≡ transaction))
 
--- steps are made, and then a reply is given, of which `Told` says what they are. On each engine for which the steps
--- stood they answered as they may, and stand then for what these made of it; where there are no others, and nothing is
--- in doubt that did not stop it, a crash at any moment leaves of each log what was before them and a front of what they
--- added
+-- steps are made, one after another, and then a reply is given, of which `Told` says what they are. A fault is counted
+-- exactly where the reply tells it
 pub record Proceeds {S : Type 0} (sight : Sight S) (Told : List Call → Reply → Type 0) (old : S) (reply : Reply)
     (new : S) : Type 0 where
   pub calls : List Call
   pub says : Told calls reply
-  pub alone : sight.is_shared ≡ false → AreAlone calls
-  pub follows : (running : Running) → sight.stands running old → Follows (sight.limits old) running calls
-  pub stands : (running : Running) → sight.stands running old → sight.stands (after_all running calls) new
-  pub crash : sight.is_shared ≡ false → IsTrue sight.rows.disk.tells → (running : Running) → IsSure running
-      → sight.stands running old → Leaves sight.rows (IsBetween running (after_all running calls)) old new
-  pub index : sight.is_shared ≡ false → IsTrue sight.index.disk.tells → (running : Running) → IsSure running
-      → sight.stands running old → Leaves sight.index (IsIndexBetween running (after_all running calls)) old new
-  pub settings : sight.settings new ≡ sight.settings old
-  pub limits : sight.limits new ≡ sight.limits old
+  pub made : AreMade sight calls old new
   pub faults : CountsFault (reply ≡ DiskFault) (sight.faults old) (sight.faults new)
 
 -- a line is executed in a session in which this transaction is open: its steps are made, its reply is given, and that

@@ -14,11 +14,13 @@ abbrev pub changes_in : Transaction → List Change
 changes_in None = []
 changes_in (Some changes) = changes
 
--- what is open behind a BEGIN: a transaction without changes, or none where it was refused
-abbrev pub behind_begin : Reply → Transaction
-behind_begin Begun = Some []
-behind_begin (CommittedAndBegun number) = Some []
-behind_begin reply = None
+-- what is open behind a BEGIN: a transaction without changes; or none where it was refused, but where memory ran out
+-- for it, which leaves what was open
+abbrev pub behind_begin : Transaction → Reply → Transaction
+behind_begin transaction Begun = Some []
+behind_begin transaction (CommittedAndBegun number) = Some []
+behind_begin transaction NoMemory = transaction
+behind_begin transaction reply = None
 
 -- behind a COMMIT: none, but where memory ran out for it, which leaves what was open
 abbrev pub behind_commit : Transaction → Reply → Transaction

@@ -16,7 +16,8 @@ use fts_steps::CommitError;
 use std::alloc::Global;
 
 /// The step of a BEGIN, and what tells its answer: the changes of the transaction that is open are
-/// committed, and one without changes is open. Where their commit is refused none is.
+/// committed, and one without changes is open. Where their commit is refused none is, but where
+/// memory ran out for it, which leaves what was open.
 pub fn begin<S: EngineSteps>(
     alloc: Global,
     transaction: &mut Option<Transaction>,
@@ -25,7 +26,7 @@ pub fn begin<S: EngineSteps>(
     requires { FitsTable (length (S.sight.settings steps.old).columns) transaction.old }
     ensures goes { GoesOn S.sight (S.sight.settings steps.old) transaction.old opens []
         steps.old result steps.new }
-    ensures behind { transaction.new ≡ behind_begin result }
+    ensures behind { transaction.new ≡ behind_begin transaction.old result }
 {
     match commit_changes(transaction, steps) {
         None => {
@@ -36,10 +37,7 @@ pub fn begin<S: EngineSteps>(
             *transaction = Some(Transaction::new(alloc));
             Reply::CommittedAndBegun { number }
         }
-        Some(Err(error)) => {
-            *transaction = None;
-            told(error)
-        }
+        Some(Err(error)) => refuse(transaction, error),
     }
 }
 
@@ -77,10 +75,11 @@ pub fn rollback(transaction: &mut Option<Transaction>) -> Reply
     Reply::RolledBack { changes }
 }
 
-// What tells the refusal of a COMMIT, which ends the transaction but for want of memory.
+// What tells the refusal of a commit, which ends the transaction but for want of memory.
 fn refuse(transaction: &mut Option<Transaction>, error: CommitError) -> Reply
     ensures told { reply_to (commit_answer_of (Err error)) ≡ result }
-    ensures behind { transaction.new ≡ behind_commit transaction.old result }
+    ensures commit { transaction.new ≡ behind_commit transaction.old result }
+    ensures begin { transaction.new ≡ behind_begin transaction.old result }
 {
     match error {
         CommitError::NoMemory => return Reply::NoMemory,
@@ -125,8 +124,7 @@ fn commit_changes<S: EngineSteps>(
 
 /// What tells the refusal of a commit.
 pub fn told(error: CommitError) -> Reply
-    ensures told { reply_to (commit_answer_of (Err error)) ≡ result }
-    ensures closed { behind_begin result ≡ None }
+    ensures { reply_to (commit_answer_of (Err error)) ≡ result }
 {
     match error {
         CommitError::NoMemory => Reply::NoMemory,

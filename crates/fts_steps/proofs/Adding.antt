@@ -2,6 +2,7 @@
 use Rattle.std.proofs.Common.{◌≡◌, ℕ, List, [], ◌∷◌, ◌++◌, refl, ap, ap₂, subst, sym, ◌∙◌, append_assoc}
 use Rattle.std.proofs.lemmas.List.{append-nil}
 use Rattle.std.specs.Prelude.{Option, Some, None}
+use Rattle.std.specs.Option.{unwrap_or}
 use Rattle.fts_types.specs.declared.limits.Limits.{Limits}
 use Rattle.fts_types.specs.declared.settings.Settings.{Settings}
 use Rattle.fts_commits.specs.Commit.{Commit}
@@ -164,6 +165,9 @@ writes_goes : (stop : Option ℕ) (answer : Answer) → IsTrue (writes (unless_s
 writes_goes None answer is = refl
 writes_goes (Some faults) answer is = absurd cc
 
+pub one_answer : (a b : Answer) → Some a ≡ Some b → a ≡ b
+one_answer a b same = ap (λ (o : Option Answer). unwrap_or o a) same
+
 -- as it tells by its answer
 told_goes : (stop : Option ℕ) (answer told : Answer) → unless_stopped stop answer ≡ told → IsTrue (writes told) → stop ≡ None
 told_goes stop answer told is wrote = writes_goes stop answer (subst (λ (a : Answer). IsTrue (writes a)) (sym is) wrote)
@@ -207,7 +211,7 @@ adds_optimized running sure = adds_entries running optimized (next_optimized run
 
 adds_step : (limits : Limits) (running : Running) (ask : Ask) (answer : Answer) → IsSure running → MayAnswer limits running ask answer → Adds running (after running ask answer)
 adds_step limits running (to_commit commit) (committed number) sure may =
-    adds_commit running commit (sure (told_goes running.stopped _ (committed number) may refl)).0
+    adds_commit running commit (sure (told_goes running.stopped _ (committed number) (one_answer _ _ may) refl)).0
 adds_step limits running (to_commit commit) (disk_fault faults) sure may =
     adds_doubt running faults commit (sure (writes_goes running.stopped _ may)).0
 adds_step limits running (to_commit commit) (refused why) sure may = adds_none running
@@ -222,7 +226,7 @@ adds_step limits running (to_commit commit) (measured size) sure may = adds_none
 adds_step limits running (to_commit commit) (stopped faults) sure may = adds_none running
 adds_step limits running (to_commit commit) no_memory sure may = adds_none running
 adds_step limits running to_sync (flushed through commits) sure may =
-    adds_entries running batched (next_batch running ∷ []) refl refl refl (sure (told_goes running.stopped _ (flushed through commits) may refl)).1
+    adds_entries running batched (next_batch running ∷ []) refl refl refl (sure (told_goes running.stopped _ (flushed through commits) (one_answer _ _ may) refl)).1
 adds_step limits running to_sync (disk_fault faults) sure may =
     adds_loose running (batch_failed faults) (next_batch running ∷ []) refl refl refl (sure (writes_goes running.stopped _ may)).1
 adds_step limits running to_sync (committed number) sure may = adds_none running
@@ -236,9 +240,9 @@ adds_step limits running to_sync (listed number listing) sure may = adds_none ru
 adds_step limits running to_sync (measured size) sure may = adds_none running
 adds_step limits running to_sync (stopped faults) sure may = adds_none running
 adds_step limits running to_sync no_memory sure may = adds_none running
-adds_step limits running to_optimize (passed Began) sure may = adds_optimized running (sure (told_goes running.stopped _ (passed Began) may refl)).1
-adds_step limits running to_optimize (passed Word) sure may = adds_optimized running (sure (told_goes running.stopped _ (passed Word) may refl)).1
-adds_step limits running to_optimize (passed Finished) sure may = adds_optimized running (sure (told_goes running.stopped _ (passed Finished) may refl)).1
+adds_step limits running to_optimize (passed Began) sure may = adds_optimized running (sure (told_goes running.stopped _ (passed Began) (one_answer _ _ may) refl)).1
+adds_step limits running to_optimize (passed Word) sure may = adds_optimized running (sure (told_goes running.stopped _ (passed Word) (one_answer _ _ may) refl)).1
+adds_step limits running to_optimize (passed Finished) sure may = adds_optimized running (sure (told_goes running.stopped _ (passed Finished) (one_answer _ _ may) refl)).1
 adds_step limits running to_optimize (passed Nothing) sure may = adds_none running
 adds_step limits running to_optimize (disk_fault faults) sure may =
     adds_loose running (optimize_failed faults) (next_optimized running) refl refl refl (sure (writes_goes running.stopped _ may)).1

@@ -2,3 +2,4 @@ pub mod Growing
 pub mod Leaving
 pub mod Adding
 pub mod Faults
+pub mod Making

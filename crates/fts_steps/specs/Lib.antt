@@ -3,4 +3,5 @@ pub mod Fault
 pub mod Running
 pub mod Crash
 pub mod Step
+pub mod Right
 pub mod Answers

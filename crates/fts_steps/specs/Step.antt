@@ -1,5 +1,5 @@
 use Rattle.std.specs.Prelude.{Bool, true, false, ◌≡◌, ◌⊎◌, ℕ, ◌+◌, if◌then◌else◌, nat_lt, List, [], ◌∷◌, length, map}
-use Rattle.std.specs.Prelude.{Option, Some, None, Result, Ok, Err, IsTrue}
+use Rattle.std.specs.Prelude.{◌++◌, Option, Some, None, Result, Ok, Err, IsTrue}
 use Rattle.fts_faults.specs.Count.{CountsFault}
 use Rattle.fts_types.specs.declared.limits.Limits.{Limits}
 use Rattle.fts_types.specs.declared.settings.Settings.{Settings}
@@ -13,7 +13,7 @@ use Rattle.fts_meaning.specs.View.{View, view_of}
 use Rattle.fts_disk.specs.Crash.{Images}
 use Rattle.fts_disk.specs.Moments.{LeavesOnly}
 use Rattle.fts_disk.specs.declared.disk.Disk.{Ghosts}
-use Rattle.fts_steps.specs.State.{State, turns_of, end_after, index_end_after}
+use Rattle.fts_steps.specs.State.{State, IsRight, turns_of, end_after, index_end_after}
 use Rattle.fts_listing.specs.declared.kind.ListingKind.{ListingKind}
 use Rattle.fts_listing.specs.declared.listing.Listing.{Listing}
 use Rattle.fts_listing.specs.Listing.{IsListed}
@@ -108,18 +108,30 @@ abbrev pub unless_stopped : Option ℕ → Answer → Answer
 unless_stopped None answer = answer
 unless_stopped (Some faults) answer = stopped faults
 
--- the answer of a step that nothing outside disturbs; that of a listing is told by a relation of its own (`Lists`)
-abbrev pub plain_answer : Limits → Running → Ask → Answer
-plain_answer limits running (to_commit commit) = unless_stopped running.stopped
-    (commit_answer limits running.state commit (after_commit limits commit (replay running.state.commits)))
-plain_answer limits running to_sync = unless_stopped running.stopped (batch_answer limits running)
+-- the answer of a step that nothing outside disturbs, where what runs determines it; those of a view, of a search and
+-- of a listing are told by relations
+abbrev pub plain_answer : Limits → Running → Ask → Option Answer
+plain_answer limits running (to_commit commit) = Some (unless_stopped running.stopped
+    (commit_answer limits running.state commit (after_commit limits commit (replay running.state.commits))))
+plain_answer limits running to_sync = Some (unless_stopped running.stopped (batch_answer limits running))
 plain_answer limits running to_optimize =
-    unless_stopped running.stopped (optimize_answer limits running.state (next_optimized running))
-plain_answer limits running (to_view asked) = viewed (state_view running.state asked)
-plain_answer limits running (to_find terms) = found (length running.state.commits)
-    (scan (rules_of running.state.settings) (replay running.state.commits).list terms)
-plain_answer limits running (to_list kind) = no_memory
-plain_answer limits running to_measure = measured (cache_size running)
+    Some (unless_stopped running.stopped (optimize_answer limits running.state (next_optimized running)))
+plain_answer limits running (to_view asked) = None
+plain_answer limits running (to_find terms) = None
+plain_answer limits running (to_list kind) = None
+plain_answer limits running to_measure = Some (measured (cache_size running))
+
+-- a view has the number of the commits; and where the index is right, what the rows have for the leaves
+abbrev pub Views : Running → Ask → View → Type 0
+Views running (to_view asked) view = (view.number ≡ length running.state.commits)
+    × (IsRight running.state → view ≡ state_view running.state asked)
+Views running ask view = ⊥
+
+-- so does a search; and where the index is right, it finds the rows in which the query holds
+abbrev pub Finds : Running → Ask → ℕ → List ℕ → Type 0
+Finds running (to_find terms) number docs = (number ≡ length running.state.commits)
+    × (IsRight running.state → docs ≡ scan (rules_of running.state.settings) (replay running.state.commits).list terms)
+Finds running ask number docs = ⊥
 
 -- a listing tells what its view has, as of so many commits
 abbrev pub Lists : Running → Ask → ℕ → Listing → Type 0
@@ -127,22 +139,23 @@ Lists running (to_list kind) number listing = (number ≡ length running.state.c
     × IsListed running.state.settings (turns_of running.state) running.index kind listing
 Lists running ask number listing = ⊥
 
+-- the answer of a step that nothing outside disturbs
+abbrev pub IsPlain : Limits → Running → Ask → Answer → Type 0
+IsPlain limits running ask (viewed view) = Views running ask view
+IsPlain limits running ask (found number docs) = Finds running ask number docs
+IsPlain limits running ask (listed number listing) = Lists running ask number listing
+IsPlain limits running ask answer = plain_answer limits running ask ≡ Some answer
+
+-- whether a step writes that nothing outside disturbs
+abbrev pub would_write : Option Answer → Bool
+would_write None = false
+would_write (Some answer) = writes answer
+
 -- the answers that a step may give: its plain one, want of memory, and a disk fault where it would have written
 abbrev pub MayAnswer : Limits → Running → Ask → Answer → Type 0
 MayAnswer limits running ask no_memory = Unit {0}
-MayAnswer limits running ask (disk_fault faults) = IsTrue (writes (plain_answer limits running ask))
-MayAnswer limits running ask (committed number) = plain_answer limits running ask ≡ committed number
-MayAnswer limits running ask (refused why) = plain_answer limits running ask ≡ refused why
-MayAnswer limits running ask (full end) = plain_answer limits running ask ≡ full end
-MayAnswer limits running ask (flushed through commits) =
-    plain_answer limits running ask ≡ flushed through commits
-MayAnswer limits running ask (all_flushed commits) = plain_answer limits running ask ≡ all_flushed commits
-MayAnswer limits running ask (passed step) = plain_answer limits running ask ≡ passed step
-MayAnswer limits running ask (viewed view) = plain_answer limits running ask ≡ viewed view
-MayAnswer limits running ask (found number docs) = plain_answer limits running ask ≡ found number docs
-MayAnswer limits running ask (listed number listing) = Lists running ask number listing
-MayAnswer limits running ask (measured size) = plain_answer limits running ask ≡ measured size
-MayAnswer limits running ask (stopped faults) = plain_answer limits running ask ≡ stopped faults
+MayAnswer limits running ask (disk_fault faults) = IsTrue (would_write (plain_answer limits running ask))
+MayAnswer limits running ask answer = IsPlain limits running ask answer
 
 -- what a step adds, by its answer
 abbrev pub changes_of : Ask → Answer → List What
@@ -162,47 +175,6 @@ entries_of by ask answer = map (λ what. record { by = by; what = what }) (chang
 -- the engine after a step
 abbrev pub after : Running → Ask → Answer → Running
 after running ask answer = grown running (entries_of 0 ask answer)
-
--- a device below what makes steps
-pub record Below (S : Type 0) : Type 1 where
-  pub Device : Type 0
-  pub disk : Ghosts Device
-  pub device : S → Device
-
--- what contracts see of what makes steps: whether others make some in between, the settings and the limits of commits,
--- how many faults the devices had together, for which engine it stands, and the devices of its two logs
-pub record Sight (S : Type 0) : Type 1 where
-  pub is_shared : Bool
-  pub settings : S → Settings
-  pub limits : S → Limits
-  pub faults : S → ℕ
-  pub stands : Running → S → Type 0
-  pub rows : Below S
-  pub index : Below S
-
--- from one to the other the device was not touched, or a crash at any moment leaves files of which this holds
-abbrev pub Leaves : {S : Type 0} → Below S → Images → S → S → Type 0
-Leaves below P old new = (below.device new ≡ below.device old)
-    ⊎ LeavesOnly below.disk (below.device old) (below.device new) P
-
--- a step: `more` is what others added before it. It answers as it may on the engine grown so, and what stands then
--- stands for this engine after the answer. Where there are no others, a crash at any moment leaves of each log what
--- stood before it or what stands behind it
-pub record Steps {S : Type 0} (sight : Sight S) (ask : Ask) (answer : Answer) (old new : S) : Type 0 where
-  pub more : List Entry
-  pub alone : sight.is_shared ≡ false → more ≡ []
-  pub may : (running : Running) → sight.stands running old
-      → MayAnswer (sight.limits old) (grown running more) ask answer
-  pub stands : (running : Running) → sight.stands running old → sight.stands (after (grown running more) ask answer) new
-  pub crash : sight.is_shared ≡ false → IsTrue sight.rows.disk.tells → (running : Running)
-      → sight.stands running old → Leaves sight.rows (IsBetween running (after (grown running more) ask answer)) old new
-  pub index : sight.is_shared ≡ false → IsTrue sight.index.disk.tells → (running : Running)
-      → sight.stands running old
-      → Leaves sight.index (IsIndexBetween running (after (grown running more) ask answer)) old new
-  pub settings : sight.settings new ≡ sight.settings old
-  pub limits : sight.limits new ≡ sight.limits old
-  pub faults : CountsFault (IsTrue (is_disk_fault answer)) (sight.faults old) (sight.faults new)
-  pub sum : (n : ℕ) → answer ≡ disk_fault n → n ≡ sight.faults new
 
 -- a step that was made: what others added before it, what it was asked, and what it answered
 pub record Call : Type 0 where
@@ -225,7 +197,123 @@ Follows limits running [] = Unit {0}
 Follows limits running (call ∷ calls) =
     MayAnswer limits (grown running call.more) call.ask call.answer × Follows limits (after_call running call) calls
 
+-- and the index of each of these engines is right
+abbrev pub FollowsRight : Limits → Running → List Call → Type 0
+FollowsRight limits running [] = Unit {0}
+FollowsRight limits running (call ∷ calls) =
+    (MayAnswer limits (grown running call.more) call.ask call.answer × IsRight (grown running call.more).state)
+    × FollowsRight limits (after_call running call) calls
+
 -- nobody else added anything in between
 abbrev pub AreAlone : List Call → Type 0
 AreAlone [] = Unit {0}
 AreAlone (call ∷ calls) = (call.more ≡ []) × AreAlone calls
+
+-- ---- who makes steps
+
+-- a device below what makes steps
+pub record Below (S : Type 0) : Type 1 where
+  pub Device : Type 0
+  pub disk : Ghosts Device
+  pub device : S → Device
+
+-- what one of several who make steps on one engine knows of these: its number, all that was added so far, what of that
+-- it added itself, and how many steps it made
+pub record Account : Type 0 where
+  pub number : ℕ
+  pub seen : List Entry
+  pub gave : List Entry
+  pub turns : ℕ
+
+-- that of who is alone
+abbrev pub no_account : Account
+no_account = record { number = 0; seen = []; gave = []; turns = 0 }
+
+-- what contracts see of what makes steps: whether others make some in between, and then its place among them and its
+-- account; the settings and the limits of commits, how many faults the devices had together, for which engine it
+-- stands, and the devices of its two logs
+pub record Sight (S : Type 0) : Type 1 where
+  pub is_shared : Bool
+  pub Place : Type 0
+  pub place : S → Place
+  pub account : S → Account
+  pub settings : S → Settings
+  pub limits : S → Limits
+  pub faults : S → ℕ
+  pub stands : Running → S → Type 0
+  pub rows : Below S
+  pub index : Below S
+
+-- from one to the other the device was not touched, or a crash at any moment leaves files of which this holds
+abbrev pub Leaves : {S : Type 0} → Below S → Images → S → S → Type 0
+Leaves below P old new = (below.device new ≡ below.device old)
+    ⊎ LeavesOnly below.disk (below.device old) (below.device new) P
+
+-- the account has what others added, behind that what was added here, and so many steps more
+pub record Tells {S : Type 0} (sight : Sight S) (more own : List Entry) (turns : ℕ) (old new : S) : Type 0 where
+  pub number : (sight.account new).number ≡ (sight.account old).number
+  pub seen : (sight.account new).seen ≡ (sight.account old).seen ++ (more ++ own)
+  pub gave : (sight.account new).gave ≡ (sight.account old).gave ++ own
+  pub turns_are : (sight.account new).turns ≡ (sight.account old).turns + turns
+  pub place : sight.place new ≡ sight.place old
+
+-- what a step keeps, whatever it was asked: the settings and the limits; and a fault is counted exactly where its
+-- answer tells it, with the sum of the counts
+pub record Keeps {S : Type 0} (sight : Sight S) (answer : Answer) (old new : S) : Type 0 where
+  pub settings : sight.settings new ≡ sight.settings old
+  pub limits : sight.limits new ≡ sight.limits old
+  pub faults : CountsFault (IsTrue (is_disk_fault answer)) (sight.faults old) (sight.faults new)
+  pub sum : (n : ℕ) → answer ≡ disk_fault n → n ≡ sight.faults new
+
+-- ---- a step
+
+-- what a step is of an engine for which it stood: it answers as it may on the engine that others grew, and stands for
+-- what it makes of that. Where there are no others, a crash at any moment leaves of each log what stood before it or
+-- what stands behind it
+pub record StepOf {S : Type 0} (sight : Sight S) (running : Running) (call : Call) (old new : S) : Type 0 where
+  pub alone : sight.is_shared ≡ false → call.more ≡ []
+  pub may : MayAnswer (sight.limits old) (grown running call.more) call.ask call.answer
+  pub stands : sight.stands (after_call running call) new
+  pub rows : sight.is_shared ≡ false → IsTrue sight.rows.disk.tells
+      → Leaves sight.rows (IsBetween running (after_call running call)) old new
+  pub index : sight.is_shared ≡ false → IsTrue sight.index.disk.tells
+      → Leaves sight.index (IsIndexBetween running (after_call running call)) old new
+  pub keeps : Keeps sight call.answer old new
+
+-- a step: `more` is what others added before it. So it is of each engine for which it stood; and where there are
+-- others, its account tells what they added
+pub record Steps {S : Type 0} (sight : Sight S) (ask : Ask) (answer : Answer) (old new : S) : Type 0 where
+  pub more : List Entry
+  pub each : (running : Running) → sight.stands running old
+      → StepOf sight running (record { more = more; ask = ask; answer = answer }) old new
+  pub tells : IsTrue sight.is_shared
+      → Tells sight more (entries_of (sight.account old).number ask answer) 1 old new
+  pub keeps : Keeps sight answer old new
+
+-- these steps were made, one after another
+abbrev pub AreMade : {S : Type 0} → Sight S → List Call → S → S → Type 0
+AreMade sight [] old new = new ≡ old
+AreMade {S} sight (call ∷ calls) old new = (mid : S)
+    × ((step : Steps sight call.ask call.answer old mid) × (step.more ≡ call.more)) × AreMade sight calls mid new
+
+-- these steps were made on one engine that ran so, one after another: each is told with what made it, before and behind
+abbrev pub Traced : {S : Type 0} → Sight S → Running → List Call → S → S → Type 0
+Traced sight running [] old new = new ≡ old
+Traced {S} sight running (call ∷ calls) old new =
+    (mid : S) × StepOf sight running call old mid × Traced sight (after_call running call) calls mid new
+
+-- nothing but looks: no fault was counted, and a crash leaves of each device what it could leave before
+pub record OnlyLooks {S : Type 0} (sight : Sight S) (old new : S) : Type 0 where
+  pub settings : sight.settings new ≡ sight.settings old
+  pub limits : sight.limits new ≡ sight.limits old
+  pub faults : sight.faults new ≡ sight.faults old
+  pub rows : IsTrue sight.rows.disk.tells → Leaves sight.rows (sight.rows.disk.images (sight.rows.device old)) old new
+  pub index : IsTrue sight.index.disk.tells
+      → Leaves sight.index (sight.index.disk.images (sight.index.device old)) old new
+
+-- a run: the devices were only looked at, up to where this engine stood; and from there on these steps were made
+pub record Runs {S : Type 0} (sight : Sight S) (start : Running) (calls : List Call) (before after : S) : Type 0 where
+  pub began : S
+  pub looked : OnlyLooks sight before began
+  pub stood : sight.stands start began
+  pub steps : Traced sight start calls began after

@@ -1,18 +1,15 @@
 -- What was done by the steps of an engine, seen by its devices.
-use Rattle.std.specs.Prelude.{Result, Ok, Err}
-use Rattle.std.proofs.Common.{◌≡◌, ℕ, ◌+◌, Bool, true, false, List, [], ◌∷◌, refl, subst, inr}
+use Rattle.std.specs.Prelude.{IsTrue, Result, Ok, Err}
+use Rattle.std.proofs.Common.{◌≡◌, ℕ, ◌+◌, Bool, true, false, List, [], ◌∷◌, refl, ap, subst, sym, ◌∙◌, inr}
 use Rattle.fts_types.specs.declared.limits.Limits.{Limits}
 use Rattle.fts_types.specs.declared.settings.Settings.{Settings}
 use Rattle.fts_disk.specs.Moments.{LeavesAsBefore}
 use Rattle.fts_engine.specs.Stands.{OnRows, OnIndex}
 use Rattle.fts_faults.specs.Count.{CountsFault}
 use Rattle.fts_io.specs.Text.{Line}
-use Rattle.fts_steps.specs.State.{IsRight}
-use Rattle.fts_steps.specs.Running.{Running}
-use Rattle.fts_steps.specs.Crash.{IsBetween, IsIndexBetween}
-use Rattle.fts_steps.specs.Step.{Sight, Follows, after_all}
+use Rattle.fts_steps.specs.Running.{Running, grown}
+use Rattle.fts_steps.specs.Step.{Call, Sight, MayAnswer, is_disk_fault, Traced, Runs, after_call}
 use Rattle.fts_top.specs.declared.ends.Health.{Health}
-use Rattle.fts_top.specs.declared.ends.Health.TheVariants.{Failed}
 use Rattle.fts_top.specs.declared.ends.RunEnd.{RunEnd}
 use Rattle.fts_top.specs.declared.ends.RunEnd.TheVariants as end
 use Rattle.fts_top.specs.declared.ends.Unsent.{Unsent}
@@ -20,8 +17,8 @@ use Rattle.fts_top.specs.declared.ends.Unsent.TheVariants as unsent
 use Rattle.fts_top.specs.Generate.{Tells, Generates}
 use Rattle.fts_top.specs.Run.{Sides, Front, ReadsToEnd, Stops, Outcome}
 use Rattle.fts_top.specs.Talk.{Talks}
-use Rattle.fts_top.specs.Once.{Devices, devices_of, Disks, disks_of, disk_faults, device_sight}
-use Rattle.fts_top.proofs.Crashing.{crash_behind}
+use Rattle.fts_engine.specs.Devices.{Devices, devices_of, Disks, disks_of, disk_faults, device_sight}
+use Rattle.fts_top.proofs.Crashing.{looked_behind}
 
 -- what was looked at before, on both devices
 pub record Looked {S : Type 0} (sight : Sight S) (first : Devices sight.rows.Device sight.index.Device) (opened : S) : Type 0 where
@@ -30,12 +27,12 @@ pub record Looked {S : Type 0} (sight : Sight S) (first : Devices sight.rows.Dev
 
 module _ {S : Type 0} (sight : Sight S) (single : sight.is_shared ≡ false) (settings : Settings) (limits : Limits)
     (held : (running : Running) (s : S) → sight.stands running s
-    → IsRight running.state × OnRows sight.rows.disk running (sight.rows.device s) × OnIndex sight.index.disk running (sight.index.device s))
+    → OnRows sight.rows.disk running (sight.rows.device s) × OnIndex sight.index.disk running (sight.index.device s))
     (start : Running) (script : List Line) (before now : Sides S)
     (first : Devices sight.rows.Device sight.index.Device) (looked : Looked sight first before.steps)
     (same_settings : sight.settings before.steps ≡ settings) (same_limits : sight.limits before.steps ≡ limits)
     (calm : sight.faults before.steps ≡ sight.rows.disk.faults first.rows + sight.index.disk.faults first.index)
-    (counts : sight.faults now.steps ≡ sight.rows.disk.faults (sight.rows.device now.steps) + sight.index.disk.faults (sight.index.device now.steps)) where
+    (counts : (s : S) → sight.faults s ≡ sight.rows.disk.faults (sight.rows.device s) + sight.index.disk.faults (sight.index.device s)) where
   abbrev both : Disks sight.rows.Device sight.index.Device
   both = disks_of sight.rows.disk sight.index.disk
 
@@ -48,6 +45,46 @@ module _ {S : Type 0} (sight : Sight S) (single : sight.is_shared ≡ false) (se
 
   abbrev done : Sides (Devices sight.rows.Device sight.index.Device)
   done = record { left = now.left; held = now.held; steps = last }
+
+  -- the two devices of what makes steps
+  abbrev seen : S → Devices sight.rows.Device sight.index.Device
+  seen s = devices_of (sight.rows.device s) (sight.index.device s)
+
+  traced_on : (running : Running) (calls : List Call) (old new : S) → sight.limits old ≡ limits → Traced sight running calls old new
+      → Traced (device_sight both settings limits) running calls (seen old) (seen new)
+  traced_on running [] old new kept is = ap seen is
+  traced_on running (call ∷ calls) old new kept (mid, step, rest) = (
+    seen mid,
+    record {
+      alone = λ e. step.alone single;
+      may = subst (λ (n : Limits). MayAnswer n (grown running call.more) call.ask call.answer) kept step.may;
+      stands = held (after_call running call) mid step.stands;
+      rows = λ e told. step.rows single told;
+      index = λ e told. step.index single told;
+      keeps = record {
+        settings = refl;
+        limits = refl;
+        faults = subst (λ (n : ℕ). CountsFault (IsTrue (is_disk_fault call.answer)) n (disk_faults both (seen mid))) (counts old)
+            (subst (λ (n : ℕ). CountsFault (IsTrue (is_disk_fault call.answer)) (sight.faults old) n) (counts mid) step.keeps.faults);
+        sum = λ n is. step.keeps.sum n is ∙ counts mid;
+      };
+    },
+    traced_on (after_call running call) calls mid new (step.keeps.limits ∙ kept) rest,
+  )
+
+  runs_on : (calls : List Call) → Runs sight start calls before.steps now.steps → Runs (device_sight both settings limits) start calls first last
+  runs_on calls run = record {
+    began = seen run.began;
+    looked = record {
+      settings = refl;
+      limits = refl;
+      faults = sym (counts run.began) ∙ run.looked.faults ∙ calm;
+      rows = λ told. inr (looked_behind sight.rows.disk first.rows (sight.rows.device before.steps) (sight.rows.device run.began) looked.rows (run.looked.rows told));
+      index = λ told. inr (looked_behind sight.index.disk first.index (sight.index.device before.steps) (sight.index.device run.began) looked.index (run.looked.index told));
+    };
+    stood = held start run.began run.stood;
+    steps = traced_on start calls run.began now.steps (run.looked.limits ∙ same_limits) run.steps;
+  }
 
   abbrev front_on : (sent : Bool) (ahead : List Line) → Front sight start sent script ahead before now
       → Front (device_sight both settings limits) start sent script ahead begun done
@@ -62,20 +99,7 @@ module _ {S : Type 0} (sight : Sight S) (single : sight.is_shared ≡ false) (se
     written = front.written;
     talks = subst (λ (s : Settings). Talks s sent [] front.lines front.calls front.replies front.met front.sessions) same_settings front.talks;
     few = front.few;
-    alone = λ e. front.alone single;
-    follows = subst (λ (n : Limits). Follows n start front.calls) same_limits front.follows;
-    settings = refl;
-    limits = refl;
-    stands = held (after_all start front.calls) now.steps front.stands;
-    going = λ e calm. front.going single calm;
-    counted = subst (λ (n : ℕ). CountsFault (front.met ≡ Failed) n (disk_faults both last)) calm
-        (subst (λ (n : ℕ). CountsFault (front.met ≡ Failed) (sight.faults before.steps) n) counts front.counted);
-    crash = λ e told sure.
-        inr (crash_behind sight.rows.disk first.rows (sight.rows.device before.steps) (sight.rows.device now.steps) (IsBetween start (after_all start front.calls)) looked.rows
-        (front.crash single told sure));
-    index = λ e told sure.
-        inr (crash_behind sight.index.disk first.index (sight.index.device before.steps) (sight.index.device now.steps) (IsIndexBetween start (after_all start front.calls))
-        looked.index (front.index single told sure));
+    runs = runs_on front.calls front.runs;
   }
 
   abbrev reads_on : (met : Health) → ReadsToEnd sight met start script before now → ReadsToEnd (device_sight both settings limits) met start script begun done

@@ -2,10 +2,6 @@
 use Rattle.std.proofs.Common.{◌≡◌, ℕ, List, [], refl, inl, inr, subst}
 use Rattle.fts_types.specs.declared.settings.Settings.{Settings}
 use Rattle.fts_steps.specs.State.{State, IsCreated, IsDatabase, IsRight, IsRows, IsIndex, created_with}
-use Rattle.fts_steps.specs.Running.{opened}
-use Rattle.fts_disk.specs.declared.disk.Disk.{Ghosts}
-use Rattle.fts_engine.specs.declared.engine.Engine.{Engine}
-use Rattle.fts_engine.specs.Stands.{Holds, Stands}
 use Rattle.fts_steps.proofs.Growing.{none_right}
 use Rattle.fts_steps.proofs.Faults.{is_created, not_at_fault}
 use Rattle.fts_engine.specs.declared.error.Device.TheVariants.{Rows, Index}
@@ -69,8 +65,3 @@ database_read state seen seen' of_rows of_index = record {
   of_rows = subst (λ (f : ℕ → List ℕ). IsRows state (f 0)) seen of_rows;
   of_index = subst (λ (f : ℕ → List ℕ). IsIndex state (f 0)) seen' of_index;
 }
-
--- an engine that was opened on a database whose index is right
-pub stands_right : {D E : Type 0} {rows : Ghosts D} {index : Ghosts E} (state : State) (engine : Engine D E rows index) → Holds (opened state) engine → IsRight state
-    → Stands (opened state) engine
-stands_right state engine holds right = record { holds = holds; right = right }

@@ -13,7 +13,7 @@ use Rattle.fts_schema.specs.declared.summary.Summary.{Summary}
 use Rattle.fts_schema.specs.declared.summary.Sums.{Sums}
 use Rattle.fts_disk.specs.declared.disk.Disk.{Ghosts}
 use Rattle.fts_engine.specs.declared.engine.Engine.{Engine}
-use Rattle.fts_engine.specs.Stands.{Stands}
+use Rattle.fts_engine.specs.Stands.{Holds}
 use Rattle.fts_sessions.specs.Transaction.{Transaction}
 use Rattle.fts_sessions.specs.Execute.{Executes}
 use Rattle.fts_sql.specs.Token.{is_blank}
@@ -32,6 +32,7 @@ use Rattle.fts_top.specs.Generate.{PlaysLine, Plays, Breaks, Tells, ComesTo, IsS
 use Rattle.fts_top.specs.Health.{health_of, health_of_steps, worse}
 use Rattle.fts_top.specs.Sessions.{Met, met, open_in, leaving}
 use Rattle.fts_top.specs.Run.{sides, Front}
+use Rattle.fts_steps.proofs.Making.{made_keeps}
 use Rattle.fts_top.proofs.Fronts.{nothing_yet, one_more}
 use Rattle.fts_top.proofs.Health.{counted_more, counted_reply}
 use Rattle.fts_top.proofs.Turning.{executed}
@@ -98,6 +99,7 @@ module _ {S : Type 0} (sight : Sight S) (start : Running) (script : List Line) w
     pub met_is : front.met ≡ played.met
     pub sums_are : AreSums front.replies played.sums
     pub sessions_are : IsAlone front.sessions transaction
+    pub kept : sight.settings now ≡ sight.settings old
 
   pub starts : (played : Played) (transaction : Transaction) (here : S) → sight.stands start here → played.met ≡ Sound → AreSums [] played.sums → transaction ≡ None
       → PlayedFar script played transaction here here
@@ -107,6 +109,7 @@ module _ {S : Type 0} (sight : Sight S) (start : Running) (script : List Line) w
     met_is = sym sound;
     sums_are = sums;
     sessions_are = subst (IsAlone []) (sym closed) unmet;
+    kept = refl;
   }
 
   pub plays_on : (line : List ℕ) (behind : List Line) (played next : Played) (transaction left : Transaction) (old middle now : S)
@@ -121,13 +124,13 @@ module _ {S : Type 0} (sight : Sight S) (start : Running) (script : List Line) w
       (sym (leaving_alone front.sessions transaction left far.sessions_are)) in
       record {
         front = one_more sight start script true (whole line) (whole line ∷ behind) behind (sides [] [] old) (sides [] [] middle) (sides [] [] now) one.reply [] one.middle
-            batches.calls sessions front refl (omega arith) serves batches.are batches.steps
-            (subst (λ (h : Health). CountsFault (h ≡ Failed) (sight.faults one.middle) (sight.faults now)) (sym batches.met_is) batches.faults) refl;
+            batches.calls sessions front far.kept refl (omega arith) serves batches.are batches.steps refl;
         silent = append-nil front.text ∙ far.silent;
         met_is = ap (λ (h : Health). worse h (worse (health_of one.reply) (health_of_steps batches.calls))) far.met_is
             ∙ ap (λ (h : Health). worse played.met (worse (health_of one.reply) h)) batches.met_is ∙ ap (worse played.met) (sym one.behind.met_is) ∙ sym one.met_is;
         sums_are = one.sums front.replies far.sums_are;
         sessions_are = alone left;
+        kept = (made_keeps sight batches.calls one.middle now batches.steps).settings ∙ (made_keeps sight one.executes.calls middle one.middle one.executes.made).settings ∙ far.kept;
       }
 
 -- the count of a line and of the batches behind it
@@ -159,15 +162,7 @@ module _ {S : Type 0} (sight : Sight S) (start : Running) (script : List Line) w
     written = written;
     talks = front.talks;
     few = front.few;
-    alone = front.alone;
-    follows = front.follows;
-    settings = front.settings;
-    limits = front.limits;
-    stands = front.stands;
-    going = front.going;
-    counted = front.counted;
-    crash = front.crash;
-    index = front.index;
+    runs = front.runs;
   }
 
   -- nothing was told
@@ -197,9 +192,9 @@ module _ {S : Type 0} (sight : Sight S) (start : Running) (script : List Line) w
 
 -- a script comes to what the engine behind it keeps
 pub comes_to : {D E : Type 0} {rows : Ghosts D} {index : Ghosts E} (engine : Engine D E rows index) (statements : ℕ) (running : Running) (replies : List Reply)
-    (sums : Sums) (summary : Summary) → Stands running engine → IsSummary engine statements sums summary → AreSums replies sums → ComesTo statements running replies summary
+    (sums : Sums) (summary : Summary) → Holds running engine → IsSummary engine statements sums summary → AreSums replies sums → ComesTo statements running replies summary
 comes_to engine statements running replies sums summary stands (counted, same, kept) are =
-    let all = kept running.state stands.holds.has.keeps in record {
+    let all = kept running.state stands.has.keeps in record {
       counted = counted;
       commits = all.0;
       rows = all.1;

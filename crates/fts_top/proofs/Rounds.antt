@@ -4,14 +4,15 @@ use Rattle.std.specs.Prelude.{Option, Some, None}
 use Rattle.std.proofs.lemmas.Bool.{false≢true, lt-ltb, le-ltb}
 use Rattle.std.proofs.lemmas.List.{append-nil}
 use Rattle.fts_faults.specs.Count.{CountsFault, Rose}
-use Rattle.fts_steps.specs.Step.{Answer, full, flushed, all_flushed, measured, disk_fault, stopped, no_memory, to_measure, to_sync, Call, Sight, Steps, is_disk_fault}
+use Rattle.fts_steps.specs.Step.{Answer, full, flushed, all_flushed, measured, disk_fault, stopped, no_memory, to_measure, to_sync, Call, Sight, Steps, AreMade, is_disk_fault}
 use Rattle.fts_top.specs.declared.ends.Health.{Health}
 use Rattle.fts_top.specs.declared.ends.Health.TheVariants.{Sound, Short, Failed}
-use Rattle.fts_top.specs.Batches.{MakesSteps, MakesBatches, MakesRound}
+use Rattle.fts_top.specs.Batches.{MakesBatches, MakesRound}
 use Rattle.fts_top.specs.Health.{health_of_answer, health_of_steps, worse}
 use Rattle.fts_top.specs.Talk.{AreBatches, if_above, unless_refused}
 use Rattle.fts_top.proofs.Health.{worse_sound, worse_more}
-use Rattle.fts_top.proofs.Making.{call_of, no_steps, one_step, both}
+use Rattle.fts_steps.proofs.Making.{made_keeps, made_append}
+use Rattle.fts_top.proofs.Making.{call_of, one_step}
 
 -- two counts that no fault raised
 calm_both : {end : Option Health} (old mid new : ℕ) (first next : Bool) → first ≡ false → next ≡ false → (end ≡ Some Failed → ⊥)
@@ -32,7 +33,7 @@ calm_one old new first one calm before = record {
 module _ {S : Type 0} (sight : Sight S) (old mid : S) (size bytes : ℕ) (look : Steps sight to_measure (measured size) old mid)
     (is_limit : bytes ≡ (sight.settings mid).cache_bytes) where
   limit : bytes ≡ (sight.settings old).cache_bytes
-  limit = is_limit ∙ ap (λ s. s.cache_bytes) look.settings
+  limit = is_limit ∙ ap (λ s. s.cache_bytes) look.keeps.settings
 
   abbrev looked : Call
   looked = call_of sight to_measure (measured size) old mid look
@@ -51,7 +52,7 @@ module _ {S : Type 0} (sight : Sight S) (old mid : S) (size bytes : ℕ) (look :
       ),
     );
     steps = one_step sight to_measure (measured size) old mid look;
-    faults = calm_one (sight.faults old) (sight.faults mid) (is_disk_fault (measured size)) refl (λ is. cc) look.faults;
+    faults = calm_one (sight.faults old) (sight.faults mid) (is_disk_fault (measured size)) refl (λ is. cc) look.keeps.faults;
   }
 
   module _ (above : bytes < size) (new : S) where
@@ -62,8 +63,8 @@ module _ {S : Type 0} (sight : Sight S) (old mid : S) (size bytes : ℕ) (look :
       abbrev made : Call
       made = call_of sight to_sync answer mid new batch
 
-      steps_both : MakesSteps sight (looked ∷ (made ∷ [])) old new
-      steps_both = both sight (looked ∷ []) (made ∷ []) old mid new (one_step sight to_measure (measured size) old mid look) (one_step sight to_sync answer mid new batch)
+      steps_both : AreMade sight (looked ∷ (made ∷ [])) old new
+      steps_both = (mid, (look, refl), one_step sight to_sync answer mid new batch)
 
     -- a batch was made, and more may follow
     pub more : (through commits : ℕ) → Steps sight to_sync (flushed through commits) mid new → MakesRound sight None old new
@@ -79,7 +80,7 @@ module _ {S : Type 0} (sight : Sight S) (old mid : S) (size bytes : ℕ) (look :
         ),
       );
       steps = steps_both (flushed through commits) batch;
-      faults = calm_both (sight.faults old) (sight.faults mid) (sight.faults new) (is_disk_fault (measured size)) (is_disk_fault (flushed through commits)) refl refl (λ is. cc) look.faults batch.faults;
+      faults = calm_both (sight.faults old) (sight.faults mid) (sight.faults new) (is_disk_fault (measured size)) (is_disk_fault (flushed through commits)) refl refl (λ is. cc) look.keeps.faults batch.keeps.faults;
     }
 
     -- the last batch, which flushed nothing
@@ -105,7 +106,7 @@ module _ {S : Type 0} (sight : Sight S) (old mid : S) (size bytes : ℕ) (look :
       last_calm : is_disk_fault answer ≡ false → (◌≡◌ {A = Option Health} (Some met) (Some Failed) → ⊥)
           → ((most : ℕ) → unless_refused answer (AreBatches (sight.settings old).cache_bytes most) []) → MakesRound sight (Some met) old new
       last_calm no_fault calm ended =
-          as_last ended (calm_both (sight.faults old) (sight.faults mid) (sight.faults new) (is_disk_fault (measured size)) (is_disk_fault answer) refl no_fault calm look.faults batch.faults)
+          as_last ended (calm_both (sight.faults old) (sight.faults mid) (sight.faults new) (is_disk_fault (measured size)) (is_disk_fault answer) refl no_fault calm look.keeps.faults batch.keeps.faults)
 
     -- all was flushed
     pub last_of_all : (commits : ℕ) → Steps sight to_sync (all_flushed commits) mid new → MakesRound sight (Some Sound) old new
@@ -126,9 +127,9 @@ module _ {S : Type 0} (sight : Sight S) (old mid : S) (size bytes : ℕ) (look :
     -- the index device failed
     pub fails : (faults : ℕ) → Steps sight to_sync (disk_fault faults) mid new → MakesRound sight (Some Failed) old new
     fails faults batch = as_last (disk_fault faults) batch Failed refl (λ most. refl) (record {
-      rose = λ is. subst (λ (n : ℕ). Rose n (sight.faults new)) (look.faults.calm (λ e. false≢true e)) (batch.faults.rose refl);
+      rose = λ is. subst (λ (n : ℕ). Rose n (sight.faults new)) (look.keeps.faults.calm (λ e. false≢true e)) (batch.keeps.faults.rose refl);
       calm = λ no. absurd (no refl);
-      never_falls = let a = look.faults.never_falls in let b = batch.faults.never_falls in omega arith;
+      never_falls = let a = look.keeps.faults.never_falls in let b = batch.keeps.faults.never_falls in omega arith;
     })
 
 -- ---- rounds one after another
@@ -142,17 +143,17 @@ module _ {S : Type 0} (sight : Sight S) (most : ℕ) (old : S) where
   -- so far each round made a batch, and so many more may follow
   pub record AreRounds (left : ℕ) (now : S) : Type 0 where
     pub calls : List Call
-    pub steps : MakesSteps sight calls old now
+    pub steps : AreMade sight calls old now
     pub sound : health_of_steps calls ≡ Sound
     pub calm : sight.faults now ≡ sight.faults old
     pub leads : (rest : List Call) → AreBatches (sight.settings old).cache_bytes left rest → AreBatches (sight.settings old).cache_bytes most (calls ++ rest)
 
   pub begun : AreRounds most old
-  begun = record { calls = []; steps = no_steps sight old; sound = refl; calm = refl; leads = λ rest are. are }
+  begun = record { calls = []; steps = refl; sound = refl; calm = refl; leads = λ rest are. are }
 
   module _ (left : ℕ) (now : S) (so_far : AreRounds (suc left) now) (new : S) where
     same_limit : (sight.settings now).cache_bytes ≡ (sight.settings old).cache_bytes
-    same_limit = ap (λ s. s.cache_bytes) so_far.steps.settings
+    same_limit = ap (λ s. s.cache_bytes) (made_keeps sight so_far.calls old now so_far.steps).settings
 
     met_both : (met : Health) (calls : List Call) → health_of_steps calls ≡ met → health_of_steps (so_far.calls ++ calls) ≡ met
     met_both met calls is = health_both so_far.calls calls ∙ ap (λ (h : Health). worse h (health_of_steps calls)) so_far.sound ∙ is
@@ -161,7 +162,7 @@ module _ {S : Type 0} (sight : Sight S) (most : ℕ) (old : S) where
     pub one_round_more : MakesRound sight None now new → AreRounds left new
     one_round_more round = record {
       calls = so_far.calls ++ round.calls;
-      steps = both sight so_far.calls round.calls old now new so_far.steps round.steps;
+      steps = made_append sight so_far.calls round.calls old now new so_far.steps round.steps;
       sound = met_both Sound round.calls round.is.0;
       calm = round.faults.calm (λ is. cc) ∙ so_far.calm;
       leads = λ rest are.
@@ -176,7 +177,7 @@ module _ {S : Type 0} (sight : Sight S) (most : ℕ) (old : S) where
     the_last_round met round = record {
       calls = so_far.calls ++ round.calls;
       are = so_far.leads round.calls (subst (λ (bytes : ℕ). AreBatches bytes (suc left) round.calls) same_limit (round.is.1 left));
-      steps = both sight so_far.calls round.calls old now new so_far.steps round.steps;
+      steps = made_append sight so_far.calls round.calls old now new so_far.steps round.steps;
       met_is = met_both met round.calls round.is.0;
       faults = record {
         rose = λ is. subst (λ (n : ℕ). Rose n (sight.faults new)) so_far.calm (round.faults.rose (ap Some is));

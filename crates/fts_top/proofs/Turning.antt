@@ -16,7 +16,6 @@ use Rattle.fts_top.specs.Sessions.{IsOf, Met, open_in, leaving, Speaks, Serves}
 use Rattle.fts_top.specs.Batches.{MakesBatches}
 use Rattle.fts_top.specs.Ends.{halt_of_unsent}
 use Rattle.fts_top.specs.Run.{Sides, OneLine, Sends, IsLeft}
-use Rattle.fts_top.proofs.Making.{no_steps}
 
 module _ {S : Type 0} (sight : Sight S) where
   -- a line that makes no step
@@ -25,13 +24,7 @@ module _ {S : Type 0} (sight : Sight S) where
   no_step line sessions left here reply calm says = record {
     calls = [];
     says = says;
-    alone = λ e. tt;
-    follows = λ running stands. tt;
-    stands = λ running stands. stands;
-    crash = λ e told running sure stands. inl refl;
-    index = λ e told running sure stands. inl refl;
-    settings = refl;
-    limits = refl;
+    made = refl;
     faults = record { rose = λ is. absurd (calm is); calm = λ no. refl; never_falls = omega arith };
   }
 
@@ -51,13 +44,7 @@ module _ {S : Type 0} (sight : Sight S) where
   executed line number sessions left transaction old new reply of executes leaves = record {
     calls = executes.calls;
     says = (Some number, of, (transaction, executes.says, leaves));
-    alone = executes.alone;
-    follows = executes.follows;
-    stands = executes.stands;
-    crash = executes.crash;
-    index = executes.index;
-    settings = executes.settings;
-    limits = executes.limits;
+    made = executes.made;
     faults = executes.faults;
   }
 
@@ -66,7 +53,7 @@ module _ {S : Type 0} (sight : Sight S) where
   no_batches here = record {
     calls = [];
     are = refl;
-    steps = no_steps sight here;
+    steps = refl;
     met_is = refl;
     faults = record { rose = λ is. absurd cc; calm = λ no. refl; never_falls = omega arith };
   }

@@ -1,34 +1,18 @@
 -- Batches that a run makes behind a reply.
-use Rattle.std.specs.Prelude.{◌≡◌, ℕ, suc, false, List, ◌++◌, Option, Some, None, IsTrue}
+use Rattle.std.specs.Prelude.{◌≡◌, ℕ, suc, List, ◌++◌, Option, Some, None}
 use Rattle.fts_faults.specs.Count.{CountsFault}
 use Rattle.fts_schema.specs.declared.reply.Reply.{Reply}
-use Rattle.fts_steps.specs.Running.{Running, IsSure}
-use Rattle.fts_steps.specs.Crash.{IsBetween, IsIndexBetween}
-use Rattle.fts_steps.specs.Step.{Call, Sight, Leaves, AreAlone, Follows, after_all}
+use Rattle.fts_steps.specs.Step.{Call, Sight, AreMade}
 use Rattle.fts_top.specs.declared.ends.Health.{Health}
 use Rattle.fts_top.specs.declared.ends.Health.TheVariants.{Sound, Failed}
 use Rattle.fts_top.specs.Health.{health_of, health_of_steps, worse}
 use Rattle.fts_top.specs.Talk.{AreBatches, committed_by}
 
--- steps that were made one after another: on each engine for which they stood they answered as they may, and stand then
--- for what these made of it; where there are no others, a crash at any moment leaves of each log what was before them
--- and a front of what they added
-pub record MakesSteps {S : Type 0} (sight : Sight S) (calls : List Call) (old new : S) : Type 0 where
-  pub alone : sight.is_shared ≡ false → AreAlone calls
-  pub follows : (running : Running) → sight.stands running old → Follows (sight.limits old) running calls
-  pub stands : (running : Running) → sight.stands running old → sight.stands (after_all running calls) new
-  pub crash : sight.is_shared ≡ false → IsTrue sight.rows.disk.tells → (running : Running) → IsSure running
-      → sight.stands running old → Leaves sight.rows (IsBetween running (after_all running calls)) old new
-  pub index : sight.is_shared ≡ false → IsTrue sight.index.disk.tells → (running : Running) → IsSure running
-      → sight.stands running old → Leaves sight.index (IsIndexBetween running (after_all running calls)) old new
-  pub settings : sight.settings new ≡ sight.settings old
-  pub limits : sight.limits new ≡ sight.limits old
-
 -- at most so many batches were made, while the cache was too large, and met this
 pub record MakesBatches {S : Type 0} (sight : Sight S) (most : ℕ) (met : Health) (old new : S) : Type 0 where
   pub calls : List Call
   pub are : AreBatches (sight.settings old).cache_bytes most calls
-  pub steps : MakesSteps sight calls old new
+  pub steps : AreMade sight calls old new
   pub met_is : health_of_steps calls ≡ met
   pub faults : CountsFault (met ≡ Failed) (sight.faults old) (sight.faults new)
 
@@ -42,7 +26,7 @@ IsRound bytes (Some met) calls =
 pub record MakesRound {S : Type 0} (sight : Sight S) (end : Option Health) (old new : S) : Type 0 where
   pub calls : List Call
   pub is : IsRound (sight.settings old).cache_bytes end calls
-  pub steps : MakesSteps sight calls old new
+  pub steps : AreMade sight calls old new
   pub faults : CountsFault (end ≡ Some Failed) (sight.faults old) (sight.faults new)
 
 -- the batches that follow a reply were made, and this is the worse of what its line met and what they did

@@ -2,7 +2,7 @@
 use Rattle.std.specs.Prelude.{◌≡◌, ◌⊎◌, ℕ, [], IsTrue, Result, Ok, Err, IsOk}
 use Rattle.fts_faults.specs.Count.{CountsFault}
 use Rattle.fts_types.specs.Limits.{standard_limits}
-use Rattle.fts_steps.specs.State.{State, IsRight}
+use Rattle.fts_steps.specs.State.{State}
 use Rattle.fts_steps.specs.Running.{opened}
 use Rattle.fts_engine.specs.declared.error.OpenError.{OpenError}
 use Rattle.fts_top.specs.declared.ends.Health.{Health}
@@ -13,14 +13,15 @@ use Rattle.fts_top.specs.declared.status.Status.{Status}
 use Rattle.fts_top.specs.declared.status.Status.TheVariants as status
 use Rattle.fts_top.specs.Ends.{status_of_opening}
 use Rattle.fts_top.specs.Generate.{script_of, Generates}
-use Rattle.fts_top.specs.Once.{SinkSeen, Devices, Disks, DisksTell, DisksHold, disk_faults, device_sight, Unopened}
+use Rattle.fts_engine.specs.Devices.{Devices, Disks, DisksTell, disk_faults, device_sight}
+use Rattle.fts_top.specs.Once.{SinkSeen, DisksHold, Unopened}
 use Rattle.fts_top.specs.Run.{sides}
 
 -- the script of a number was executed on the database that the opening found, and ended so
 pub record Generated {D E : Type 0} (disks : Disks D E) (seed statements : ℕ) (end : Result Health Unsent)
     (sink sink' : SinkSeen) (before after : Devices D E) : Type 0 where
   pub found : DisksTell disks → (state : State) × DisksHold disks state before
-  pub outcome : IsTrue sink.tells → DisksTell disks → (start : State) → DisksHold disks start before → IsRight start
+  pub outcome : IsTrue sink.tells → DisksTell disks → (start : State) → DisksHold disks start before
       → Generates (device_sight disks start.settings standard_limits) end statements (opened start)
       (script_of start.settings seed statements) (sides [] sink.held before) (sides [] sink'.held after)
   pub fault : IsOk end → CountsFault (end ≡ Ok Failed) (disk_faults disks before) (disk_faults disks after)

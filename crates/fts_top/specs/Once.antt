@@ -1,9 +1,8 @@
-use Rattle.std.specs.Prelude.{◌≡◌, ◌⊎◌, ◌≤◌, ◌+◌, ◌^◌, Bool, false, ℕ, List, ◌∷◌, [], ◌++◌, length, take, codes, IsTrue}
+use Rattle.std.specs.Prelude.{◌≡◌, ◌⊎◌, ◌≤◌, ◌^◌, Bool, ℕ, List, ◌∷◌, [], ◌++◌, length, take, codes, IsTrue}
 use Rattle.fts_io.specs.Text.{Line, lines_of}
 use Rattle.fts_top.specs.Sessions.{AreOf, IsCrowded}
 use Rattle.fts_steps.specs.State.{State, IsDatabase, IsRight, IsCreated, created_with}
 use Rattle.fts_steps.specs.Running.{opened}
-use Rattle.fts_steps.specs.Step.{Sight}
 use Rattle.fts_types.specs.declared.limits.Limits.{Limits}
 use Rattle.fts_types.specs.declared.settings.Settings.{Settings}
 use Rattle.fts_faults.specs.Count.{CountsFault, Rose}
@@ -16,7 +15,7 @@ use Rattle.fts_engine.specs.declared.error.OpenError.{OpenError}
 use Rattle.fts_engine.specs.declared.error.OpenError.TheVariants as opening
 use Rattle.fts_engine.specs.declared.error.Device.TheVariants.{Rows, Index}
 use Rattle.fts_engine.specs.Opening.{IsDamaged, IsIndexDamaged}
-use Rattle.fts_engine.specs.Stands.{OnRows, OnIndex}
+use Rattle.fts_engine.specs.Devices.{Devices, devices_of, Disks, disk_faults, DisksTell, device_sight}
 use Rattle.fts_args.specs.Asked.{Asks}
 use Rattle.fts_args.specs.declared.command.Command.TheVariants.{Create, Run, Gen}
 use Rattle.fts_top.specs.declared.status.Status.{Status}
@@ -41,11 +40,6 @@ pub record SinkSeen : Type 0 where
   pub held : List ℕ
   pub faults : ℕ
 
--- the two devices at one time
-pub record Devices (D E : Type 0) : Type 0 where
-  pub rows : D
-  pub index : E
-
 -- the outside at one time
 pub record Outside (D E : Type 0) : Type 0 where
   pub source : SourceSeen
@@ -58,9 +52,6 @@ source_seen ghosts input = record { tells = ghosts.tells; left = ghosts.left inp
 abbrev pub sink_seen : {O : Type 0} → sink.Ghosts O → O → SinkSeen
 sink_seen ghosts out = record { tells = ghosts.tells; held = ghosts.holds out; faults = ghosts.faults out }
 
-abbrev pub devices_of : {D E : Type 0} → D → E → Devices D E
-devices_of rows index = record { rows = rows; index = index }
-
 abbrev pub outside : {I O D E : Type 0} → source.Ghosts I → sink.Ghosts O → I → O → D → E → Outside D E
 outside source sink input out rows index = record {
   source = source_seen source input;
@@ -72,22 +63,6 @@ outside source sink input out rows index = record {
 abbrev pub file_of : {D : Type 0} → disk.Ghosts D → D → List ℕ
 file_of ghosts device = ghosts.seen device 0
 
--- what contracts see of the two devices
-pub record Disks (D E : Type 0) : Type 1 where
-  pub rows : disk.Ghosts D
-  pub index : disk.Ghosts E
-
-abbrev pub disks_of : {D E : Type 0} → disk.Ghosts D → disk.Ghosts E → Disks D E
-disks_of rows index = record { rows = rows; index = index }
-
--- how many faults the two devices had together
-abbrev pub disk_faults : {D E : Type 0} → Disks D E → Devices D E → ℕ
-disk_faults disks here = disks.rows.faults here.rows + disks.index.faults here.index
-
--- both devices tell what they hold
-abbrev pub DisksTell : {D E : Type 0} → Disks D E → Type 0
-DisksTell disks = IsTrue disks.rows.tells × IsTrue disks.index.tells
-
 -- the two logs are those of the database
 abbrev pub DisksHold : {D E : Type 0} → Disks D E → State → Devices D E → Type 0
 DisksHold disks state here = IsDatabase state (file_of disks.rows here.rows) (file_of disks.index here.index)
@@ -96,27 +71,12 @@ DisksHold disks state here = IsDatabase state (file_of disks.rows here.rows) (fi
 abbrev pub seen_from : {D E : Type 0} → Outside D E → Sides (Devices D E)
 seen_from here = record { left = here.source.left; held = here.sink.held; steps = here.devices }
 
--- the steps of a run, seen by the devices alone: they have the two logs of the database, whose index is right
-abbrev pub device_sight : {D E : Type 0} → Disks D E → Settings → Limits → Sight (Devices D E)
-device_sight {D} {E} disks settings limits = record {
-  is_shared = false;
-  settings = λ devices. settings;
-  limits = λ devices. limits;
-  faults = disk_faults disks;
-  stands = λ running here. IsRight running.state × OnRows disks.rows running here.rows
-      × OnIndex disks.index running here.index;
-  rows = record { Device = D; disk = disks.rows; device = λ here. here.rows };
-  index = record { Device = E; disk = disks.index; device = λ here. here.index };
-}
-
--- a script was executed on the database that the opening found, and ended so. What it did is told where the index was
--- right before it, as `create` leaves it and each step keeps it: else its entries may be those of other words, and a
--- search need not find what a scan does
+-- a script was executed on the database that the opening found, and ended so
 pub record Executed {D E : Type 0} (disks : Disks D E) (limits : Limits) (end : RunEnd) (before after : Outside D E)
     : Type 0 where
   pub found : DisksTell disks → (state : State) × DisksHold disks state before.devices
   pub outcome : IsTrue before.source.tells → IsTrue before.sink.tells → DisksTell disks
-      → (start : State) → DisksHold disks start before.devices → IsRight start
+      → (start : State) → DisksHold disks start before.devices
       → Outcome (device_sight disks start.settings limits) end (opened start) (lines_of before.source.left)
       (seen_from before) (seen_from after)
   pub whole : IsRead end → IsTrue before.source.tells → length before.source.left ≤ 2 ^ 40

@@ -1,14 +1,11 @@
 use Rattle.std.specs.Prelude.{◌≡◌, ◌⊎◌, ◌<◌, ◌≤◌, ◌+◌, ◌^◌, ℕ, Bool, true, false, List, [], ◌∷◌, ◌++◌, length, take}
-use Rattle.std.specs.Prelude.{IsTrue, Result, Ok, Err, Some}
-use Rattle.fts_faults.specs.Count.{CountsFault}
+use Rattle.std.specs.Prelude.{Result, Ok, Err, Some}
 use Rattle.fts_io.specs.Text.{Line}
 use Rattle.fts_io.specs.Reading.{OnlyBegun, lines_from}
 use Rattle.fts_schema.specs.declared.reply.Reply.{Reply}
 use Rattle.fts_schema.specs.Reply.{text_of, is_fixed}
-use Rattle.fts_steps.specs.Running.{Running, IsSure}
-use Rattle.fts_disk.specs.Crash.{Images}
-use Rattle.fts_steps.specs.Crash.{IsBetween, IsIndexBetween}
-use Rattle.fts_steps.specs.Step.{Call, Sight, Leaves, AreAlone, Follows, after_all}
+use Rattle.fts_steps.specs.Running.{Running}
+use Rattle.fts_steps.specs.Step.{Call, Sight, Runs}
 use Rattle.fts_top.specs.Sessions.{IsOf, Met, is_met, Serves}
 use Rattle.fts_top.specs.declared.ends.Health.{Health}
 use Rattle.fts_top.specs.declared.ends.Health.TheVariants as health
@@ -36,20 +33,9 @@ pub record Stays {S : Type 0} (before after : Sides S) : Type 0 where
   pub unwritten : after.held ≡ before.held
   pub unmade : after.steps ≡ before.steps
 
--- what a crash could leave of the rows log before, or that log with a front of what was added
-abbrev pub MayCrash : {S : Type 0} → Sight S → Running → Running → S → Images
-MayCrash sight start now before c = sight.rows.disk.images (sight.rows.device before) c ⊎ IsBetween start now c
-
--- what a crash could leave of the index log before, or that log with a front of what was added
-abbrev pub MayCrashIndex : {S : Type 0} → Sight S → Running → Running → S → Images
-MayCrashIndex sight start now before c =
-    sight.index.disk.images (sight.index.device before) c ⊎ IsIndexBetween start now c
-
 -- the lines from the front of the script that were executed, which are those of 16 sessions at most, what is ahead, and
--- the text that was written; `sent` says that the last reply was sent, and the batches behind it were made. While no
--- line met a fault, commits are taken; a fault was counted exactly where one met it. A crash at any moment leaves of
--- each log what it could leave before, or the log with a front of what was added: the commits, and the entries of
--- batches
+-- the text that was written; `sent` says that the last reply was sent, and the batches behind it were made. All steps
+-- of the lines and of the batches are one run from the start
 pub record Front {S : Type 0} (sight : Sight S) (start : Running) (sent : Bool) (script ahead : List Line)
     (before after : Sides S) : Type 0 where
   pub lines : List Line
@@ -62,17 +48,7 @@ pub record Front {S : Type 0} (sight : Sight S) (start : Running) (sent : Bool) 
   pub written : after.held ≡ before.held ++ text
   pub talks : Talks (sight.settings before.steps) sent [] lines calls replies met sessions
   pub few : length sessions ≤ 16
-  pub alone : sight.is_shared ≡ false → AreAlone calls
-  pub follows : Follows (sight.limits before.steps) start calls
-  pub settings : sight.settings after.steps ≡ sight.settings before.steps
-  pub limits : sight.limits after.steps ≡ sight.limits before.steps
-  pub stands : sight.stands (after_all start calls) after.steps
-  pub going : sight.is_shared ≡ false → (met ≡ health.Failed → ⊥) → (after_all start calls).stopped ≡ start.stopped
-  pub counted : CountsFault (met ≡ health.Failed) (sight.faults before.steps) (sight.faults after.steps)
-  pub crash : sight.is_shared ≡ false → IsTrue sight.rows.disk.tells → IsSure start
-      → Leaves sight.rows (MayCrash sight start (after_all start calls) before.steps) before.steps after.steps
-  pub index : sight.is_shared ≡ false → IsTrue sight.index.disk.tells → IsSure start
-      → Leaves sight.index (MayCrashIndex sight start (after_all start calls) before.steps) before.steps after.steps
+  pub runs : Runs sight start calls before.steps after.steps
 
 -- each reply was written, to the end
 abbrev pub IsWhole : List Reply → List ℕ → Type 0

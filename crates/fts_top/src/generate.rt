@@ -10,7 +10,8 @@ ghost use Rattle.fts_schema.specs.Summary.{summary_text};
 ghost use Rattle.fts_top.specs.Generate.{as_lines, script_of, IsPlayed, PlaysLine, Generates};
 ghost use Rattle.fts_top.specs.Generate.{IsSummary, Writes};
 ghost use Rattle.fts_top.specs.Generated.{Generated};
-ghost use Rattle.fts_top.specs.Once.{devices_of, disks_of, sink_seen, Unopened};
+ghost use Rattle.fts_engine.specs.Devices.{devices_of, disks_of};
+ghost use Rattle.fts_top.specs.Once.{sink_seen, Unopened};
 ghost use Rattle.fts_top.specs.Run.{sides};
 
 use crate::batches::met_behind;

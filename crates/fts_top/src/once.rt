@@ -8,7 +8,8 @@ ghost use Rattle.fts_args.specs.Asked.{AskNothing, Asks};
 ghost use Rattle.fts_args.specs.declared.command.Command.{Command};
 ghost use Rattle.fts_engine.specs.Bounds.{AreWithin};
 ghost use Rattle.fts_top.specs.Generated.{GenEnds};
-ghost use Rattle.fts_top.specs.Once.{outside, devices_of, disks_of, sink_seen, CreateEnds, Creates};
+ghost use Rattle.fts_engine.specs.Devices.{devices_of, disks_of};
+ghost use Rattle.fts_top.specs.Once.{outside, sink_seen, CreateEnds, Creates};
 ghost use Rattle.fts_top.specs.Once.{Executed, RunEnds, Unopened};
 ghost use Rattle.fts_top.specs.Once.{CountsFaults, NoneRose, CanFinish, Finishes};
 

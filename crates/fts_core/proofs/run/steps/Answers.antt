@@ -3,8 +3,8 @@ use Rattle.std.specs.Prelude.{is_ok}
 use Rattle.fts_core.specs.declared.event.Event.{Event}
 use Rattle.fts_core.specs.declared.event.Outcome.{Outcome}
 use Rattle.fts_core.proofs.Running.{LeadsTo, no_rest, pushed, goes_on, ends}
-use Rattle.fts_core.proofs.Laws.{always, view_turned, opening_turned, index_turned}
-use Rattle.fts_core.specs.Headline.{ViewsTellAcknowledged, OpeningsFindAcknowledged, IndexesAreRight}
+use Rattle.fts_core.proofs.Laws.{always, promises}
+use Rattle.fts_core.specs.Headline.{KeepsPromises}
 use Rattle.fts_core.proofs.run.steps.Goals as goal
 
 pub loop-event-preserved : goal.loop-event-preserved
@@ -25,20 +25,9 @@ loop-event-preserved g c =
           (c.step-next.ensures told told'));
     }
 
-pub returns-clause-each : goal.returns-clause-each
-returns-clause-each g c told told' =
-    ends c.args.world c.args.events.items c.loop-event.world c.loop-event.outcomes.items
+pub returns-clause-headline : goal.returns-clause-headline
+returns-clause-headline g c told told' core fits =
+    always KeepsPromises promises core c.args.world c.loop-event.world c.args.events.items c.loop-event.outcomes.items fits
+    (ends c.args.world c.args.events.items c.loop-event.world c.loop-event.outcomes.items
     (subst (λ (all : List (Event _ _)). LeadsTo c.args.world c.args.events.items c.loop-event.world all c.loop-event.outcomes.items)
-    (no_rest c.loop-event.event-iterator.rest.items (omega (arith, c.in-None.ensures.steps.0, c.loop-event.event-iterator.rest.ok.0))) (c.loop-event.invariant.leads told told'))
-
-pub returns-clause-views : goal.returns-clause-views
-returns-clause-views g c told told' core fits =
-    always ViewsTellAcknowledged view_turned core c.args.world c.loop-event.world c.args.events.items c.loop-event.outcomes.items fits (returns-clause-each g c told told')
-
-pub returns-clause-openings : goal.returns-clause-openings
-returns-clause-openings g c told told' core fits =
-    always OpeningsFindAcknowledged opening_turned core c.args.world c.loop-event.world c.args.events.items c.loop-event.outcomes.items fits (returns-clause-each g c told told')
-
-pub returns-clause-indexes : goal.returns-clause-indexes
-returns-clause-indexes g c told told' core fits =
-    always IndexesAreRight index_turned core c.args.world c.loop-event.world c.args.events.items c.loop-event.outcomes.items fits (returns-clause-each g c told told')
+    (no_rest c.loop-event.event-iterator.rest.items (omega (arith, c.in-None.ensures.steps.0, c.loop-event.event-iterator.rest.ok.0))) (c.loop-event.invariant.leads told told')))

@@ -24,8 +24,8 @@ returns-in-Some-Ok-clause-goes g c =
 pub returns-in-Some-Err-clause-goes : goal.returns-in-Some-Err-clause-goes
 returns-in-Some-Err-clause-goes g c =
     let sight = g.S.EngineSteps.sight in
-    begin_refused sight (sight.settings c.args.steps.now) c.args.transaction.now c.args.steps.now c.commit_changes.new.steps c.in-Some-Err.error c.told.result
+    begin_refused sight (sight.settings c.args.steps.now) c.args.transaction.now c.args.steps.now c.commit_changes.new.steps c.in-Some-Err.error c.refuse.result
     c.in-Some-Err.ensures.some.0
     (subst (λ (made : Result ℕ CommitError). Steps sight (to_commit (changes_in c.args.transaction.now)) (commit_answer_of made) c.args.steps.now c.commit_changes.new.steps)
     c.in-Some-Err.field-0-is c.in-Some-Err.ensures.some.1)
-    c.told.ensures.told
+    c.refuse.ensures.told

@@ -2,7 +2,7 @@ use Rattle.std.proofs.Common.{◌≡◌, ◌+◌, [], ℕ, refl, ap, subst, sym,
 use Rattle.std.specs.Prelude.{Ok}
 use Rattle.fts_faults.specs.Count.{CountsFault}
 use Rattle.fts_types.specs.Limits.{standard_limits}
-use Rattle.fts_steps.specs.State.{State, IsRight}
+use Rattle.fts_steps.specs.State.{State}
 use Rattle.fts_steps.specs.Running.{opened}
 use Rattle.fts_engine.specs.Stands.{engine_faults, rows_device, index_device}
 use Rattle.fts_engine.proofs.Single.{one_database}
@@ -10,9 +10,9 @@ use Rattle.fts_sessions.specs.Direct.{direct_sight}
 use Rattle.fts_top.specs.declared.ends.Health.TheVariants.{Failed}
 use Rattle.fts_top.specs.Generate.{script_of, Generates}
 use Rattle.fts_top.specs.Run.{sides}
-use Rattle.fts_top.specs.Once.{devices_of, disks_of, disk_faults, device_sight}
+use Rattle.fts_engine.specs.Devices.{devices_of, disks_of, disk_faults, device_sight}
 use Rattle.fts_top.proofs.Filing.{generates_on}
-use Rattle.fts_top.proofs.Opening.{is_why, database_read, stands_right}
+use Rattle.fts_top.proofs.Opening.{is_why, database_read}
 use Rattle.fts_top.proofs.Playing.{counted_end}
 use Rattle.fts_top.proofs.generate.gen_script.Goals as goal
 
@@ -30,22 +30,21 @@ returns-in-Ok-clause-generated g c =
             database_read _ (c.in-Ok.ensures.looks_rows tells.0).seen (c.in-Ok.ensures.looks_index tells.1).seen
                 ((holds.on_rows tells.0).reads refl) ((holds.on_index tells.1).reads refl),
           );
-      outcome = λ tells_out tells start database right.
+      outcome = λ tells_out tells start database.
           let state = (c.in-Ok.ensures.opened tells.0 tells.1).0 in
           let holds = (c.in-Ok.ensures.opened tells.0 tells.1).1 in
           let same = one_database start state (g.D.Disk.seen c.args.rows 0) (g.E.Disk.seen c.args.index 0) database
           (database_read state (c.in-Ok.ensures.looks_rows tells.0).seen (c.in-Ok.ensures.looks_index tells.1).seen
           ((holds.on_rows tells.0).reads refl) ((holds.on_index tells.1).reads refl)) in
-          let stands = stands_right state c.in-Ok.engine holds (subst IsRight same right) in
           let script = script_of state.settings c.args.seed c.args.count in
           let generates = subst (λ (s : _). Generates direct_sight c.generate-end.result c.args.count (opened state) (script_of s c.args.seed c.args.count)
           (sides [] held (record { engine = c.in-Ok.engine })) (sides [] held' c.generate-end.new.steps)) (sym holds.has.keeps.settings)
-          (c.generate-end.ensures.generates tells_out (opened state) stands) in
+          (c.generate-end.ensures.generates tells_out (opened state) holds) in
           let outcome = generates_on direct_sight refl state.settings standard_limits
-          (λ running s stood. (stood.right, stood.holds.on_rows tells.0, stood.holds.on_index tells.1))
+          (λ running s stood. (stood.on_rows tells.0, stood.on_index tells.1))
           (opened state) script (sides [] held (record { engine = c.in-Ok.engine })) (sides [] held' c.generate-end.new.steps) first
           (record { rows = (c.in-Ok.ensures.looks_rows tells.0).crash; index = (c.in-Ok.ensures.looks_index tells.1).crash })
-          (sym holds.has.keeps.settings) (c.in-Ok.ensures.limits ∙ c.standard.ensures) (c.in-Ok.ensures.faults.calm (λ no. no)) refl c.generate-end.result c.args.count generates in
+          (sym holds.has.keeps.settings) (c.in-Ok.ensures.limits ∙ c.standard.ensures) (c.in-Ok.ensures.faults.calm (λ no. no)) (λ s. refl) c.generate-end.result c.args.count generates in
           let closed = subst (λ (d : _). Generates (device_sight both state.settings standard_limits) c.generate-end.result c.args.count (opened state) script
           (sides [] held first) (sides [] held' (devices_of d (index_device c.generate-end.new.steps.engine)))) (sym c.close-rows.ensures.rows) outcome in
           let closed' = subst (λ (e : _). Generates (device_sight both state.settings standard_limits) c.generate-end.result c.args.count (opened state) script

@@ -9,6 +9,7 @@ use Rattle.fts_steps.specs.Step.{after_all}
 use Rattle.fts_types.specs.declared.settings.Settings.{Settings}
 use Rattle.fts_top.specs.Generate.{as_lines, script_of, IsPlayed, Plays}
 use Rattle.fts_top.specs.Run.{sides}
+use Rattle.fts_top.proofs.Making.{run_stands}
 use Rattle.fts_top.proofs.Fronts.{nothing_yet}
 use Rattle.fts_top.proofs.Playing.{breaks, tells, untold, comes_to}
 use Rattle.fts_top.proofs.generate.generate.Goals as goal
@@ -35,7 +36,8 @@ returns-in-Ok-write_summary-clause-generates g c told start stands =
     × AreSums plays.front.replies c.in-Ok-play.played.sums) same (c.in-Ok-play.ensures.plays start stands) in
     let plays = played.0 in
     let summary = c.summary_of-summary.result in
-    let comes = comes_to c.play.new.steps.engine c.args.count (after_all start plays.front.calls) plays.front.replies c.in-Ok-play.played.sums summary plays.front.stands
+    let comes = comes_to c.play.new.steps.engine c.args.count (after_all start plays.front.calls) plays.front.replies c.in-Ok-play.played.sums summary
+    (run_stands direct_sight start plays.front.calls c.args.steps.now c.play.new.steps plays.front.runs)
     c.summary_of-summary.ensures played.2 in (
       tells direct_sight start script c.args.count (λ text all. text ≡ all) (summary_text summary) (g.O.Sink.holds c.args.out.now) (g.O.Sink.holds c.write_summary.new.out) summary
           c.args.steps.now c.play.new.steps plays comes (c.in-Ok-write_summary.ensures.writes told) refl,
@@ -50,7 +52,8 @@ returns-clause-generates g c told start stands =
     × AreSums plays.front.replies c.in-Ok-play.played.sums) same (c.in-Ok-play.ensures.plays start stands) in
     let plays = played.0 in
     let summary = c.summary_of-summary.result in
-    let comes = comes_to c.play.new.steps.engine c.args.count (after_all start plays.front.calls) plays.front.replies c.in-Ok-play.played.sums summary plays.front.stands
+    let comes = comes_to c.play.new.steps.engine c.args.count (after_all start plays.front.calls) plays.front.replies c.in-Ok-play.played.sums summary
+    (run_stands direct_sight start plays.front.calls c.args.steps.now c.play.new.steps plays.front.runs)
     c.summary_of-summary.ensures played.2 in
     untold direct_sight start script c.in-Err-write_summary.unsent c.args.count (g.O.Sink.holds c.args.out.now) (g.O.Sink.holds c.write_summary.new.out) summary
     c.args.steps.now c.play.new.steps plays comes (c.in-Err-write_summary.ensures.writes told)

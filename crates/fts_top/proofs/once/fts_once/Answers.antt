@@ -6,7 +6,8 @@ use Rattle.fts_args.proofs.One.{asks_one}
 use Rattle.fts_args.specs.declared.command.Command.TheVariants.{Create, Run, Gen}
 use Rattle.fts_top.specs.declared.ends.CreateEnd.TheVariants.{NoMemory}
 use Rattle.fts_top.specs.declared.status.Status.{Status}
-use Rattle.fts_top.specs.Once.{Creates, Finishes, sink_seen, devices_of, disks_of}
+use Rattle.fts_engine.specs.Devices.{devices_of, disks_of}
+use Rattle.fts_top.specs.Once.{Creates, Finishes, sink_seen}
 use Rattle.fts_top.specs.Health.{IsRead}
 use Rattle.fts_io.specs.Text.{lines_of}
 use Rattle.fts_top.proofs.Counting.{not_crowded}

@@ -1,16 +1,16 @@
 use Rattle.std.proofs.Common.{◌≡◌, ◌+◌, ℕ, refl, ap, subst, sym, ◌∙◌}
 use Rattle.fts_faults.specs.Count.{CountsFault}
 use Rattle.fts_io.specs.Text.{lines_of}
-use Rattle.fts_steps.specs.State.{State, IsRight}
+use Rattle.fts_steps.specs.State.{State}
 use Rattle.fts_steps.specs.Running.{opened}
 use Rattle.fts_engine.specs.Stands.{engine_faults, rows_device, index_device}
 use Rattle.fts_engine.proofs.Single.{one_database}
 use Rattle.fts_sessions.specs.Direct.{direct_sight}
 use Rattle.fts_top.specs.declared.ends.RunEnd.TheVariants.{DiskFault}
 use Rattle.fts_top.specs.Run.{Outcome, sides}
-use Rattle.fts_top.specs.Once.{devices_of, disks_of, disk_faults, device_sight}
+use Rattle.fts_engine.specs.Devices.{devices_of, disks_of, disk_faults, device_sight}
 use Rattle.fts_top.proofs.Filing.{outcome_on}
-use Rattle.fts_top.proofs.Opening.{is_why, database_read, stands_right}
+use Rattle.fts_top.proofs.Opening.{is_why, database_read}
 use Rattle.fts_top.proofs.once.run_script.Goals as goal
 
 pub returns-in-Ok-clause-executed : goal.returns-in-Ok-clause-executed
@@ -29,19 +29,18 @@ returns-in-Ok-clause-executed g c =
             database_read _ (c.in-Ok.ensures.looks_rows tells.0).seen (c.in-Ok.ensures.looks_index tells.1).seen
                 ((holds.on_rows tells.0).reads refl) ((holds.on_index tells.1).reads refl),
           );
-      outcome = λ tells_input tells_out tells start database right.
+      outcome = λ tells_input tells_out tells start database.
           let state = (c.in-Ok.ensures.opened tells.0 tells.1).0 in
           let holds = (c.in-Ok.ensures.opened tells.0 tells.1).1 in
           let same = one_database start state (g.D.Disk.seen c.args.rows 0) (g.E.Disk.seen c.args.index 0) database
           (database_read state (c.in-Ok.ensures.looks_rows tells.0).seen (c.in-Ok.ensures.looks_index tells.1).seen
           ((holds.on_rows tells.0).reads refl) ((holds.on_index tells.1).reads refl)) in
-          let stands = stands_right state c.in-Ok.engine holds (subst IsRight same right) in
           let outcome = outcome_on direct_sight refl state.settings c.args.limits
-          (λ running s stood. (stood.right, stood.holds.on_rows tells.0, stood.holds.on_index tells.1))
+          (λ running s stood. (stood.on_rows tells.0, stood.on_index tells.1))
           (opened state) (lines_of left) (sides left held (record { engine = c.in-Ok.engine })) (sides left' held' c.run-end.new.steps) first
           (record { rows = (c.in-Ok.ensures.looks_rows tells.0).crash; index = (c.in-Ok.ensures.looks_index tells.1).crash })
-          (sym holds.has.keeps.settings) c.in-Ok.ensures.limits (c.in-Ok.ensures.faults.calm (λ no. no)) refl c.run-end.result
-          (c.run-end.ensures.runs tells_input tells_out (opened state) stands) in
+          (sym holds.has.keeps.settings) c.in-Ok.ensures.limits (c.in-Ok.ensures.faults.calm (λ no. no)) (λ s. refl) c.run-end.result
+          (c.run-end.ensures.runs tells_input tells_out (opened state) holds) in
           let closed = subst (λ (d : _). Outcome (device_sight both state.settings c.args.limits) c.run-end.result (opened state) (lines_of left)
           (sides left held first) (sides left' held' (devices_of d (index_device c.run-end.new.steps.engine)))) (sym c.close-rows.ensures.rows) outcome in
           let closed' = subst (λ (e : _). Outcome (device_sight both state.settings c.args.limits) c.run-end.result (opened state) (lines_of left)

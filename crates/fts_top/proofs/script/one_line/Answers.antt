@@ -3,7 +3,9 @@ use Rattle.std.specs.Prelude.{Err}
 use Rattle.fts_io.specs.Text.{whole, too_long}
 use Rattle.fts_io.specs.Reading.{ahead}
 use Rattle.fts_top.specs.declared.ends.Halt.{Halt}
-use Rattle.fts_top.specs.Kept.{mets}
+use Rattle.fts_types.specs.declared.settings.Settings.{Settings}
+use Rattle.fts_steps.proofs.Making.{made_keeps}
+use Rattle.fts_top.specs.Kept.{mets, AllFit}
 use Rattle.fts_top.specs.Run.{OneLine, sides}
 use Rattle.fts_top.specs.declared.ends.Health.TheVariants.{Sound}
 use Rattle.fts_schema.specs.declared.reply.Reply.TheVariants.{LineTooLong}
@@ -102,3 +104,9 @@ returns-in-Ok-send-2-clause-session g c tells_input =
       c.in-TooLong.ensures.lines tells_input,
       spoken_of (g.S.EngineSteps.sight.settings c.args.steps.now) too_long (mets c.args.sessions.now) (mets c.skip.new.self) serves.calls LineTooLong serves.says,
     )
+
+pub returns-in-Ok-send-clause-fit : goal.returns-in-Ok-send-clause-fit
+returns-in-Ok-send-clause-fit g c =
+    let batches = c.met_behind.ensures.batches in
+    subst (λ (s : Settings). AllFit (length s.columns) c.execute.new.self)
+    (sym (made_keeps g.S.EngineSteps.sight batches.calls c.execute.new.steps c.met_behind.new.steps batches.steps).settings) c.in-Ok.ensures.fit

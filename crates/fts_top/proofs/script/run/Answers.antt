@@ -51,6 +51,7 @@ lines-init g c = record {
         whole = refl;
         met_is = refl;
         counted = sym c.in-Ok.ensures.given;
+        kept = refl;
       };
   session = λ tells. record { lines = []; cut = sym (c.in-Ok.ensures.lines (g.I.Source.left c.args.input.now)); are = ap numbers_of c.in-Ok-new.ensures.none };
   kept = c.in-Ok-new.ensures.kept;

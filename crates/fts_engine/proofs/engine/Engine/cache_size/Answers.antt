@@ -1,4 +1,5 @@
-use Rattle.std.proofs.Common.{refl, sym, ap, ◌∙◌}
+use Rattle.std.proofs.Common.{ℕ, refl, sym, ap, ◌∙◌}
+use Rattle.std.specs.Prelude.{Some}
 use Rattle.fts_types.specs.declared.settings.Settings.{Settings}
 use Rattle.fts_types.specs.Rules.{rules_of}
 use Rattle.fts_commits.specs.Turn.{births_of}
@@ -13,5 +14,5 @@ pub returns : goal.returns
 returns g c =
     refuses c.args.self.now c.args.self.now refl refl refl refl refl refl (λ commits s is. is) to_measure (measured c.cache_size.result) refl refl
     (λ running stands.
-    ap (λ (settings : Settings). measured (rows_size (rules_of settings) (births_of (unflushed (turns_of running.state) running.index)))) stands.holds.has.keeps.settings
-    ∙ ap measured (sym (c.cache_size.ensures running.state.commits running.index stands.holds.has.indexed)))
+    ap (λ (settings : Settings). Some (measured (rows_size (rules_of settings) (births_of (unflushed (turns_of running.state) running.index))))) stands.has.keeps.settings
+    ∙ ap (λ (n : ℕ). Some (measured n)) (sym (c.cache_size.ensures running.state.commits running.index stands.has.indexed)))

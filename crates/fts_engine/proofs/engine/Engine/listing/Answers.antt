@@ -10,9 +10,9 @@ pub returns-in-Ok : goal.returns-in-Ok
 returns-in-Ok g c =
     refuses c.args.self.now c.args.self.now refl refl refl refl refl refl (λ commits s is. is) (to_list c.args.kind) (listed c.commits.result c.in-Ok.listing) refl refl
     (λ running stands. (
-      c.commits.ensures running.state stands.holds.has.keeps,
-      subst (λ (settings : Settings). IsListed settings (turns_of running.state) running.index c.args.kind c.in-Ok.listing) (sym stands.holds.has.keeps.settings)
-          (c.in-Ok.ensures running.state.commits running.index stands.holds.has.indexed),
+      c.commits.ensures running.state stands.has.keeps,
+      subst (λ (settings : Settings). IsListed settings (turns_of running.state) running.index c.args.kind c.in-Ok.listing) (sym stands.has.keeps.settings)
+          (c.in-Ok.ensures running.state.commits running.index stands.has.indexed),
     ))
 
 pub returns-in-Err : goal.returns-in-Err

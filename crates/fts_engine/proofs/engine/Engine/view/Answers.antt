@@ -1,4 +1,4 @@
-use Rattle.std.proofs.Common.{refl}
+use Rattle.std.proofs.Common.{refl, ◌∙◌}
 use Rattle.fts_steps.specs.Step.{to_view, viewed, no_memory}
 use Rattle.fts_query.specs.Seen.{leaves_seen, view_seen}
 use Rattle.fts_engine.proofs.Committing.{is_viewed, exact_kept}
@@ -11,9 +11,12 @@ returns-in-Ok g c =
     let view = view_seen c.in-Ok.view in
     refuses c.args.self.now c.args.self.now refl refl refl refl refl refl (λ commits s is. is) (to_view asked) (viewed view) refl refl
     (λ running stands.
-    let has = stands.holds.has in
-    is_viewed running c.args.self.now has.keeps asked c.commits.result view (c.commits.ensures running.state has.keeps)
-    (c.in-Ok.ensures running.state.commits running.index has.indexed (exact_kept running c.args.self.now stands)))
+    let has = stands.has in
+    let number = c.commits.ensures running.state has.keeps in (
+      c.in-Ok.ensures.numbered ∙ number,
+      λ right. is_viewed running c.args.self.now has.keeps asked c.commits.result view number
+          (c.in-Ok.ensures.right running.state.commits running.index has.indexed (exact_kept running c.args.self.now stands right)),
+    ))
 
 pub returns-in-Err : goal.returns-in-Err
 returns-in-Err g c =

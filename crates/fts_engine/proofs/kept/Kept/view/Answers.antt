@@ -10,8 +10,8 @@ use Rattle.fts_engine.specs.Looking.{rows_at}
 use Rattle.fts_engine.proofs.Candidates.{rows_chosen}
 use Rattle.fts_engine.proofs.kept.Kept.view.Goals as goal
 
-pub returns : goal.returns
-returns c commits s is exact =
+pub returns-clause-right : goal.returns-clause-right
+returns-clause-right c commits s is exact =
     let kept = c.args.self.now in
     let rules = rules_of kept.settings in
     let rows = rows_of kept.rows in

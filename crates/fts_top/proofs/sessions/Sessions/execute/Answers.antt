@@ -6,6 +6,7 @@ use Rattle.fts_sessions.specs.declared.session.Session.{Session}
 use Rattle.fts_sessions.specs.Transaction.{Transaction, FitsTable}
 use Rattle.fts_sessions.specs.Execute.{Executes}
 use Rattle.fts_top.specs.Kept.{mets, AllFit}
+use Rattle.fts_steps.proofs.Making.{made_keeps}
 use Rattle.fts_top.proofs.Keeping.{changed, stands_at, fits_at}
 use Rattle.fts_top.proofs.Turning.{passes, executed}
 use Rattle.fts_top.proofs.sessions.Sessions.execute.Goals as goal
@@ -40,7 +41,7 @@ returns-in-Some-place_of-clause-fit g c =
     let sight = g.S.EngineSteps.sight in
     let columns = length (sight.settings c.execute.new.steps).columns in
     All-set (λ (s : Session). FitsTable columns s.transaction) c.place_of.new.self.sessions.items c.in-Some-place_of.place c.execute.new.self c.execute.ensures.fits
-    (subst (λ (s : Settings). AllFit (length s.columns) c.place_of.new.self) (sym c.execute.ensures.executes.settings)
+    (subst (λ (s : Settings). AllFit (length s.columns) c.place_of.new.self) (sym (made_keeps sight c.execute.ensures.executes.calls c.args.steps.now c.execute.new.steps c.execute.ensures.executes.made).settings)
     (c.place_of.ensures.fit (length (sight.settings c.args.steps.now).columns) c.requires.fit))
 
 pub returns-in-None-clause-fit : goal.returns-in-None-clause-fit

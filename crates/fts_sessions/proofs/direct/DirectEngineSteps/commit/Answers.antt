@@ -1,0 +1,5 @@
+use Rattle.fts_sessions.proofs.Directly.{as_direct}
+use Rattle.fts_sessions.proofs.direct.DirectEngineSteps.commit.Goals as goal
+
+pub returns : goal.returns
+returns g c = as_direct _ _ _ _ c.commit.ensures.steps
