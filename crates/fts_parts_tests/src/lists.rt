@@ -241,6 +241,15 @@ fn is_begun(lists: &Lists) -> bool {
     lists.is_open() && lists.checkpoint().is_none()
 }
 
+// Notes a word of the pass, where one is open.
+fn note(lists: &mut Lists, word: Word) -> bool {
+    if !lists.is_open() {
+        return false;
+    }
+    lists.set_checkpoint(word);
+    true
+}
+
 fn is_closed(lists: &Lists) -> bool {
     !lists.is_open() && lists.checkpoint().is_none()
 }
@@ -254,7 +263,7 @@ fn numbers_and_the_pass_are_kept(rt: HostRuntime) -> Result<(), Fail> {
     assert!(rt; (lists.flushed(), lists.synced()) == (3, 42));
     open(&mut lists)?;
     assert!(rt; is_begun(&lists));
-    lists.set_checkpoint(Word::copied(rt.alloc(), b"apple")?);
+    assert!(rt; note(&mut lists, Word::copied(rt.alloc(), b"apple")?));
     assert!(rt; is_open_at(&lists, &word));
     lists.close_pass();
     assert!(rt; is_closed(&lists));
