@@ -46,8 +46,9 @@ fn commit_three(alloc: Global, steps: &mut Direct<MemDisk, MemDisk>) {
     session.execute(steps, &OpenGate, b"DELETE FROM docs WHERE id = 9");
 }
 
-/// What a session has seen with an open transaction, and behind its commit.
+/// What a session has seen behind another's three commits, with an open transaction and behind its commit.
 fn seen_by(alloc: Global, steps: &mut Direct<MemDisk, MemDisk>) -> (u64, u64) {
+    commit_three(alloc, steps);
     let mut session = Session::new(alloc, 7);
     session.execute(steps, &OpenGate, b"BEGIN");
     session.execute(steps, &OpenGate, b"DELETE FROM docs WHERE id = 1");
@@ -59,7 +60,6 @@ fn seen_by(alloc: Global, steps: &mut Direct<MemDisk, MemDisk>) -> (u64, u64) {
 /// Whether it has seen what its replies told, and nothing of the other session's.
 fn has_seen(alloc: Global) -> Result<bool, AllocError> {
     let mut steps = new_steps(alloc)?;
-    commit_three(alloc, &mut steps);
     Ok(seen_by(alloc, &mut steps) == (0, 4))
 }
 
