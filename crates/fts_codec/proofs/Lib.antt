@@ -1,4 +1,6 @@
 pub mod Numbers
 pub mod Spelled
+pub mod Fields
+pub mod Faults
 pub mod Loop
 pub mod Puts

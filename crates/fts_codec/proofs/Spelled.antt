@@ -1,14 +1,12 @@
 -- What is read is spelled so, and what is spelled so is read: numbers, texts and lists of them.
-use Rattle.std.proofs.Common.{◌≡◌, ℕ, zero, suc, ◌+◌, ◌^◌, ◌<◌, ◌≤◌, Bool, true, false, cond, eqb, ltb, List, [], ◌∷◌, ◌++◌, length, get_or, take, drop, Option, Some, None, refl, sym, ap, subst, ◌∙◌, append_assoc, arith, inl, inr}
-use Rattle.std.specs.Prelude.{All}
-use Rattle.std.specs.List.{flat_map}
-use Rattle.std.specs.Int.{Width, w16, w32, w64, byte_len, from_be_bytes, to_be_bytes}
-use Rattle.std.proofs.lemmas.Bool.{cases_lt, eqb-true, ltb-false, le-ltb}
+use Rattle.std.proofs.Common.{◌≡◌, ℕ, suc, ◌+◌, ◌^◌, ◌<◌, ◌≤◌, Bool, true, false, cond, eqb, ltb, List, [], ◌∷◌, ◌++◌, length, get_or, take, drop, Option, Some, None, refl, sym, ap, subst, ◌∙◌, append_assoc, arith, inl, inr}
+use Rattle.std.specs.Int.{Width, w16, w32, w64, byte_len, from_be_bytes, to_be_bytes, is_in_range}
+use Rattle.std.proofs.lemmas.Bool.{cases_lt, eqb-true, eq-eqb, ltb-false, le-ltb, leb-true, le-leb, and_parts}
 use Rattle.std.proofs.lemmas.List.{take_at, drop_at, take-append-drop, length-append, length-take, get_or-drop, get_or-take, get_or_past}
-use Rattle.std.proofs.lemmas.List.Concat.{flat_map-cons}
-use Rattle.std.proofs.lemmas.List.Elements.{All-nil, All-cons, All-head, All-tail}
 use Rattle.std.proofs.lemmas.Nat.{be_bytes_2, be_bytes_4, be_bytes_8, from_be_bytes-to_be_bytes_2, from_be_bytes-to_be_bytes_4, from_be_bytes-to_be_bytes_8}
-use Rattle.fts_codec.specs.Reading.{◌>>=◌, behind_at, number_at, piece_at, many_at}
+use Rattle.fts_codec.specs.Reading.{first_at, behind_at, number_at, piece_at}
+use Rattle.fts_codec.specs.Fields.{only, tested}
+use Rattle.fts_codec.specs.Grammar.{one_byte, IsFrom}
 
 abbrev pub IsBytes : List ℕ → Type 0
 IsBytes bytes = (i : ℕ) → get_or bytes i 0 < 256
@@ -22,15 +20,6 @@ bytes-take n bytes h i =
       | inl lt ↦ rw (get_or-take n bytes i 0 lt) (h i)
       | inr le ↦ rw (get_or_past (take n bytes) i 0 (omega (arith, length-take n bytes))) (omega arith)
     ]
-
--- the value of a step that did not fail
-pub bind_some : {A B : Type 0} (r : Option A) (f : A → Option B) (y : B) → (r >>= f) ≡ Some y → (x : A) × (r ≡ Some x) × (f x ≡ Some y)
-bind_some (Some x) f y e = (x, refl, e)
-bind_some None f y e = absurd cc
-
--- a step that does not fail
-pub bind_again : {A B : Type 0} (r : Option A) (f : A → Option B) (x : A) (y : B) → r ≡ Some x → f x ≡ Some y → (r >>= f) ≡ Some y
-bind_again {A = A} r f x y e next = ap (λ (read : Option A). read >>= f) e ∙ next
 
 -- tests that did not fail
 pub passed : {A : Type 0} (b : Bool) (x y : A) → cond b (Some x) None ≡ Some y → (b ≡ true) × (x ≡ y)
@@ -54,12 +43,18 @@ Takes bytes text rest = (bytes ≡ text ++ rest) × IsBytes rest
 pub takes_both : (a x b y c : List ℕ) → Takes a x b → Takes b y c → Takes a (x ++ y) c
 takes_both a x b y c p q = (p.0 ∙ ap (λ (t : List ℕ). x ++ t) q.0 ∙ sym (append_assoc x y c), q.1)
 
+same_is : (n byte : ℕ) → n ≡ byte → eqb n byte ≡ true
+same_is n byte is = eq-eqb n byte is
+
 -- a byte that is given
 pub byte_takes : (byte : ℕ) (bytes rest : List ℕ) → IsBytes bytes → behind_at byte bytes ≡ Some rest → Takes bytes (byte ∷ []) rest
 byte_takes byte [] rest fits e = absurd cc
 byte_takes byte (first ∷ bytes) rest fits e =
     let g = passed (eqb first byte) bytes rest e in
     (ap (λ (b : ℕ). b ∷ bytes) (eqb-true first byte g.0) ∙ ap (λ (r : List ℕ). byte ∷ r) g.1, λ i. rw (← g.1) (fits (suc i)))
+
+pub byte_again : (byte n : ℕ) (rest : List ℕ) → n ≡ byte → behind_at byte (n ∷ rest) ≡ Some rest
+byte_again byte n rest is = rw (same_is n byte is) refl
 
 -- a reader gives the values that are spelled so, and all of these
 pub record Spells {X : Type 0} (f : X → List ℕ) (Is : X → Type 0) (one : List ℕ → Option (X × List ℕ)) : Type 0 where
@@ -133,25 +128,58 @@ piece_again piece rest =
     let long : ltb (length (piece ++ rest)) (length piece) ≡ false = le-ltb _ _ (omega (arith, length-append piece rest)) in
     rw (long, take_at piece rest (length piece) refl, drop_at piece rest (length piece) refl) refl
 
--- so many values, one behind another
-module _ {X : Type 0} (f : X → List ℕ) (Is : X → Type 0) (one : List ℕ → Option (X × List ℕ)) (spells : Spells f Is one) where
-  pub many_take : (count : ℕ) (bytes : List ℕ) (xs : List X) (rest : List ℕ) → IsBytes bytes → many_at one count bytes ≡ Some (xs, rest)
-      → (length xs ≡ count) × All Is xs × Takes bytes (flat_map f xs) rest
-  unfolding many_at
-  many_take zero bytes xs rest fits e =
-      subst (λ (y : List X × List ℕ). (length y.0 ≡ 0) × All Is y.0 × Takes bytes (flat_map f y.0) y.1) (some_is ([], bytes) (xs, rest) e) (refl, All-nil Is, (refl, fits))
-  many_take (suc count) bytes xs rest fits e =
-      let a = bind_some (one bytes) (λ first. many_at one count first.1 >>= λ others. Some (first.0 ∷ others.0, others.1)) (xs, rest) e in
-      let b = bind_some (many_at one count a.0.1) (λ others. Some (a.0.0 ∷ others.0, others.1)) (xs, rest) a.2 in
-      let first = spells.takes bytes a.0.0 a.0.1 fits a.1 in
-      let others = many_take count a.0.1 b.0.0 b.0.1 first.1.1 b.1 in
-      let both = takes_both bytes (f a.0.0) a.0.1 (flat_map f b.0.0) b.0.1 first.1 others.2 in
-      subst (λ (y : List X × List ℕ). (length y.0 ≡ suc count) × All Is y.0 × Takes bytes (flat_map f y.0) y.1) (some_is (a.0.0 ∷ b.0.0, b.0.1) (xs, rest) b.2)
-      (ap suc others.0, All-cons Is a.0.0 b.0.0 first.0 others.1, rw flat_map-cons both)
+-- ---- readers of fields
 
-  pub many_again : (xs : List X) (rest : List ℕ) → All Is xs → many_at one (length xs) (flat_map f xs ++ rest) ≡ Some (xs, rest)
-  unfolding many_at
-  many_again [] rest each = refl
-  many_again (x ∷ xs) rest each =
-      let regrouped : flat_map f (x ∷ xs) ++ rest ≡ f x ++ (flat_map f xs ++ rest) = ap (λ (y : List ℕ). y ++ rest) (flat_map-cons f x xs) ∙ append_assoc (f x) (flat_map f xs) rest in
-      ap (many_at one (suc (length xs))) regrouped ∙ rw (spells.again x (flat_map f xs ++ rest) (All-head Is x xs each), many_again xs rest (All-tail Is x xs each)) refl
+pub piece_spells : (count : ℕ) → Spells (λ piece. piece) (λ piece. length piece ≡ count) (piece_at count)
+piece_spells count = record {
+  takes = λ bytes piece rest fits e. piece_takes count bytes piece rest fits e;
+  again = λ piece rest is. ap (λ (n : ℕ). piece_at n (piece ++ rest)) (sym is) ∙ piece_again piece rest;
+}
+
+first_takes : (bytes : List ℕ) (n : ℕ) (rest : List ℕ) → IsBytes bytes → first_at bytes ≡ Some (n, rest) → (n < 256) × Takes bytes (one_byte n) rest
+first_takes [] n rest fits e = absurd cc
+first_takes (first ∷ bytes) n rest fits e =
+    subst (λ (p : ℕ × List ℕ). (p.0 < 256) × Takes (first ∷ bytes) (one_byte p.0) p.1) (some_is (first, bytes) (n, rest) e) (fits 0, (refl, λ i. fits (suc i)))
+
+pub first_spells : Spells one_byte (λ n. n < 256) first_at
+first_spells = record { takes = first_takes; again = λ n rest is. refl }
+
+-- values that pass a test
+module _ {X : Type 0} (f : X → List ℕ) (Is : X → Type 0) (one : List ℕ → Option (X × List ℕ)) (spells : Spells f Is one) (test : X → Bool) where
+  tested_takes : (bytes : List ℕ) (x : X) (rest : List ℕ) → IsBytes bytes → tested test one bytes ≡ Some (x, rest) → (Is x × (test x ≡ true)) × Takes bytes (f x) rest
+  tested_takes bytes x rest fits e = by (one bytes) refl e
+    where
+      by : (read : Option (X × List ℕ)) → one bytes ≡ read → only test read ≡ Some (x, rest) → (Is x × (test x ≡ true)) × Takes bytes (f x) rest
+      by (Some y) at e =
+          let g = passed (test y.0) y (x, rest) e in
+          let read = spells.takes bytes y.0 y.1 fits at in
+          subst (λ (p : X × List ℕ). (Is p.0 × (test p.0 ≡ true)) × Takes bytes (f p.0) p.1) g.1 ((read.0, g.0), read.1)
+      by None at e = absurd cc
+
+  tested_again : (x : X) (rest : List ℕ) → Is x × (test x ≡ true) → tested test one (f x ++ rest) ≡ Some (x, rest)
+  tested_again x rest is = ap (only test) (spells.again x rest is.0) ∙ rw is.1 refl
+
+  pub tested_spells : Spells f (λ x. Is x × (test x ≡ true)) (tested test one)
+  tested_spells = record { takes = tested_takes; again = tested_again }
+
+-- what values are, said in another way
+pub spells_as : {X : Type 0} (f : X → List ℕ) (Is May : X → Type 0) (one : List ℕ → Option (X × List ℕ)) → ((x : X) → Is x → May x) → ((x : X) → May x → Is x)
+    → Spells f Is one → Spells f May one
+spells_as f Is May one to from spells = record {
+  takes = λ bytes x rest fits e. let read = spells.takes bytes x rest fits e in (to x read.0, read.1);
+  again = λ x rest may. spells.again x rest (from x may);
+}
+
+-- numbers of a range
+pub in_range : (low high n : ℕ) → IsFrom low high n → is_in_range low high n ≡ true
+in_range low high n is = rw (le-leb low n is.0, le-leb n high is.1) refl
+
+pub range_is : (low high n : ℕ) → is_in_range low high n ≡ true → IsFrom low high n
+range_is low high n e = let parts = and_parts _ _ e in (leb-true low n parts.0, leb-true n high parts.1)
+
+pub spells_from : (f : ℕ → List ℕ) (one : List ℕ → Option (ℕ × List ℕ)) (limit low high : ℕ) → high < limit → Spells f (λ n. n < limit) one
+    → Spells f (IsFrom low high) (tested (is_in_range low high) one)
+spells_from f one limit low high within spells =
+    spells_as f (λ n. (n < limit) × (is_in_range low high n ≡ true)) (IsFrom low high) (tested (is_in_range low high) one)
+    (λ n is. range_is low high n is.1) (λ n is. (omega (arith, within, is.1), in_range low high n is))
+    (tested_spells f (λ n. n < limit) one spells (is_in_range low high))

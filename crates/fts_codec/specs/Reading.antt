@@ -1,17 +1,17 @@
 -- Reading from left to right: a value and the bytes behind it, or nothing where none is spelled there.
-use Rattle.std.specs.Prelude.{◌≡◌, ℕ, zero, suc, if◌then◌else◌, ◌==◌, nat_lt, List, [], ◌∷◌, length, take, drop}
+use Rattle.std.specs.Prelude.{◌≡◌, ℕ, if◌then◌else◌, ◌==◌, nat_lt, List, [], ◌∷◌, length, take, drop}
 use Rattle.std.specs.Prelude.{Option, Some, None}
 use Rattle.std.specs.Int.{Width, byte_len, from_be_bytes}
-
-infixl 10 ◌>>=◌
-abbrev pub ◌>>=◌ : {A B : Type 0} → Option A → (A → Option B) → Option B
-(Some x) >>= f = f x
-None >>= f = None
 
 -- what a reader returned, seen by view, is what reading gives
 abbrev pub Finds : {X Y : Type 0} → (X → Y) → Option X → Option Y → Type 0
 Finds view (Some x) read = read ≡ Some (view x)
 Finds view None read = read ≡ None
+
+-- a byte
+abbrev pub first_at : List ℕ → Option (ℕ × List ℕ)
+first_at [] = None
+first_at (first ∷ rest) = Some (first, rest)
 
 -- what stands behind this byte
 abbrev pub behind_at : ℕ → List ℕ → Option (List ℕ)
@@ -27,11 +27,3 @@ number_at w bytes =
 -- so many bytes
 abbrev pub piece_at : ℕ → List ℕ → Option (List ℕ × List ℕ)
 piece_at count bytes = if nat_lt (length bytes) count then None else Some (take count bytes, drop count bytes)
-
--- so many values, one behind another
-unfoldable pub many_at : {X : Type 0} → (List ℕ → Option (X × List ℕ)) → ℕ → List ℕ → Option (List X × List ℕ)
-many_at one zero bytes = Some ([], bytes)
-many_at one (suc count) bytes = do
-  first ← one bytes
-  others ← many_at one count first.1
-  Some (first.0 ∷ others.0, others.1)

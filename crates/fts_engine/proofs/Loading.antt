@@ -209,8 +209,8 @@ module _ (magic : List ℕ) (all : List (List ℕ)) (k at : ℕ) (settings : Set
 -- a first entry that is no settings: no sound state has it
 no_settings : (all : List (List ℕ)) (payload : List ℕ) (result : Result Settings DecodeError) → payload ≡ get_or all 0 []
     → ((settings : Settings) → AreSettings settings → payload ≡ settings_payload settings → (result ≡ Ok settings) ⊎ (result ≡ Err decode.NoMemory))
-    → result ≡ Err decode.Bad → AreNoRows all
-no_settings all payload result is exact bad state sound same =
+    → (wrong : ℕ) → result ≡ Err (decode.Bad wrong) → AreNoRows all
+no_settings all payload result is exact wrong bad state sound same =
     elim (exact state.settings sound.settings (is ∙ ap (λ (entries : List (List ℕ)). get_or entries 0 []) (sym same))) [
       | inl e ↦ (let f = bad in cc)
       | inr e ↦ (let f = bad in cc)
@@ -219,14 +219,14 @@ no_settings all payload result is exact bad state sound same =
 pub wrong_settings : (magic : List ℕ) (all : List (List ℕ)) (at : ℕ) (payload : List ℕ) (result : Result Settings DecodeError) → 0 < length all → at ≡ gate_at magic all 0
     → payload ≡ get_or all 0 []
     → ((settings : Settings) → AreSettings settings → payload ≡ settings_payload settings → (result ≡ Ok settings) ⊎ (result ≡ Err decode.NoMemory))
-    → result ≡ Err decode.Bad → IsWrongEntry magic all at
-wrong_settings magic all at payload result some place is exact bad = record {
+    → (field : ℕ) → result ≡ Err (decode.Bad field) → IsWrongEntry magic all at
+wrong_settings magic all at payload result some place is exact field bad = record {
   k = 0;
   within = some;
   place = place;
   before = inl refl;
-  wrong = no_settings (take 1 all) payload result (is ∙ sym (get_or-take 1 all 0 [] (omega arith))) exact bad;
-  none = no_settings all payload result is exact bad;
+  wrong = no_settings (take 1 all) payload result (is ∙ sym (get_or-take 1 all 0 [] (omega arith))) exact field bad;
+  none = no_settings all payload result is exact field bad;
 }
 
 -- and so is one that is longer than any settings

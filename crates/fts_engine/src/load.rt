@@ -437,7 +437,7 @@ pub fn load_settings<D: Disk>(
     match decode_settings(alloc, &payload) {
         Ok(settings) => Ok(settings),
         Err(DecodeError::NoMemory) => Err(ReadError::NoMemory),
-        Err(DecodeError::Bad) => Err(ReadError::Damaged {
+        Err(DecodeError::Bad { at: _ }) => Err(ReadError::Damaged {
             at: records.place_of(0),
         }),
     }
@@ -523,7 +523,7 @@ fn read_commit<D: Disk>(
     match decode_commit(alloc, columns, &payload) {
         Ok(changes) => Ok(changes),
         Err(DecodeError::NoMemory) => Err(ReadError::NoMemory),
-        Err(DecodeError::Bad) => Err(ReadError::Damaged {
+        Err(DecodeError::Bad { at: _ }) => Err(ReadError::Damaged {
             at: records.place_of(k),
         }),
     }

@@ -10,6 +10,8 @@ use Rattle.fts_types.specs.declared.check.Field.{Field}
 use Rattle.fts_types.specs.declared.check.Field.TheVariants.{Columns, Min, Max, OptimizeWords, CacheBytes, BatchDocs}
 use Rattle.fts_types.specs.Settings.{AreSettings, first_wrong_of, is_right, are_columns, is_column_name}
 use Rattle.fts_commits.specs.Commit.{Commit}
+use Rattle.fts_codec.specs.Grammar.{IsFrom}
+use Rattle.fts_codec.proofs.Spelled.{in_range, range_is}
 use Rattle.fts_rowcodec.specs.Payload.{IsWritten}
 use Rattle.fts_rowcodec.specs.Reading.{FitNumbers, IsRowChange}
 
@@ -27,20 +29,49 @@ at_most low high n e = leb-true n high (and_parts _ _ e).1
 right_columns : (settings : Settings) → AreSettings settings → are_columns settings.columns ≡ true
 right_columns settings are = (right settings Columns (Min ∷ Max ∷ OptimizeWords ∷ CacheBytes ∷ BatchDocs ∷ []) are).0
 
-pub numbers_fit : (settings : Settings) → AreSettings settings → FitNumbers settings
-numbers_fit settings are =
+-- the numbers of settings that a database can have
+pub record AreInRange (settings : Settings) : Type 0 where
+  pub min : IsFrom 1 16 settings.min
+  pub max : IsFrom 10 84 settings.max
+  pub words : IsFrom 1 10000 settings.optimize_words
+  pub cache : IsFrom 1000 80000000 settings.cache_bytes
+  pub batch : IsFrom 1 100000 settings.batch_docs
+
+pub in_ranges : (settings : Settings) → AreSettings settings → (are_columns settings.columns ≡ true) × AreInRange settings
+in_ranges settings are =
     let columns = right settings Columns (Min ∷ Max ∷ OptimizeWords ∷ CacheBytes ∷ BatchDocs ∷ []) are in
     let min = right settings Min (Max ∷ OptimizeWords ∷ CacheBytes ∷ BatchDocs ∷ []) columns.1 in
     let max = right settings Max (OptimizeWords ∷ CacheBytes ∷ BatchDocs ∷ []) min.1 in
     let words = right settings OptimizeWords (CacheBytes ∷ BatchDocs ∷ []) max.1 in
     let cache = right settings CacheBytes (BatchDocs ∷ []) words.1 in
-    let batch = right settings BatchDocs [] cache.1 in
-    let a : settings.optimize_words ≤ 10000 = at_most 1 10000 settings.optimize_words words.0 in
-    let b : settings.cache_bytes ≤ 80000000 = at_most 1000 80000000 settings.cache_bytes cache.0 in
-    let d : settings.batch_docs ≤ 100000 = at_most 1 100000 settings.batch_docs batch.0 in
-    (omega arith, omega arith, omega arith)
+    let batch = right settings BatchDocs [] cache.1 in (
+      columns.0,
+      record {
+        min = range_is 1 16 settings.min min.0;
+        max = range_is 10 84 settings.max max.0;
+        words = range_is 1 10000 settings.optimize_words words.0;
+        cache = range_is 1000 80000000 settings.cache_bytes cache.0;
+        batch = range_is 1 100000 settings.batch_docs batch.0;
+      },
+    )
 
-short_name : (name : List ℕ) → is_column_name name ≡ true → length name ≤ 32
+pub settings_are : (settings : Settings) → are_columns settings.columns ≡ true → AreInRange settings → AreSettings settings
+settings_are settings columns are =
+    rw (
+      columns,
+      in_range 1 16 settings.min are.min,
+      in_range 10 84 settings.max are.max,
+      in_range 1 10000 settings.optimize_words are.words,
+      in_range 1000 80000000 settings.cache_bytes are.cache,
+      in_range 1 100000 settings.batch_docs are.batch,
+    ) refl
+
+pub numbers_fit : (settings : Settings) → AreSettings settings → FitNumbers settings
+numbers_fit settings are =
+    let ranges = (in_ranges settings are).1 in
+    (omega (arith, ranges.words.1), omega (arith, ranges.cache.1), omega (arith, ranges.batch.1))
+
+pub short_name : (name : List ℕ) → is_column_name name ≡ true → length name ≤ 32
 short_name name is =
     let less = ltb-true (length name) 33 (and_parts _ _ (and_parts _ _ (and_parts _ _ (and_parts _ _ is).0).0).0).0 in
     omega arith

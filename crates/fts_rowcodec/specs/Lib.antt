@@ -1,3 +1,4 @@
 pub mod Payload
 pub mod DecodeError
+pub mod Grammar
 pub mod Reading

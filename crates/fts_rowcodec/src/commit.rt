@@ -1,18 +1,20 @@
 //! The commits that payloads spell.
-ghost use Rattle.std.specs.Prelude.{◌≡◌, ◌⊎◌, IfOk, Ok, Err};
+ghost use Rattle.std.specs.Prelude.{◌≡◌, ◌⊎◌, IfOk, IfErr, Ok, Err};
 ghost use Rattle.std.specs.List.{list_all};
 ghost use Rattle.std.specs.Int.{is_in_range};
-ghost use Rattle.fts_commits.specs.Commit.{Commit};
-ghost use Rattle.fts_commits.specs.Text.{is_text_byte};
-ghost use Rattle.fts_rowcodec.specs.Payload.{IsWritten, commit_payload};
-ghost use Rattle.fts_codec.specs.Reading.{Finds, many_at};
 ghost use Rattle.std.specs.Option.{option_map};
+ghost use Rattle.fts_commits.specs.Commit.{Commit};
 ghost use Rattle.fts_commits.specs.NewText.{new_text};
-ghost use Rattle.fts_rowcodec.specs.Reading.{Gives, text_at, doc_at, new_at, insert_at, update_at};
+ghost use Rattle.fts_commits.specs.Text.{is_text_byte};
+ghost use Rattle.fts_codec.specs.Fault.{Gives};
+ghost use Rattle.fts_codec.specs.Fields.{many_at};
+ghost use Rattle.fts_rowcodec.specs.DecodeError.{IsCause};
+ghost use Rattle.fts_rowcodec.specs.Payload.{IsWritten, commit_payload};
+ghost use Rattle.fts_rowcodec.specs.Reading.{text_at, doc_at, new_at, insert_at, update_at};
 ghost use Rattle.fts_rowcodec.specs.Reading.{delete_at, change_at, count_at, commit_of};
 
 use crate::error::DecodeError;
-use fts_codec::{behind, bytes_at, u16_at, u64_at};
+use fts_codec::{Fault, behind, bytes_at, u16_at, u64_at};
 use fts_commits::{Change, Changes, NewTexts, is_text_byte};
 use fts_types::{DocId, RowTexts, SharedTexts};
 use std::alloc::{AllocError, Global};
@@ -26,27 +28,29 @@ fn has_text_bytes(text: &[u8]) -> bool
 
 /// A text, behind its length of two bytes.
 #[tactic(auto, unfolding(crate::specs::Reading::text_at))]
-fn text_at(bytes: &[u8]) -> Option<(&[u8], &[u8])>
-    ensures { Finds (λ x. (x.0.now, x.1.now)) result (text_at bytes.now) }
+fn text_at(bytes: &[u8]) -> Result<(&[u8], &[u8]), Fault>
+    ensures { Gives (λ x. (x.0.now, x.1.now)) result (text_at bytes.now) }
 {
-    let (count, rest) = u16_at(bytes)?;
-    let (text, rest) = bytes_at(rest, count as usize)?;
+    let Some((size, rest)) = u16_at(bytes) else {
+        return Err(Fault::at(bytes));
+    };
+    let Some((text, behind)) = bytes_at(rest, size as usize) else {
+        return Err(Fault::at(rest));
+    };
     if !has_text_bytes(text) {
-        return None;
+        return Err(Fault::at(rest));
     }
-    Some((text, rest))
+    Ok((text, behind))
 }
 
 /// So many texts.
-fn texts_at(alloc: Global, count: usize, bytes: &[u8]) -> Result<(RowTexts, &[u8]), DecodeError>
+fn texts_at(alloc: Global, count: usize, bytes: &[u8]) -> Result<(RowTexts, &[u8]), Fault>
     ensures { Gives (λ x. (x.0, x.1.now)) result (many_at text_at count bytes.now) }
 {
     let mut texts = RowTexts::new(alloc);
     let mut rest = bytes;
     for _ in 0..count {
-        let Some((text, after)) = text_at(rest) else {
-            return Err(DecodeError::Bad);
-        };
+        let (text, after) = text_at(rest)?;
         texts.push(Vec::from_slice(alloc, text)?)?;
         rest = after;
     }
@@ -55,39 +59,45 @@ fn texts_at(alloc: Global, count: usize, bytes: &[u8]) -> Result<(RowTexts, &[u8
 
 /// A document id, if one is given.
 #[tactic(auto, unfolding(crate::specs::Reading::doc_at))]
-fn doc_at(bytes: &[u8]) -> Option<(Option<DocId>, &[u8])>
-    ensures { Finds (λ x. (x.0, x.1.now)) result (doc_at bytes.now) }
+fn doc_at(bytes: &[u8]) -> Result<(Option<DocId>, &[u8]), Fault>
+    ensures { Gives (λ x. (x.0, x.1.now)) result (doc_at bytes.now) }
 {
     if let Some(rest) = behind(bytes, 0) {
-        return Some((None, rest));
+        return Ok((None, rest));
     }
-    let (doc, rest) = u64_at(behind(bytes, 1)?)?;
-    Some((Some(doc), rest))
+    let Some(doc_on) = behind(bytes, 1) else {
+        return Err(Fault::at(bytes));
+    };
+    let Some((doc, rest)) = u64_at(doc_on) else {
+        return Err(Fault::at(doc_on));
+    };
+    Ok((Some(doc), rest))
 }
 
 /// The text that an UPDATE sets, or that the old one is kept.
 #[tactic(auto, unfolding(crate::specs::Reading::new_at))]
-fn new_at(bytes: &[u8]) -> Option<(Option<&[u8]>, &[u8])>
-    ensures { Finds (λ x. (option_map (λ text. text.now) x.0, x.1.now)) result
+fn new_at(bytes: &[u8]) -> Result<(Option<&[u8]>, &[u8]), Fault>
+    ensures { Gives (λ x. (option_map (λ text. text.now) x.0, x.1.now)) result
         (new_at bytes.now) }
 {
     if let Some(rest) = behind(bytes, 0) {
-        return Some((None, rest));
+        return Ok((None, rest));
     }
-    let (text, rest) = text_at(behind(bytes, 1)?)?;
-    Some((Some(text), rest))
+    let Some(text_on) = behind(bytes, 1) else {
+        return Err(Fault::at(bytes));
+    };
+    let (text, rest) = text_at(text_on)?;
+    Ok((Some(text), rest))
 }
 
 /// So many texts that an UPDATE sets or keeps.
-fn news_at(alloc: Global, count: usize, bytes: &[u8]) -> Result<(NewTexts, &[u8]), DecodeError>
+fn news_at(alloc: Global, count: usize, bytes: &[u8]) -> Result<(NewTexts, &[u8]), Fault>
     ensures { Gives (λ x. (x.0, x.1.now)) result (many_at new_at count bytes.now) }
 {
     let mut news = Vec::new(alloc);
     let mut rest = bytes;
     for _ in 0..count {
-        let Some((text, after)) = new_at(rest) else {
-            return Err(DecodeError::Bad);
-        };
+        let (text, after) = new_at(rest)?;
         news.push(copied(alloc, text)?)?;
         rest = after;
     }
@@ -107,15 +117,13 @@ fn copied(alloc: Global, text: Option<&[u8]>) -> Result<Option<Vec<u8>>, AllocEr
 
 /// An INSERT into a row of so many columns.
 #[tactic(auto, unfolding(crate::specs::Reading::insert_at))]
-fn insert_at(alloc: Global, columns: usize, bytes: &[u8]) -> Result<(Change, &[u8]), DecodeError>
+fn insert_at(alloc: Global, columns: usize, bytes: &[u8]) -> Result<(Change, &[u8]), Fault>
     ensures { Gives (λ x. (x.0, x.1.now)) result (insert_at columns bytes.now) }
 {
     let Some((key, rest)) = u64_at(bytes) else {
-        return Err(DecodeError::Bad);
+        return Err(Fault::at(bytes));
     };
-    let Some((doc, rest)) = doc_at(rest) else {
-        return Err(DecodeError::Bad);
-    };
+    let (doc, rest) = doc_at(rest)?;
     let (texts, rest) = texts_at(alloc, columns, rest)?;
     let texts = SharedTexts::new(alloc, texts)?;
     Ok((Change::Insert { key, doc, texts }, rest))
@@ -123,11 +131,11 @@ fn insert_at(alloc: Global, columns: usize, bytes: &[u8]) -> Result<(Change, &[u
 
 /// An UPDATE of a row of so many columns.
 #[tactic(auto, unfolding(crate::specs::Reading::update_at))]
-fn update_at(alloc: Global, columns: usize, bytes: &[u8]) -> Result<(Change, &[u8]), DecodeError>
+fn update_at(alloc: Global, columns: usize, bytes: &[u8]) -> Result<(Change, &[u8]), Fault>
     ensures { Gives (λ x. (x.0, x.1.now)) result (update_at columns bytes.now) }
 {
     let Some((key, rest)) = u64_at(bytes) else {
-        return Err(DecodeError::Bad);
+        return Err(Fault::at(bytes));
     };
     let (texts, rest) = news_at(alloc, columns, rest)?;
     Ok((Change::Update { key, texts }, rest))
@@ -135,16 +143,18 @@ fn update_at(alloc: Global, columns: usize, bytes: &[u8]) -> Result<(Change, &[u
 
 /// A DELETE.
 #[tactic(auto, unfolding(crate::specs::Reading::delete_at))]
-fn delete_at(bytes: &[u8]) -> Option<(Change, &[u8])>
-    ensures { Finds (λ x. (x.0, x.1.now)) result (delete_at bytes.now) }
+fn delete_at(bytes: &[u8]) -> Result<(Change, &[u8]), Fault>
+    ensures { Gives (λ x. (x.0, x.1.now)) result (delete_at bytes.now) }
 {
-    let (key, rest) = u64_at(bytes)?;
-    Some((Change::Delete { key }, rest))
+    let Some((key, rest)) = u64_at(bytes) else {
+        return Err(Fault::at(bytes));
+    };
+    Ok((Change::Delete { key }, rest))
 }
 
 /// A change of a row of so many columns.
 #[tactic(auto, unfolding(crate::specs::Reading::change_at))]
-fn change_at(alloc: Global, columns: usize, bytes: &[u8]) -> Result<(Change, &[u8]), DecodeError>
+fn change_at(alloc: Global, columns: usize, bytes: &[u8]) -> Result<(Change, &[u8]), Fault>
     ensures { Gives (λ x. (x.0, x.1.now)) result (change_at columns bytes.now) }
 {
     if let Some(rest) = behind(bytes, 1) {
@@ -154,12 +164,9 @@ fn change_at(alloc: Global, columns: usize, bytes: &[u8]) -> Result<(Change, &[u
         return update_at(alloc, columns, rest);
     }
     let Some(rest) = behind(bytes, 3) else {
-        return Err(DecodeError::Bad);
+        return Err(Fault::at(bytes));
     };
-    match delete_at(rest) {
-        Some(both) => Ok(both),
-        None => Err(DecodeError::Bad),
-    }
+    delete_at(rest)
 }
 
 /// So many changes.
@@ -168,7 +175,7 @@ fn changes_at(
     columns: usize,
     count: u16,
     bytes: &[u8],
-) -> Result<(Vec<Change>, &[u8]), DecodeError>
+) -> Result<(Vec<Change>, &[u8]), Fault>
     ensures { Gives (λ x. (x.0.items, x.1.now)) result
         (many_at (change_at columns) count bytes.now) }
 {
@@ -184,14 +191,19 @@ fn changes_at(
 
 /// The count of a commit's changes, 1 to 1,000.
 #[tactic(auto, unfolding(crate::specs::Reading::count_at))]
-fn count_at(bytes: &[u8]) -> Option<(u16, &[u8])>
-    ensures { Finds (λ x. (x.0, x.1.now)) result (count_at bytes.now) }
+fn count_at(bytes: &[u8]) -> Result<(u16, &[u8]), Fault>
+    ensures { Gives (λ x. (x.0, x.1.now)) result (count_at bytes.now) }
 {
-    let (count, rest) = u16_at(behind(bytes, 1)?)?;
+    let Some(count_on) = behind(bytes, 1) else {
+        return Err(Fault::at(bytes));
+    };
+    let Some((count, rest)) = u16_at(count_on) else {
+        return Err(Fault::at(count_on));
+    };
     if !is_count(count) {
-        return None;
+        return Err(Fault::at(count_on));
     }
-    Some((count, rest))
+    Ok((count, rest))
 }
 
 /// Whether a commit may have so many changes.
@@ -203,27 +215,42 @@ fn is_count(count: u16) -> bool
 
 /// The commit that the bytes spell, all of them.
 #[tactic(auto, unfolding(crate::specs::Reading::commit_of))]
-fn commit_in(alloc: Global, columns: usize, bytes: &[u8]) -> Result<Changes, DecodeError>
+fn commit_in(alloc: Global, columns: usize, bytes: &[u8]) -> Result<Changes, Fault>
     ensures { Gives (λ changes. changes) result (commit_of columns bytes.now) }
 {
-    let Some((count, rest)) = count_at(bytes) else {
-        return Err(DecodeError::Bad);
-    };
+    let (count, rest) = count_at(bytes)?;
     let (changes, rest) = changes_at(alloc, columns, count, rest)?;
     if !rest.is_empty() {
-        return Err(DecodeError::Bad);
+        return Err(Fault::at(rest));
     }
     Ok(Changes::from_vec(changes))
 }
 
-/// The changes in the payload of a commit of rows of so many columns. `Bad` where the bytes are no
-/// such payload: where there are no changes or more than 1,000, a kind or a flag is none, a text
-/// holds a byte that no text holds, or a byte is missing or too many.
+/// The changes in the payload of a commit of rows of so many columns.
+///
+/// # Errors
+///
+/// `Bad` exactly where the bytes are no such payload, with the place at which the first field
+/// begins that can't stand there: a kind or a flag that is none; no changes or more than 1,000; a
+/// number that is cut; a text that is cut, or holds a byte that no text holds; what stands behind
+/// the last field.
+/// `NoMemory` where there is none for the changes.
 pub fn decode_commit(alloc: Global, columns: usize, bytes: &[u8]) -> Result<Changes, DecodeError>
+    // What is read is spelled so.
     ensures commit { IfOk result (λ changes. IsWritten columns changes
         × (bytes.now ≡ commit_payload changes)) }
+    // What is spelled so is read.
     ensures exact { (commit : Commit) → IsWritten columns commit → bytes.now ≡ commit_payload commit
         → (result ≡ Ok commit) ⊎ (result ≡ Err DecodeError.NoMemory) }
+    // A refusal has its place.
+    ensures cause { IfErr result (IsCause columns bytes.now) }
 {
-    commit_in(alloc, columns, bytes)
+    match commit_in(alloc, columns, bytes) {
+        Ok(changes) => Ok(changes),
+        Err(Fault::NoMemory) => Err(DecodeError::NoMemory),
+        Err(Fault::Bad { left }) => {
+            let at = bytes.len() - left;
+            Err(DecodeError::Bad { at })
+        }
+    }
 }

@@ -1,8 +1,6 @@
-ghost use Rattle.std.specs.Prelude.{◌≡◌, Some};
+ghost use Rattle.std.specs.Prelude.{Some};
 ghost use Rattle.fts_rowcodec.specs.DecodeError.{message};
-ghost use Rattle.fts_rowcodec.specs.declared.error.DecodeError.TheVariants.{NoMemory};
 
-use std::alloc::{AllocError, AllocFailed};
 use std::error::Error;
 use std::fmt;
 
@@ -12,7 +10,11 @@ pub enum DecodeError {
     /// Memory ran out.
     NoMemory,
     /// The bytes are no payload of the kind that was asked for.
-    Bad,
+    Bad {
+        /// Where the first field begins that can't stand there, in bytes from 0. It is the length
+        /// where a field is missing at the end.
+        at: usize,
+    },
 }
 
 impl fmt::Display for DecodeError {
@@ -21,25 +23,9 @@ impl fmt::Display for DecodeError {
     fn fmt<W: fmt::Write>(&self, f: &mut fmt::Formatter<W>) -> fmt::Result {
         match self {
             DecodeError::NoMemory => write!(f, "no memory"),
-            DecodeError::Bad => write!(f, "bad payload"),
+            DecodeError::Bad { at } => write!(f, "bad payload at byte {at}"),
         }
     }
 }
 
 impl Error for DecodeError {}
-
-impl From<AllocError> for DecodeError {
-    ghost from_gives = { λ _ e. e ≡ NoMemory };
-
-    fn from(_e: AllocError) -> DecodeError {
-        DecodeError::NoMemory
-    }
-}
-
-impl<T: Drop> From<AllocFailed<T>> for DecodeError {
-    ghost from_gives = { λ _ e. e ≡ NoMemory };
-
-    fn from(_e: AllocFailed<T>) -> DecodeError {
-        DecodeError::NoMemory
-    }
-}

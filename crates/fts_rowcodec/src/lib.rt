@@ -2,8 +2,8 @@
 //! the others.
 //!
 //! `encode_commit(alloc, &changes)?` gives the bytes of a commit, and
-//! `decode_commit(alloc, columns, &bytes)?` the changes that bytes stand for, or that they stand
-//! for none. `docs/FORMATS.md`, "Payloads", has the format.
+//! `decode_commit(alloc, columns, &bytes)?` the changes that bytes stand for, or where the first
+//! field begins that can't stand there. `docs/FORMATS.md`, "Payloads", has the format.
 //!
 //! Both cost the bytes, once.
 #![tactic(auto)]

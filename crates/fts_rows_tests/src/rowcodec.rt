@@ -68,12 +68,30 @@ fn settings_of(
     })
 }
 
-fn is_no_settings(alloc: Global, bytes: &[u8]) -> bool {
-    matches!(decode_settings(alloc, bytes), Err(DecodeError::Bad))
+// Whether the bytes are no settings, and the first field that can't stand there begins at a place.
+fn is_no_settings(alloc: Global, bytes: &[u8], want: usize) -> bool {
+    match decode_settings(alloc, bytes) {
+        Err(DecodeError::Bad { at }) => at == want,
+        _ => false,
+    }
 }
 
-fn is_no_commit(alloc: Global, columns: usize, bytes: &[u8]) -> bool {
-    matches!(decode_commit(alloc, columns, bytes), Err(DecodeError::Bad))
+fn is_no_commit(alloc: Global, columns: usize, bytes: &[u8], want: usize) -> bool {
+    match decode_commit(alloc, columns, bytes) {
+        Err(DecodeError::Bad { at }) => at == want,
+        _ => false,
+    }
+}
+
+// The last of these places, at which fields begin, up to one.
+fn last_until(starts: &[usize], place: usize) -> usize {
+    let mut last = 0;
+    for &start in starts {
+        if start <= place {
+            last = start;
+        }
+    }
+    last
 }
 
 // Whether settings with these columns are encoded so.
@@ -140,41 +158,41 @@ fn with_byte(alloc: Global, bytes: &[u8], place: usize, byte: u8) -> Result<Vec<
     Ok(bytes)
 }
 
-// Each place with a byte that does not belong there: the kind, a count, a length, a letter, a
-// number out of its bounds.
-const WRONG_SETTINGS: &[(usize, u8)] = &[
-    (0, 1),
-    (0, 255),
-    (1, 0),
-    (1, 2),
-    (1, 255),
-    (2, 0),
-    (2, 3),
-    (2, 5),
-    (2, 255),
-    (3, 0x42),
-    (7, 0),
-    (7, 17),
-    (7, 255),
-    (8, 0),
-    (8, 85),
-    (8, 255),
-    (9, 2),
-    (9, 255),
-    (10, 0x28),
-    (12, 5),
-    (16, 1),
+// Each place with a byte that does not belong there, and the place that is told: the kind, a count,
+// a length, a letter, a number out of its bounds.
+const WRONG_SETTINGS: &[(usize, u8, usize)] = &[
+    (0, 1, 0),
+    (0, 255, 0),
+    (1, 0, 1),
+    (1, 2, 8),
+    (1, 255, 1),
+    (2, 0, 2),
+    (2, 3, 6),
+    (2, 5, 3),
+    (2, 255, 2),
+    (3, 0x42, 3),
+    (7, 0, 7),
+    (7, 17, 7),
+    (7, 255, 7),
+    (8, 0, 8),
+    (8, 85, 8),
+    (8, 255, 8),
+    (9, 2, 9),
+    (9, 255, 9),
+    (10, 0x28, 10),
+    (12, 5, 12),
+    (16, 1, 16),
 ];
 
-fn is_wrong(alloc: Global, place: usize, byte: u8) -> Result<bool, AllocError> {
+fn is_wrong(alloc: Global, place: usize, byte: u8, want: usize) -> Result<bool, AllocError> {
     let bytes = with_byte(alloc, &SETTINGS, place, byte)?;
-    Ok(is_no_settings(alloc, &bytes))
+    Ok(is_no_settings(alloc, &bytes, want))
 }
 
 #[test]
 fn refuses_a_wrong_byte_of_settings(rt: HostRuntime) -> Result<(), Fail> {
-    for (place, byte) in WRONG_SETTINGS {
-        let holds = is_wrong(rt.alloc(), *place, *byte)?;
+    for (place, byte, want) in WRONG_SETTINGS {
+        let holds = is_wrong(rt.alloc(), *place, *byte, *want)?;
         assert!(rt; holds, "at {place}");
     }
     Ok(())
@@ -182,19 +200,26 @@ fn refuses_a_wrong_byte_of_settings(rt: HostRuntime) -> Result<(), Fail> {
 
 #[test]
 fn refuses_wrong_columns(rt: HostRuntime) {
-    assert!(rt; is_no_settings(rt.alloc(), &NINE_COLUMNS));
-    assert!(rt; is_no_settings(rt.alloc(), &ONE_TWICE));
+    assert!(rt; is_no_settings(rt.alloc(), &NINE_COLUMNS, 1));
+    assert!(rt; is_no_settings(rt.alloc(), &ONE_TWICE, 5));
+}
+
+// Where the fields of settings begin.
+const FIELDS: &[usize] = &[0, 1, 2, 3, 7, 8, 9, 10, 12, 16];
+
+fn is_cut(alloc: Global, cut: usize) -> bool {
+    is_no_settings(alloc, &SETTINGS[..cut], last_until(FIELDS, cut))
 }
 
 #[test]
 fn refuses_settings_that_are_cut_or_longer(rt: HostRuntime) -> Result<(), Fail> {
     for cut in 0..20 {
-        let holds = is_no_settings(rt.alloc(), &SETTINGS[..cut]);
+        let holds = is_cut(rt.alloc(), cut);
         assert!(rt; holds, "cut at {cut}");
     }
     let mut bytes = Vec::from_slice(rt.alloc(), &SETTINGS)?;
     bytes.push(0)?;
-    assert!(rt; is_no_settings(rt.alloc(), &bytes));
+    assert!(rt; is_no_settings(rt.alloc(), &bytes, 20));
     Ok(())
 }
 
@@ -299,94 +324,108 @@ fn decodes_all_kinds(rt: HostRuntime) -> Result<(), Fail> {
     Ok(())
 }
 
-// Its kinds, flags and lengths.
-const WRONG_KINDS: &[(usize, u8)] = &[
-    (3, 2),
-    (3, 4),
-    (12, 0),
-    (12, 2),
-    (26, 1),
-    (35, 2),
-    (36, 0),
-    (41, 3),
-    (50, 1),
-    (51, 2),
-    (52, 2),
+// Its kinds, flags and lengths, and the place that is told.
+const WRONG_KINDS: &[(usize, u8, usize)] = &[
+    (3, 2, 16),
+    (3, 4, 3),
+    (12, 0, 17),
+    (12, 2, 12),
+    (26, 1, 38),
+    (35, 2, 35),
+    (36, 0, 37),
+    (41, 3, 50),
+    (50, 1, 53),
+    (51, 2, 51),
+    (52, 2, 61),
 ];
 
-// Whether the bytes are no commit where another one stands at a place.
-fn is_wrong_commit(
-    alloc: Global,
-    columns: usize,
-    bytes: &[u8],
-    place: usize,
-    byte: u8,
-) -> Result<bool, AllocError> {
-    let bytes = with_byte(alloc, bytes, place, byte)?;
-    Ok(is_no_commit(alloc, columns, &bytes))
+fn is_wrong_kind(alloc: Global, place: usize, byte: u8, want: usize) -> Result<bool, AllocError> {
+    let bytes = with_byte(alloc, &ALL_KINDS, place, byte)?;
+    Ok(is_no_commit(alloc, 2, &bytes, want))
 }
 
 #[test]
 fn refuses_a_wrong_byte_of_all_kinds(rt: HostRuntime) -> Result<(), Fail> {
-    for (place, byte) in WRONG_KINDS {
-        let holds = is_wrong_commit(rt.alloc(), 2, &ALL_KINDS, *place, *byte)?;
+    for (place, byte, want) in WRONG_KINDS {
+        let holds = is_wrong_kind(rt.alloc(), *place, *byte, *want)?;
         assert!(rt; holds, "at {place}");
     }
     Ok(())
+}
+
+// Where its fields begin.
+const KINDS: &[usize] = &[
+    0, 1, 3, 4, 12, 13, 21, 23, 24, 26, 27, 35, 36, 37, 39, 41, 42, 50, 51, 52, 53,
+];
+
+fn are_kinds_cut(alloc: Global, cut: usize) -> bool {
+    is_no_commit(alloc, 2, &ALL_KINDS[..cut], last_until(KINDS, cut))
 }
 
 #[test]
 fn refuses_all_kinds_that_are_cut(rt: HostRuntime) {
     for cut in 0..61 {
-        let holds = is_no_commit(rt.alloc(), 2, &ALL_KINDS[..cut]);
+        let holds = are_kinds_cut(rt.alloc(), cut);
         assert!(rt; holds, "cut at {cut}");
     }
 }
 
-// Each place with a byte that does not belong there: the kind, the count, an UPDATE, a DELETE, a
-// flag, a length, a text's byte.
-const WRONG_INSERT: &[(usize, u8)] = &[
-    (0, 0),
-    (1, 1),
-    (2, 0),
-    (2, 2),
-    (3, 0),
-    (3, 2),
-    (3, 3),
-    (12, 1),
-    (12, 2),
-    (13, 1),
-    (14, 4),
-    (14, 6),
-    (19, 10),
-    (19, 127),
+// Each place with a byte that does not belong there, and the place that is told: the kind, the
+// count, an UPDATE, a DELETE, a flag, a length, a text's byte.
+const WRONG_INSERT: &[(usize, u8, usize)] = &[
+    (0, 0, 0),
+    (1, 1, 20),
+    (2, 0, 1),
+    (2, 2, 20),
+    (3, 0, 3),
+    (3, 2, 13),
+    (3, 3, 12),
+    (12, 1, 13),
+    (12, 2, 12),
+    (13, 1, 15),
+    (14, 4, 19),
+    (14, 6, 15),
+    (19, 10, 15),
+    (19, 127, 15),
 ];
+
+fn is_wrong_insert(alloc: Global, place: usize, byte: u8, want: usize) -> Result<bool, AllocError> {
+    let bytes = with_byte(alloc, &INSERT, place, byte)?;
+    Ok(is_no_commit(alloc, 1, &bytes, want))
+}
 
 #[test]
 fn refuses_a_wrong_byte_of_a_commit(rt: HostRuntime) -> Result<(), Fail> {
-    for (place, byte) in WRONG_INSERT {
-        let holds = is_wrong_commit(rt.alloc(), 1, &INSERT, *place, *byte)?;
+    for (place, byte, want) in WRONG_INSERT {
+        let holds = is_wrong_insert(rt.alloc(), *place, *byte, *want)?;
         assert!(rt; holds, "at {place}");
     }
     Ok(())
 }
 
+// Where the fields of two INSERTs begin.
+const INSERTS: &[usize] = &[0, 1, 3, 4, 12, 13, 15, 18, 20, 21, 29, 30, 32, 34, 36];
+
+fn are_inserts_cut(alloc: Global, cut: usize) -> bool {
+    is_no_commit(alloc, 2, &TWO_INSERTS[..cut], last_until(INSERTS, cut))
+}
+
 #[test]
 fn refuses_commits_that_are_cut_or_longer(rt: HostRuntime) -> Result<(), Fail> {
     for cut in 0..37 {
-        let holds = is_no_commit(rt.alloc(), 2, &TWO_INSERTS[..cut]);
+        let holds = are_inserts_cut(rt.alloc(), cut);
         assert!(rt; holds, "cut at {cut}");
     }
     let mut bytes = Vec::from_slice(rt.alloc(), &TWO_INSERTS)?;
     bytes.push(0)?;
-    assert!(rt; is_no_commit(rt.alloc(), 2, &bytes));
+    assert!(rt; is_no_commit(rt.alloc(), 2, &bytes, 37));
     Ok(())
 }
 
 #[test]
 fn refuses_rows_of_other_tables(rt: HostRuntime) {
-    assert!(rt; is_no_commit(rt.alloc(), 2, &INSERT));
-    assert!(rt; is_no_commit(rt.alloc(), 1, &TWO_INSERTS));
+    assert!(rt; is_no_commit(rt.alloc(), 2, &INSERT, 20));
+    assert!(rt; is_no_commit(rt.alloc(), 1, &TWO_INSERTS, 18));
 }
 
 // The payload of so many INSERTs of an empty text.
@@ -402,7 +441,7 @@ fn inserts(alloc: Global, count: u16) -> Result<Vec<u8>, AllocError> {
 
 fn refuses_so_many(alloc: Global, count: u16) -> Result<bool, AllocError> {
     let bytes = inserts(alloc, count)?;
-    Ok(is_no_commit(alloc, 1, &bytes))
+    Ok(is_no_commit(alloc, 1, &bytes, 1))
 }
 
 #[test]

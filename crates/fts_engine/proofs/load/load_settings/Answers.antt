@@ -27,4 +27,4 @@ returns-clause-damaged g c at e told all holds =
     sym told_place ∙ c.place_of.ensures told all ((c.in_ok-payload.ensures.read told).stays all holds)
     ∙ ap (λ (magic : List ℕ). gate_at magic all 0) c.in_ok-payload.ensures.same.magic in
     wrong_settings (records_magic records) all at c.deref.result.now c.decode_settings.result (omega (arith, as_many all records holds, c.requires)) place
-    (c.deref.ensures.value ∙ c.in_ok-payload.ensures.entry told all holds) c.decode_settings.ensures.exact (c.in-Err-Bad.is ∙ ap Err c.in-Err-Bad.field-0-is)
+    (c.deref.ensures.value ∙ c.in_ok-payload.ensures.entry told all holds) c.decode_settings.ensures.exact _ (c.in-Err-Bad.is ∙ ap Err c.in-Err-Bad.field-0-is)

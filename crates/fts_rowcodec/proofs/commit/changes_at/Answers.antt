@@ -1,8 +1,7 @@
 use Rattle.std.proofs.lemmas.Result.{err_from_is_err_and}
-use Rattle.fts_codec.specs.Reading.{many_at}
+use Rattle.fts_codec.specs.Fields.{many_at}
 use Rattle.fts_rowcodec.specs.Reading.{change_at}
-use Rattle.fts_codec.proofs.Loop.{begins, goes_on, is_done}
-use Rattle.fts_rowcodec.proofs.Loop.{ends}
+use Rattle.fts_codec.proofs.Loop.{begins, goes_on, ends, is_done}
 use Rattle.fts_rowcodec.proofs.commit.changes_at.Goals as goal
 
 pub loop-init : goal.loop-init
@@ -12,7 +11,7 @@ pub returns-in_err-change : goal.returns-in_err-change
 returns-in_err-change c =
     let one = change_at c.args.columns in
     let p = err_from_is_err_and c.from_residual.result c.from_residual.ensures.1 in
-    rw (p.1, p.2) (ends c.in_err-change.field-0.0 one c.loop.changes.items c.args.count c.loop.counter c.loop.rest.now (many_at one c.args.count c.args.bytes.now) c.loop-test.true c.in_err-change.ensures c.loop.invariant)
+    rw (p.1, p.2) (ends one c.loop.changes.items c.args.count c.loop.counter c.loop.rest.now (many_at one c.args.count c.args.bytes.now) c.in_err-change.field-0.0 c.loop-test.true c.in_err-change.ensures c.loop.invariant)
 
 pub loop-preserved : goal.loop-preserved
 loop-preserved c =

@@ -1,6 +1,6 @@
 use Rattle.std.proofs.Common.{◌≡◌, ◌-◌, map}
 use Rattle.fts_commits.specs.NewText.{new_text}
-use Rattle.fts_codec.specs.Reading.{many_at}
+use Rattle.fts_codec.specs.Fields.{many_at}
 use Rattle.fts_rowcodec.specs.Reading.{new_at}
 use Rattle.fts_codec.proofs.Loop.{with_front}
 use Rattle.fts_rowcodec.proofs.commit.news_at.Given as goal

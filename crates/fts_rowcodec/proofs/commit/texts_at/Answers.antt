@@ -1,18 +1,21 @@
-use Rattle.fts_codec.specs.Reading.{many_at}
+use Rattle.std.proofs.lemmas.Result.{err_from_is_err_and}
+use Rattle.fts_codec.specs.Fields.{many_at}
 use Rattle.fts_rowcodec.specs.Reading.{text_at}
-use Rattle.fts_codec.proofs.Loop.{begins, goes_on, no_more, is_done}
+use Rattle.fts_codec.proofs.Loop.{begins, goes_on, ends, is_done}
 use Rattle.fts_rowcodec.proofs.commit.texts_at.Goals as goal
 
 pub loop-init : goal.loop-init
 loop-init c = rw c.new-texts.ensures (begins text_at c.args.count c.args.bytes.now)
 
-pub returns-in_default : goal.returns-in_default
-returns-in_default c = no_more text_at c.loop.texts c.args.count c.loop.counter c.loop.rest.now (many_at text_at c.args.count c.args.bytes.now) c.loop-test.true c.in_default.ensures c.loop.invariant
+pub returns-in_err-text : goal.returns-in_err-text
+returns-in_err-text c =
+    let p = err_from_is_err_and c.from_residual.result c.from_residual.ensures.1 in
+    rw (p.1, p.2) (ends text_at c.loop.texts c.args.count c.loop.counter c.loop.rest.now (many_at text_at c.args.count c.args.bytes.now) c.in_err-text.field-0.0 c.loop-test.true c.in_err-text.ensures c.loop.invariant)
 
 pub loop-preserved : goal.loop-preserved
 loop-preserved c =
     rw (c.in_ok-push.ensures.ok, c.in_ok-from_slice.ensures.items)
-    (goes_on text_at c.loop.texts c.args.count c.loop.counter c.loop.rest.now (many_at text_at c.args.count c.args.bytes.now) c.in-Some.text.now c.in-Some.after.now c.loop-test.true c.in-Some.ensures c.loop.invariant)
+    (goes_on text_at c.loop.texts c.args.count c.loop.counter c.loop.rest.now (many_at text_at c.args.count c.args.bytes.now) c.in_ok-text.text.now c.in_ok-text.after.now c.loop-test.true c.in_ok-text.ensures c.loop.invariant)
 
 pub returns : goal.returns
 returns c = is_done text_at c.loop.texts c.args.count c.loop.counter c.loop.rest.now (many_at text_at c.args.count c.args.bytes.now) c.loop-test.false c.loop.invariant

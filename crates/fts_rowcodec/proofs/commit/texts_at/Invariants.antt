@@ -1,5 +1,5 @@
 use Rattle.std.proofs.Common.{◌≡◌, ◌-◌}
-use Rattle.fts_codec.specs.Reading.{many_at}
+use Rattle.fts_codec.specs.Fields.{many_at}
 use Rattle.fts_rowcodec.specs.Reading.{text_at}
 use Rattle.fts_codec.proofs.Loop.{with_front}
 use Rattle.fts_rowcodec.proofs.commit.texts_at.Given as goal
