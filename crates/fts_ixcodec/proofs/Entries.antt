@@ -16,11 +16,12 @@ use Rattle.fts_entries.specs.Entry.{Batch, IndexEntry}
 use Rattle.fts_entries.specs.Entry.IndexEntry.{sealed, begun, worked, finished}
 use Rattle.fts_ixcodec.specs.Payload.{word_payload, list_payload, nodes_payload, node_count, entry_payload, IsNode, AreNodes, IsGroup, AreGroups, IsEntry}
 use Rattle.fts_ixcodec.specs.Building.{nothing, batch_of}
-use Rattle.fts_ixcodec.specs.Reading.{◌>>=◌, field, word_at, more_at, node_at, many_at, batch_at, lists_at, sealed_at, worked_at, entry_at, entry_of}
-use Rattle.fts_ixcodec.specs.declared.error.Fault.{Fault}
-use Rattle.fts_ixcodec.specs.declared.error.Fault.TheVariants.{Bad}
-use Rattle.fts_ixcodec.specs.Fault.{Lacks}
-use Rattle.fts_ixcodec.proofs.Binds.{bind_ok, field_ok, passed_ok, ok_is}
+use Rattle.fts_codec.specs.Fields.{◌>>=◌, field}
+use Rattle.fts_ixcodec.specs.Reading.{word_at, more_at, node_at, many_at, batch_at, lists_at, sealed_at, worked_at, entry_at, entry_of}
+use Rattle.fts_codec.specs.declared.fault.Fault.{Fault}
+use Rattle.fts_codec.specs.declared.fault.Fault.TheVariants.{Bad}
+use Rattle.fts_codec.specs.Fault.{Lacks}
+use Rattle.fts_codec.proofs.Fields.{bind_ok, field_ok, passed_ok, ok_is}
 use Rattle.fts_ixcodec.proofs.ReadWords.{word_takes, word_again, not_before_nothing, behind_nothing}
 use Rattle.fts_ixcodec.proofs.Nodes.{IsLast, lists_take, lists_again, nodes_take, nothing_read, groups_read, groups_again}
 
@@ -180,13 +181,3 @@ same_entry rules bytes read entry given is e = ok_is read entry (sym given ∙ a
 
 pub never_refused : (rules : Rules) (bytes : List ℕ) (left : ℕ) (entry : IndexEntry) → entry_of rules bytes ≡ Err left → IsEntry rules entry → bytes ≡ entry_payload entry → ⊥
 never_refused rules bytes left entry given is e = let whole : entry_of rules bytes ≡ Ok entry = ap (entry_of rules) e ∙ entry_again rules entry is in absurd cc
-
--- so many bytes are left, and the others stand before them
-pub place_told : (rules : Rules) (bytes : List ℕ) (left : ℕ) → left ≤ length bytes → entry_of rules bytes ≡ Err left → (length bytes - left ≤ length bytes) × (entry_of rules bytes ≡ Err (length bytes - (length bytes - left)))
-place_told rules bytes left within e =
-    let back : left ≡ length bytes - (length bytes - left) = omega (arith, within) in
-    (omega arith, e ∙ ap (λ (n : ℕ). Err n) back)
-
--- what a reader tells of a fault
-pub left_told : (fault : Fault) (left : ℕ) (read : Result IndexEntry ℕ) → fault ≡ Bad left → Lacks fault read → read ≡ Err left
-left_told fault left read is lacks = subst (λ (f : Fault). Lacks f read) is lacks

@@ -1,10 +1,9 @@
-pub mod Binds
 pub mod Loop
 pub mod ReadWords
 pub mod ReadLists
 pub mod Walks
 pub mod Nodes
-pub mod Within
+pub mod Places
 pub mod Entries
 pub mod Forms
 pub mod Batches

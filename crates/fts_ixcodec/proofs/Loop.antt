@@ -1,8 +1,8 @@
 -- Reading nodes one behind another, as a loop does.
 use Rattle.std.proofs.Common.{◌≡◌, ℕ, suc, ◌-◌, ◌+◌, ◌≤◌, ◌<◌, List, Result, Ok, Err, refl, sym, ap, ◌∙◌, arith}
-use Rattle.fts_ixcodec.specs.declared.error.Fault.{Fault}
-use Rattle.fts_ixcodec.specs.declared.error.Fault.TheVariants.{NoMemory, Bad}
-use Rattle.fts_ixcodec.specs.Fault.{Lacks}
+use Rattle.fts_codec.specs.declared.fault.Fault.{Fault}
+use Rattle.fts_codec.specs.declared.fault.Fault.TheVariants.{NoMemory, Bad}
+use Rattle.fts_codec.specs.Fault.{Lacks}
 use Rattle.fts_ixcodec.specs.Building.{Building}
 use Rattle.fts_ixcodec.specs.Reading.{many_at}
 

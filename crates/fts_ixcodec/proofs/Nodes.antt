@@ -22,7 +22,7 @@ use Rattle.fts_entries.specs.Entry.{Batch}
 use Rattle.fts_ixcodec.specs.Payload.{word_payload, list_payload, node_payload, nodes_payload, node_count, IsWord, IsNode, AreNodes, IsGroup, AreGroups}
 use Rattle.fts_ixcodec.specs.Building.{Building, nothing, group_of, batch_of, turned_to, with_node}
 use Rattle.fts_ixcodec.specs.Reading.{word_at, list_at, more_at, node_at, many_at}
-use Rattle.fts_ixcodec.proofs.Binds.{bind_ok, ok_is}
+use Rattle.fts_codec.proofs.Fields.{bind_ok, ok_is}
 use Rattle.fts_ixcodec.proofs.ReadWords.{word_takes, word_again}
 use Rattle.fts_ixcodec.proofs.ReadLists.{list_takes, list_again}
 

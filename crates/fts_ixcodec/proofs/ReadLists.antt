@@ -11,8 +11,10 @@ use Rattle.fts_ilist.specs.Node.{Docs, BeginsAfter}
 use Rattle.fts_ilist.specs.Packing.{is_sound}
 use Rattle.fts_ilist.proofs.Postings.{postings_in-bytes}
 use Rattle.fts_ixcodec.specs.Payload.{list_payload, IsNode}
-use Rattle.fts_ixcodec.specs.Reading.{◌>>=◌, field, or_left, are_from, are_after, is_list, begin_after, node_with, node_in, list_at}
-use Rattle.fts_ixcodec.proofs.Binds.{bind_ok, field_ok, ok_is}
+use Rattle.fts_ixcodec.specs.Grammar.{IsNext}
+use Rattle.fts_codec.specs.Fields.{◌>>=◌, field, or_left}
+use Rattle.fts_ixcodec.specs.Reading.{are_from, are_after, is_list, begin_after, node_with, node_in, list_at}
+use Rattle.fts_codec.proofs.Fields.{bind_ok, field_ok, ok_is}
 
 same_text : (v w : List ℕ) → bytes_eq v w ≡ true → v ≡ w
 same_text v w e = (bytes_eq-Decides v w).0 e
@@ -87,17 +89,11 @@ begins_told : (last : ℕ) (docs : Docs) → BeginsAfter last docs → begin_aft
 begins_told last [] h = absurd h
 begins_told last (p ∷ ps) h = lt-ltb last p.id h
 
--- documents that have a list, and make a node behind an id
-pub record IsNext (last : ℕ) (docs : Docs) : Type 0 where
-  pub are : ArePostings docs
-  pub after : BeginsAfter last docs
-  pub sound : is_sound docs ≡ true
-
 passed_some : {A : Type 0} (b : Bool) (o : Option A) (x : A) → cond b o None ≡ Some x → (b ≡ true) × (o ≡ Some x)
 passed_some true o x e = (refl, e)
 passed_some false o x e = absurd cc
 
-node_found : (last : ℕ) (bytes : List ℕ) (docs : Docs) → node_in last bytes ≡ Some docs → IsNext last docs × (bytes ≡ list_bytes docs)
+pub node_found : (last : ℕ) (bytes : List ℕ) (docs : Docs) → node_in last bytes ≡ Some docs → IsNext last docs × (bytes ≡ list_bytes docs)
 node_found last bytes docs e =
     let outer = passed_some (is_list bytes) (node_with last (postings_in 0 bytes)) docs e in
     let inner = passed (begin_after last (postings_in 0 bytes) && is_sound (postings_in 0 bytes)) (postings_in 0 bytes) docs outer.1 in
@@ -106,7 +102,7 @@ node_found last bytes docs e =
     subst (λ (d : Docs). IsNext last d × (bytes ≡ list_bytes d)) inner.1
     (record { are = list.0; after = begins_so last (postings_in 0 bytes) parts.0; sound = parts.1 }, list.1)
 
-node_again : (last : ℕ) (docs : Docs) → IsNext last docs → node_in last (list_bytes docs) ≡ Some docs
+pub node_again : (last : ℕ) (docs : Docs) → IsNext last docs → node_in last (list_bytes docs) ≡ Some docs
 node_again last docs is = node_is last (list_bytes docs) docs is.are refl ∙ rw (begins_told last docs is.after, is.sound) refl
 
 abbrev behind_list : ℕ → ℕ × List ℕ → List ℕ × List ℕ → Result (Docs × List ℕ) ℕ

@@ -9,10 +9,11 @@ use Rattle.fts_codec.proofs.Spelled.{IsBytes, passed, Takes, takes_both, piece_t
 use Rattle.fts_words.specs.Indexed.{Rules}
 use Rattle.fts_words.specs.Order.{byte_order}
 use Rattle.fts_ixcodec.specs.Payload.{form_step, is_form_from, is_form, word_payload, IsWord}
-use Rattle.fts_ixcodec.specs.Reading.{◌>>=◌, field, size_at, may_follow, word_at}
-use Rattle.fts_ixcodec.proofs.Binds.{bind_ok, field_ok, passed_ok}
+use Rattle.fts_codec.specs.Fields.{◌>>=◌, field}
+use Rattle.fts_ixcodec.specs.Reading.{size_at, may_follow, word_at}
+use Rattle.fts_codec.proofs.Fields.{bind_ok, field_ok, passed_ok}
 
-size_takes : (rules : Rules) (bytes : List ℕ) (size : ℕ) (rest : List ℕ) → IsBytes bytes → size_at rules bytes ≡ Some (size, rest) → (rules.min ≤ size) × (size ≤ rules.max) × Takes bytes (size ∷ []) rest
+pub size_takes : (rules : Rules) (bytes : List ℕ) (size : ℕ) (rest : List ℕ) → IsBytes bytes → size_at rules bytes ≡ Some (size, rest) → (rules.min ≤ size) × (size ≤ rules.max) × Takes bytes (size ∷ []) rest
 size_takes rules [] size rest fits e = absurd cc
 size_takes rules (first ∷ bytes) size rest fits e =
     let g = passed (is_in_range rules.min rules.max first) (first, bytes) (size, rest) e in
@@ -20,7 +21,7 @@ size_takes rules (first ∷ bytes) size rest fits e =
     subst (λ (p : ℕ × List ℕ). (rules.min ≤ p.0) × (p.0 ≤ rules.max) × Takes (first ∷ bytes) (p.0 ∷ []) p.1) g.1
     (leb-true rules.min first parts.0, leb-true first rules.max parts.1, (refl, λ i. fits (suc i)))
 
-not_true : (b : Bool) → not b ≡ true → b ≡ false
+pub not_true : (b : Bool) → not b ≡ true → b ≡ false
 not_true true e = absurd cc
 not_true false e = refl
 

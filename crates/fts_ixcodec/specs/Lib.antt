@@ -1,7 +1,7 @@
 pub mod Payload
 pub mod Building
 pub mod Reading
-pub mod Fault
 pub mod Seen
+pub mod Grammar
 pub mod DecodeError
 pub mod Measure

@@ -6,6 +6,7 @@ use Rattle.std.specs.Int.{w32, w64, is_in_range}
 use Rattle.std.specs.Str.{bytes_eq}
 use Rattle.std.specs.Ordering.{is_lt}
 use Rattle.fts_codec.specs.Reading.{number_at, piece_at}
+use Rattle.fts_codec.specs.Fields.{◌>>=◌, or_left, field}
 use Rattle.fts_words.specs.Indexed.{Rules}
 use Rattle.fts_words.specs.Order.{byte_order}
 use Rattle.fts_ilist.specs.Spelling.{Posting, list_bytes}
@@ -16,20 +17,6 @@ use Rattle.fts_entries.specs.Entry.{Batch, IndexEntry}
 use Rattle.fts_entries.specs.Entry.IndexEntry.{sealed, begun, worked, finished}
 use Rattle.fts_ixcodec.specs.Payload.{is_form}
 use Rattle.fts_ixcodec.specs.Building.{Building, nothing, batch_of, turned_to, with_node}
-
-infixl 10 ◌>>=◌
-abbrev pub ◌>>=◌ : {A B : Type 0} → Result A ℕ → (A → Result B ℕ) → Result B ℕ
-(Ok x) >>= f = f x
-(Err left) >>= f = Err left
-
--- a field that may be missing
-abbrev pub or_left : {X : Type 0} → ℕ → Option X → Result X ℕ
-or_left left (Some x) = Ok x
-or_left left None = Err left
-
--- a field at the front of bytes
-abbrev pub field : {X : Type 0} → (List ℕ → Option X) → List ℕ → Result X ℕ
-field read bytes = or_left (length bytes) (read bytes)
 
 -- ---- words
 

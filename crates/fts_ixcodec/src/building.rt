@@ -2,12 +2,12 @@
 ghost use Rattle.std.specs.Prelude.{◌≡◌, ◌++◌, OnOk, IfOk};
 ghost use Rattle.fts_types.specs.Rules.{rules_of};
 ghost use Rattle.fts_ixcodec.specs.Building.{nothing, group_of, batch_of, turned_to, with_node};
-ghost use Rattle.fts_ixcodec.specs.Fault.{Gives};
+ghost use Rattle.fts_codec.specs.Fault.{Gives};
 ghost use Rattle.fts_ixcodec.specs.Reading.{more_at, node_at, one_at, many_at, batch_at, lists_at};
 
-use crate::error::Fault;
 use crate::lists::list_at;
 use crate::words::word_at;
+use fts_codec::Fault;
 use fts_ilist::{Node, NodeGroup, Nodes, WordNodes};
 use fts_types::{DocId, Settings};
 use std::alloc::{AllocError, Global};

@@ -1,7 +1,3 @@
-ghost use Rattle.std.specs.Prelude.{◌≡◌, length};
-ghost use Rattle.fts_ixcodec.specs.declared.error.Fault.TheVariants as faults;
-
-use std::alloc::{AllocError, AllocFailed};
 use std::error::Error;
 use std::fmt;
 
@@ -28,37 +24,3 @@ impl fmt::Display for DecodeError {
 }
 
 impl Error for DecodeError {}
-
-/// Why a reader stopped.
-#[derive(Clone, Copy, Debug, PartialEq, Eq)]
-pub(crate) enum Fault {
-    /// Memory ran out.
-    NoMemory,
-    /// A field can't stand there; so many bytes are left from it on.
-    Bad { left: usize },
-}
-
-impl Fault {
-    /// The field that begins these bytes can't stand there.
-    pub(crate) fn at(bytes: &[u8]) -> Fault
-        ensures { result ≡ faults.Bad (length bytes.now) }
-    {
-        Fault::Bad { left: bytes.len() }
-    }
-}
-
-impl From<AllocError> for Fault {
-    ghost from_gives = { λ _ e. e ≡ faults.NoMemory };
-
-    fn from(_e: AllocError) -> Fault {
-        Fault::NoMemory
-    }
-}
-
-impl<T: Drop> From<AllocFailed<T>> for Fault {
-    ghost from_gives = { λ _ e. e ≡ faults.NoMemory };
-
-    fn from(_e: AllocFailed<T>) -> Fault {
-        Fault::NoMemory
-    }
-}

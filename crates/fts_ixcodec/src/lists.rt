@@ -1,10 +1,9 @@
 //! Nodes at the front of some bytes.
 ghost use Rattle.fts_codec.specs.Reading.{Finds};
-ghost use Rattle.fts_ixcodec.specs.Fault.{Gives};
+ghost use Rattle.fts_codec.specs.Fault.{Gives};
 ghost use Rattle.fts_ixcodec.specs.Reading.{node_with, node_in, list_at};
 
-use crate::error::Fault;
-use fts_codec::{bytes_at, u32_at};
+use fts_codec::{Fault, bytes_at, u32_at};
 use fts_ilist::Node;
 use fts_types::DocId;
 

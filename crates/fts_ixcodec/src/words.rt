@@ -2,12 +2,11 @@
 ghost use Rattle.std.specs.Prelude.{◌≡◌};
 ghost use Rattle.fts_types.specs.Rules.{rules_of};
 ghost use Rattle.fts_codec.specs.Reading.{Finds};
-ghost use Rattle.fts_ixcodec.specs.Fault.{Gives};
+ghost use Rattle.fts_codec.specs.Fault.{Gives};
 ghost use Rattle.fts_ixcodec.specs.Payload.{is_form, form_step, is_lower_byte};
 ghost use Rattle.fts_ixcodec.specs.Reading.{size_at, may_follow, word_at};
 
-use crate::error::Fault;
-use fts_codec::bytes_at;
+use fts_codec::{Fault, bytes_at};
 use fts_types::Settings;
 
 /// A lower-case letter, a digit or `_`.
