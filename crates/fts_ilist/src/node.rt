@@ -1,6 +1,6 @@
 //! Nodes, and words with their nodes.
 ghost use Rattle.std.specs.Prelude.{◌≡◌, ◌≢◌, ◌∷◌, ◌++◌, ◌↔◌, [], List, length, IfSome, IfNone};
-ghost use Rattle.std.specs.Prelude.{IfOk, OnOk, IsTrue};
+ghost use Rattle.std.specs.Prelude.{IfOk, IfErr, OnOk, OnErr, IsTrue};
 ghost use Rattle.fts_ilist.specs.Spelling.{Posting, ArePostings, HasFirstId, last_id, list_bytes};
 ghost use Rattle.fts_ilist.specs.Node.{body_size, head_size};
 ghost use Rattle.fts_ilist.specs.Packing.{is_sound};
@@ -14,7 +14,7 @@ use crate::node_list::NodeRef;
 use crate::reading::last_of;
 use fts_types::{DocId, Word};
 use smallvec::SmallVec;
-use std::alloc::{AllocError, Global};
+use std::alloc::{AllocFailed, Global};
 use std::marker::Model;
 use std::{mem, slice};
 
@@ -269,38 +269,71 @@ impl<'a> NodeGroup<'a> {
         self.as_slice().is_empty()
     }
 
-    /// Puts a node behind the others. Where there is no memory, none is left.
-    pub fn push(&mut self, alloc: Global, node: Node<'a>) -> Result<(), AllocError>
-        ensures { OnOk result (self.new ≡ self.old ++ node.entry ∷ []) }
+    /// Puts a node behind the others. Where memory is wanting, it gives the node back, and the
+    /// nodes are as before.
+    pub fn push(&mut self, alloc: Global, node: Node<'a>) -> Result<(), AllocFailed<Node<'a>>>
+        ensures ok { OnOk result (self.new ≡ self.old ++ node.entry ∷ []) }
+        ensures err { OnErr result (self.new ≡ self.old) }
+        ensures back { IfErr result (λ failed. failed.value ≡ node.entry) }
     {
-        let held = mem::replace(
-            &mut self.held,
-            Held::Many {
-                nodes: Vec::new(alloc),
-            },
-        );
-        self.held = held_with(alloc, held, node)?;
-        Ok(())
+        let none = Held::Many {
+            nodes: Vec::new(alloc),
+        };
+        match held_with(alloc, mem::replace(&mut self.held, none), node) {
+            Ok(more) => {
+                self.held = more;
+                Ok(())
+            }
+            Err((held, node)) => {
+                self.held = held;
+                Err(AllocFailed { value: node })
+            }
+        }
     }
 }
 
-/// One node more behind others.
-fn held_with<'a>(alloc: Global, held: Held<'a>, node: Node<'a>) -> Result<Held<'a>, AllocError>
-    ensures { IfOk result (λ more. held_nodes more ≡ held_nodes held.entry ++ node.entry ∷ []) }
+/// Two nodes. Where memory is wanting, both come back.
+fn both<'a>(
+    alloc: Global,
+    first: Node<'a>,
+    second: Node<'a>,
+) -> Result<Vec<Node<'a>>, (Node<'a>, Node<'a>)>
+    ensures ok { IfOk result (λ nodes. nodes.items ≡ first.entry ∷ second.entry ∷ []) }
+    ensures back { IfErr result (λ nodes. nodes ≡ (first.entry, second.entry)) }
+{
+    match Vec::with_capacity(alloc, 2) {
+        Ok(mut nodes) => {
+            nodes.push(first).unwrap();
+            nodes.push(second).unwrap();
+            Ok(nodes)
+        }
+        Err(_) => Err((first, second)),
+    }
+}
+
+/// One node more behind others. Where memory is wanting, all come back.
+fn held_with<'a>(
+    alloc: Global,
+    held: Held<'a>,
+    node: Node<'a>,
+) -> Result<Held<'a>, (Held<'a>, Node<'a>)>
+    ensures ok { IfOk result (λ more. held_nodes more ≡ held_nodes held.entry ++ node.entry ∷ []) }
+    ensures back { IfErr result (λ kept. held_nodes kept.0 ≡ held_nodes held.entry) }
+    ensures node_back { IfErr result (λ kept. kept.1 ≡ node.entry) }
 {
     match held {
-        Held::One { node: first } => {
-            let mut nodes = Vec::with_capacity(alloc, 2)?;
-            nodes.push(first)?;
-            nodes.push(node)?;
-            Ok(Held::Many { nodes })
-        }
+        Held::One { node: first } => match both(alloc, first, node) {
+            Ok(nodes) => Ok(Held::Many { nodes }),
+            Err((first, node)) => Err((Held::One { node: first }, node)),
+        },
         Held::Many { mut nodes } => {
             if nodes.is_empty() {
                 return Ok(Held::One { node });
             }
-            nodes.push(node)?;
-            Ok(Held::Many { nodes })
+            match nodes.push(node) {
+                Ok(()) => Ok(Held::Many { nodes }),
+                Err(failed) => Err((Held::Many { nodes }, failed.value)),
+            }
         }
     }
 }

@@ -81,7 +81,8 @@ impl<'a> Building<'a> {
         ensures { OnOk result (self.new ≡ with_node self.old node.entry) }
     {
         self.last = node.last();
-        self.nodes.push(alloc, node)
+        self.nodes.push(alloc, node)?;
+        Ok(())
     }
 
     /// Takes the node of the last word whose list begins the bytes, and gives what is behind it.

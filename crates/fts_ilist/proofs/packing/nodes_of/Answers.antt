@@ -12,7 +12,7 @@ loop-list-preserved c =
     record {
       can_next = tt;
       is_finite = tt;
-      same = ap (λ (docs : List Docs). docs ++ rest) (c.in_ok-push.ensures ∙ ap (λ (d : Docs). old ++ d ∷ []) c.new.ensures)
+      same = ap (λ (docs : List Docs). docs ++ rest) (c.in_ok-push.ensures.ok ∙ ap (λ (d : Docs). old ++ d ∷ []) c.new.ensures)
           ∙ append_assoc old (list ∷ []) rest
           ∙ ap (λ (docs : List Docs). old ++ docs) (sym c.in-Some.ensures.steps.0)
           ∙ c.loop-list.invariant.same;

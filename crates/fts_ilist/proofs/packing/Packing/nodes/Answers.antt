@@ -14,7 +14,7 @@ returns-then-is_empty c =
 
 pub returns : goal.returns
 returns c =
-    c.in_ok-push.ensures
+    c.in_ok-push.ensures.ok
     ∙ ap (λ ns. ns ++ c.new-2.result ∷ []) c.in_ok-nodes.ensures
     ∙ ap (λ (n : Docs). c.self.inside.closed.items ++ n ∷ []) c.new-2.ensures
     ∙ sym (packed_all c.self.inside.closed.items c.self.inside.begun c.self.invariant (λ none. false≢true (sym c.if-is_empty.false ∙ c.is_empty.ensures.1 none)))
