@@ -1,7 +1,8 @@
 -- Rows are written one list behind another.
-use Rattle.std.proofs.Common.{◌≡◌, ℕ, ◌+◌, List, [], ◌∷◌, ◌++◌, length, refl, sym, ap, ◌∙◌, arith}
-use Rattle.std.specs.Prelude.{Result, Ok, Err, OnOk, decimal}
-use Rattle.std.proofs.lemmas.List.{append_assoc, append-nil, length-append}
+use Rattle.std.proofs.Common.{◌≡◌, ℕ, ◌+◌, List, [], ◌∷◌, ◌++◌, length, take, drop, refl, sym, ap, ◌∙◌, arith}
+use Rattle.std.specs.Prelude.{Result, Ok, Err, OnOk, OnErr, decimal}
+use Rattle.std.proofs.Math.Seq.{take-append_seam}
+use Rattle.std.proofs.lemmas.List.{append_assoc, append-nil, length-append, take-append-drop}
 use Rattle.fts_schema.specs.Listing.{lines}
 use Rattle.fts_schema.specs.Reply.{ids_text}
 use Rattle.fts_schema.specs.Rows.{Puts}
@@ -57,6 +58,11 @@ pub ok_so : {T E : Type 0} → (result : Result T E) (P Q : Type 0) → (P → Q
 ok_so (Ok value) P Q so is = so is
 ok_so (Err error) P Q so is = tt
 
+-- what holds anyway is told at a failure
+pub err_so : {T E : Type 0} → (result : Result T E) (P : Type 0) → P → OnErr result P
+err_so (Ok value) P is = tt
+err_so (Err error) P is = is
+
 ids_text-append : (ids more : List ℕ) → ids_text (ids ++ more) ≡ ids_text ids ++ ids_text more
 ids_text-append [] more = refl
 ids_text-append (id ∷ ids) more =
@@ -70,3 +76,18 @@ some_written old text new all rest some others so put parts =
     ∙ append_assoc text (ids_text some) (ids_text others)
     ∙ ap (λ (t : List ℕ). text ++ t) (sym (ids_text-append some others) ∙ ap ids_text (sym parts))
     ∙ so
+
+-- what a text begins with is kept where more is written behind it
+pub more_kept : (start text more : List ℕ) → take (length start) text ≡ start → take (length start) (text ++ more) ≡ start
+more_kept start text more kept =
+    let rest = drop (length start) text in
+    let whole : text ≡ start ++ rest = sym (take-append-drop (length start) text) ∙ ap (λ (t : List ℕ). t ++ rest) kept in
+    ap (λ (t : List ℕ). take (length start) (t ++ more)) whole ∙ ap (take (length start)) (append_assoc start rest more)
+    ∙ take-append_seam start (rest ++ more)
+
+-- and so is what that begins with
+pub front_kept : (start front text : List ℕ) → take (length (start ++ front)) text ≡ start ++ front → take (length start) text ≡ start
+front_kept start front text kept =
+    let rest = drop (length (start ++ front)) text in
+    let whole : text ≡ (start ++ front) ++ rest = sym (take-append-drop (length (start ++ front)) text) ∙ ap (λ (t : List ℕ). t ++ rest) kept in
+    ap (take (length start)) (whole ∙ append_assoc start front rest) ∙ take-append_seam start (front ++ rest)

@@ -1,5 +1,6 @@
 //! The ids that a search found, as text.
-ghost use Rattle.std.specs.Prelude.{◌≡◌, ◌+◌, ◌*◌, ◌≤◌, ◌∷◌, ◌++◌, decimal, drop, length, OnOk};
+ghost use Rattle.std.specs.Prelude.{◌≡◌, ◌+◌, ◌*◌, ◌≤◌, ◌∷◌, ◌++◌, decimal, drop, length, take};
+ghost use Rattle.std.specs.Prelude.{OnOk, OnErr};
 ghost use Rattle.fts_schema.specs.Reply.{ids_text};
 
 use itoa::write_digits;
@@ -49,15 +50,18 @@ fn put_ids(buf: &mut [u8], ids: &[u64]) -> usize
 fn push_some(text: &mut Vec<u8>, buf: &mut [u8], ids: &[u64]) -> Result<(), AllocError>
     requires { length ids.now * 21 ≤ length buf.old }
     ensures text { OnOk result (text.new.items ≡ text.old.items ++ ids_text ids.now) }
+    ensures err { OnErr result (text.new.items ≡ text.old.items) }
     ensures size { length buf.new ≡ length buf.old }
 {
     let start = put_ids(buf, ids);
     text.extend_from_slice(&buf[start..])
 }
 
-/// Writes ids behind a text, each with a space before it.
+/// Writes ids behind a text, each with a space before it. Where memory runs out, some may stand
+/// behind it.
 pub fn push_ids(text: &mut Vec<u8>, ids: &[u64]) -> Result<(), AllocError>
-    ensures { OnOk result (text.new.items ≡ text.old.items ++ ids_text ids.now) }
+    ensures ok { OnOk result (text.new.items ≡ text.old.items ++ ids_text ids.now) }
+    ensures kept { OnErr result (take (length text.old.items) text.new.items ≡ text.old.items) }
 {
     let mut buf = [0; ROOM];
     let mut rest = ids;

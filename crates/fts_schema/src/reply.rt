@@ -1,5 +1,5 @@
 ghost use Rattle.std.specs.Prelude.{◌≡◌, ◌∷◌, ◌++◌, [], ℕ, List, true, false, codes, string_bytes};
-ghost use Rattle.std.specs.Prelude.{OnOk, IfOk, IfSome, IfNone};
+ghost use Rattle.std.specs.Prelude.{OnOk, OnErr, IfOk, IfSome, IfNone, length, take};
 ghost use Rattle.fts_schema.specs.Reply.{text_of, is_fixed, pass_text as the_pass_text};
 
 use crate::ids::push_ids;
@@ -121,29 +121,31 @@ pub fn reply_text(alloc: Global, reply: &Reply) -> Result<Vec<u8>, AllocError>
     }
 }
 
-/// Puts the text of a reply, as `reply_text` makes it, in the place of another. It is written into
-/// the memory of that one where it fits, so that searches write into the same again and again.
+/// Puts the text of a reply, as `reply_text` makes it, behind what stands. It is written into the
+/// memory that stands ready where it fits, so that a text that is cleared takes one search's reply
+/// after another. Where memory runs out, the text is as before.
 ///
 /// The only error is want of memory.
 pub fn put_reply_text(text: &mut Vec<u8>, reply: &Reply) -> Result<(), AllocError>
-    ensures { OnOk result (text.new.items ≡ text_of reply.now) }
+    ensures ok { OnOk result (text.new.items ≡ text.old.items ++ text_of reply.now) }
+    ensures err { OnErr result (text.new.items ≡ text.old.items) }
 {
     if let Reply::Found { number, docs } = reply {
         return put_found_text(text, *number, docs.as_slice());
     }
     let other = reply_text(*text.allocator(), reply)?;
-    replace(text, other)
+    put_text(text, other)
 }
 
-// Puts bytes in the place of others, in whose memory they are written where they fit.
-fn replace(text: &mut Vec<u8>, other: Vec<u8>) -> Result<(), AllocError>
-    ensures { OnOk result (text.new.items ≡ other.items) }
+// Puts bytes behind others. Where none stand and there is no room for them, they are moved.
+fn put_text(text: &mut Vec<u8>, other: Vec<u8>) -> Result<(), AllocError>
+    ensures ok { OnOk result (text.new.items ≡ text.old.items ++ other.items) }
+    ensures err { OnErr result (text.new.items ≡ text.old.items) }
 {
-    if other.len() > text.capacity() {
+    if text.is_empty() && other.len() > text.capacity() {
         *text = other;
         return Ok(());
     }
-    text.clear();
     text.extend_from_slice(&other)
 }
 
@@ -245,12 +247,29 @@ fn found_text(alloc: Global, number: u64, docs: &[u64]) -> Result<Vec<u8>, Alloc
     Ok(text)
 }
 
-// Puts what a search found in the place of a text.
+// Puts what a search found behind a text.
 fn put_found_text(text: &mut Vec<u8>, number: u64, docs: &[u64]) -> Result<(), AllocError>
-    ensures { OnOk result (text.new.items ≡ text_of (Reply.Found number docs.now)) }
+    ensures ok { OnOk result (text.new.items
+        ≡ text.old.items ++ text_of (Reply.Found number docs.now)) }
+    ensures err { OnErr result (text.new.items ≡ text.old.items) }
+{
+    let stood = text.len();
+    match push_found_text(text, number, docs) {
+        Ok(()) => Ok(()),
+        Err(error) => {
+            text.truncate(stood);
+            Err(error)
+        }
+    }
+}
+
+// Writes what a search found behind a text. Where memory runs out, a part may stand there.
+fn push_found_text(text: &mut Vec<u8>, number: u64, docs: &[u64]) -> Result<(), AllocError>
+    ensures ok { OnOk result (text.new.items
+        ≡ text.old.items ++ text_of (Reply.Found number docs.now)) }
+    ensures kept { OnErr result (take (length text.old.items) text.new.items ≡ text.old.items) }
 {
     let front = format!(in *text.allocator(); "OK as of {number}:")?;
-    text.clear();
     text.extend_from_slice(front.as_bytes())?;
     if docs.is_empty() {
         text.extend_from_slice(b" none")?;

@@ -164,6 +164,7 @@ fn send_written<O: Sink>(text: &mut Vec<u8>, out: &mut O, reply: &Reply) -> Resu
     ensures write { CountsFault (result ≡ Err Unsent.WriteFault)
         (O.faults out.old) (O.faults out.new) }
 {
+    text.clear();
     match put_reply_text(text, reply) {
         Ok(()) => {}
         Err(_) => return Err(Unsent::NoMemory),
