@@ -11,7 +11,7 @@ fn texts_of(alloc: Global, lengths: &[usize]) -> Result<SharedTexts, AllocError>
     for length in lengths {
         texts.push(vec![in alloc; b'a'; *length]?)?;
     }
-    SharedTexts::new(alloc, texts)
+    Ok(SharedTexts::new(alloc, texts)?)
 }
 
 /// The INSERT of a row.

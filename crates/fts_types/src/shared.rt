@@ -1,8 +1,8 @@
-ghost use Rattle.std.specs.Prelude.{◌≡◌, ℕ, List, IfOk};
+ghost use Rattle.std.specs.Prelude.{◌≡◌, ℕ, List, IfOk, IfErr};
 ghost use Rattle.std.specs.Arc.{arc_value};
 
 use crate::texts::RowTexts;
-use std::alloc::{AllocError, Global};
+use std::alloc::{AllocError, AllocFailed, Global};
 use std::marker::Model;
 use std::sync::Arc;
 
@@ -20,13 +20,14 @@ impl Model for SharedTexts {
 }
 
 impl SharedTexts {
-    /// These texts. They are moved and not copied.
-    pub fn new(alloc: Global, texts: RowTexts) -> Result<Self, AllocError>
-        ensures { IfOk result (λ shared. shared ≡ texts) }
+    /// These texts. They are moved and not copied. Where memory is wanting, it gives them back.
+    pub fn new(alloc: Global, texts: RowTexts) -> Result<Self, AllocFailed<RowTexts>>
+        ensures ok { IfOk result (λ shared. shared ≡ texts) }
+        ensures back { IfErr result (λ failed. failed.value ≡ texts) }
     {
         match Arc::new(alloc, texts) {
             Ok(texts) => Ok(SharedTexts { texts }),
-            Err(_) => Err(AllocError),
+            Err(failed) => Err(failed),
         }
     }
 
