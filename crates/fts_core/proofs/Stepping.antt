@@ -2,7 +2,6 @@
 use Rattle.std.proofs.Common.{◌≡◌, ℕ, List, [], ◌∷◌, ◌++◌, length, refl, ap, subst, sym, ◌∙◌, inr}
 use Rattle.std.specs.Prelude.{true, false, Vec, Option, Some, None, Result, Ok, Err, IsTrue, fold}
 use Rattle.std.specs.declared.alloc.Global.{Global}
-use Rattle.std.specs.declared.alloc.AllocError.{AllocError}
 use Rattle.fts_listing.specs.declared.kind.ListingKind.{ListingKind}
 use Rattle.fts_listing.specs.declared.listing.NumberedListing.{NumberedListing}
 use Rattle.fts_query.specs.declared.view.Leaf.{Leaf}
@@ -19,6 +18,7 @@ use Rattle.fts_steps.specs.declared.commit.CommitError.{CommitError}
 use Rattle.fts_steps.specs.declared.commit.CommitError.TheVariants as commit_error
 use Rattle.fts_steps.specs.declared.index_error.IndexError.{IndexError}
 use Rattle.fts_steps.specs.declared.index_error.IndexError.TheVariants as index_error
+use Rattle.fts_steps.specs.declared.view_error.ViewError.{ViewError}
 use Rattle.fts_steps.specs.declared.sync.SyncBatch.{SyncBatch}
 use Rattle.fts_steps.specs.declared.sync.SyncBatch.TheVariants as sync
 use Rattle.fts_steps.specs.declared.optimize.OptimizeStep.{OptimizeStep}
@@ -246,14 +246,14 @@ module _ {D E : Type 0} {disk : Ghosts D} {disk' : Ghosts E} (h : IsHonest disk)
         subst (λ (w : World D E disk disk'). Turned event.OptimizeStep (outcome.Optimized result) core old_world w) (sym is)
         (record { next = stepped.next; turns = stepped.turns; fits = stepped.still })
 
-    pub turned_view : (asked : Vec Leaf Global) (result : Result View AllocError) → step.Steps engine_sight (to_view (leaves_seen asked.items)) (view_answer_of result) old new
+    pub turned_view : (asked : Vec Leaf Global) (result : Result View (ViewError × Vec Leaf Global)) → step.Steps engine_sight (to_view (leaves_seen asked.items)) (view_answer_of result) old new
         → rows_log new ≡ rows_log old → index_log new ≡ index_log old → Turned (event.View asked) (outcome.Viewed result) core old_world world
     turned_view asked result steps same same' =
         let stepped = keeps (to_view (leaves_seen asked.items)) (view_answer_of result) steps refl same same' in
         subst (λ (w : World D E disk disk'). Turned (event.View asked) (outcome.Viewed result) core old_world w) (sym is)
         (record { next = stepped.next; turns = stepped.turns; fits = stepped.still })
 
-    pub turned_listing : (kind : ListingKind) (result : Result NumberedListing AllocError) → step.Steps engine_sight (to_list kind) (listing_answer_of result) old new
+    pub turned_listing : (kind : ListingKind) (result : Result NumberedListing ViewError) → step.Steps engine_sight (to_list kind) (listing_answer_of result) old new
         → rows_log new ≡ rows_log old → index_log new ≡ index_log old → Turned (event.Listing kind) (outcome.Listed result) core old_world world
     turned_listing kind result steps same same' =
         let stepped = keeps (to_list kind) (listing_answer_of result) steps refl same same' in

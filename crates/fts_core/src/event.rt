@@ -3,9 +3,8 @@ use fts_disk::Disk;
 use fts_engine::OpenError;
 use fts_listing::{ListingKind, NumberedListing};
 use fts_query::{Leaf, View};
-use fts_steps::{CommitError, IndexError, OptimizeStep, SyncBatch};
+use fts_steps::{CommitError, IndexError, OptimizeStep, SyncBatch, ViewError};
 use fts_types::Limits;
-use std::alloc::AllocError;
 
 /// What happens to a database.
 #[derive(Drop)]
@@ -51,13 +50,13 @@ pub enum Outcome {
     Optimized {
         result: Result<OptimizeStep, IndexError>,
     },
-    /// What the view answered.
+    /// What the view answered; the leaves come back with a refusal.
     Viewed {
-        result: Result<View, AllocError>,
+        result: Result<View, (ViewError, Vec<Leaf>)>,
     },
     /// What the listing answered.
     Listed {
-        result: Result<NumberedListing, AllocError>,
+        result: Result<NumberedListing, ViewError>,
     },
     /// The devices are those that the crash left.
     Crashed,

@@ -19,6 +19,7 @@ pub(crate) fn view<D: Disk, E: Disk>(
         Ok(parts) => parts,
         Err(world) => return (world, Outcome::NoEngine),
     };
+    let mut engine = engine;
     let result = engine.view(leaves);
     let place = Place::Open { engine };
     (
@@ -39,6 +40,7 @@ pub(crate) fn listing<D: Disk, E: Disk>(
         Ok(parts) => parts,
         Err(world) => return (world, Outcome::NoEngine),
     };
+    let mut engine = engine;
     let result = engine.listing(kind);
     let place = Place::Open { engine };
     (

@@ -1,11 +1,15 @@
 -- The rows whose ids are looked up are those that were chosen.
-use Rattle.std.proofs.Common.{◌≡◌, ℕ, ◌+◌, ◌<◌, Bool, true, false, nat_eq, Option, Some, List, [], ◌∷◌, ◌++◌, filter, map, refl, ap, ◌∙◌, arith, ⊎_elim}
+use Rattle.std.proofs.Common.{◌≡◌, ◌⊎◌, inl, inr, ℕ, ◌+◌, ◌<◌, Bool, true, false, nat_eq, Option, Some, List, [], ◌∷◌, ◌++◌, filter, map, length, append-nil, refl, sym, ap, ◌∙◌, arith, ⊎_elim}
 use Rattle.std.proofs.lemmas.Bool.{cases_Bool, eq-eqb, ne_eqb}
 use Rattle.fts_types.specs.Row.{Row}
 use Rattle.fts_commits.specs.Turn.{RowsAscend}
 use Rattle.fts_rows.specs.Rows.{texts_with_id}
-use Rattle.fts_meaning.specs.View.{Candidate, candidate_of, ids_where}
-use Rattle.fts_engine.specs.Looking.{candidate_with, rows_at}
+use Rattle.fts_words.specs.Indexed.{Rules}
+use Rattle.fts_meaning.specs.Leaf.{Leaf}
+use Rattle.fts_meaning.specs.View.{Candidate, Postings, candidate_of, ids_where, postings_of}
+use Rattle.fts_query.specs.declared.view.Leaf.{Leaf as Asked}
+use Rattle.fts_query.specs.Seen.{leaves_seen}
+use Rattle.fts_engine.specs.Looking.{candidate_with, rows_at, with_ids}
 
 -- each row is found by its id
 abbrev Finds : List Row → List Row → Type 0
@@ -39,3 +43,15 @@ chosen test all (row ∷ rows) finds =
 -- the rows that pass a test are found by their ids
 pub rows_chosen : (test : Row → Bool) (high : ℕ) (rows : List Row) → RowsAscend 0 high rows → rows_at rows (ids_where test rows) ≡ map candidate_of (filter test rows)
 rows_chosen test high rows up = chosen test rows rows (each_found 0 high rows up)
+
+-- leaves, each with the ids of its candidates
+pub with_own : (rules : Rules) (rows : List Row) (asked : List Leaf) → with_ids asked (map (λ (leaf : Leaf). (postings_of rules rows leaf).ids) asked) ≡ map (postings_of rules rows) asked
+with_own rules rows [] = refl
+with_own rules rows (leaf ∷ asked) = ap (λ (more : List Postings). postings_of rules rows leaf ∷ more) (with_own rules rows asked)
+
+-- one of two lists that are paired has ended
+pub none_paired : (done : List Postings) (left : List Asked) (lists : List (List ℕ)) → (length left ≡ 0) ⊎ (length lists ≡ 0) → done ≡ done ++ with_ids (leaves_seen left) lists
+none_paired done [] lists over = sym (append-nil done)
+none_paired done (leaf ∷ left) [] over = sym (append-nil done)
+none_paired done (leaf ∷ left) (ids ∷ lists) (inl over) = absurd (omega (arith, over))
+none_paired done (leaf ∷ left) (ids ∷ lists) (inr over) = absurd (omega (arith, over))

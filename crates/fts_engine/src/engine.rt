@@ -1,4 +1,4 @@
-ghost use Rattle.std.specs.Prelude.{◌≡◌, ◌≤◌, ℕ, false, length, IsTrue, IsErr, OnOk, IfOk};
+ghost use Rattle.std.specs.Prelude.{◌≡◌, ◌≤◌, ℕ, false, length, IsTrue, IsErr, OnOk, IfOk, IfErr};
 ghost use Rattle.std.specs.Prelude.{◌<◌, ◌^◌, Err, None};
 ghost use Rattle.fts_engine.specs.Refusing.{refusal_answer};
 ghost use Rattle.fts_log.specs.Frame.{payload_of};
@@ -26,7 +26,7 @@ use fts_log::{AROUND_PAYLOAD, AppendError, BEFORE_PAYLOAD, Framed, Log};
 use fts_query::{Leaf, View};
 use fts_rowcodec::{commit_size, encode_commit_into};
 use fts_rows::PlanError;
-use fts_steps::{CommitError, IndexError, SyncBatch};
+use fts_steps::{CommitError, IndexError, SyncBatch, ViewError};
 use fts_types::{DocId, Settings};
 use std::alloc::{AllocError, Global};
 
@@ -102,15 +102,24 @@ impl<D: Disk, E: Disk> Engine<D, E> {
         }
     }
 
-    /// What the rows have for the leaves of a query, at this moment. Want of memory is the only
-    /// refusal; it goes on after a fault.
-    pub fn view(&self, leaves: Vec<Leaf>) -> Result<View, AllocError>
-        ensures { Steps engine_sight (to_view (leaves_seen leaves.items)) (view_answer_of result)
-            self.now self.now }
+    /// What the rows have for the leaves of a query, at this moment. It goes on after a fault.
+    ///
+    /// # Errors
+    ///
+    /// The leaves come back.
+    ///
+    /// - `NoMemory` if memory ran out.
+    /// - `DiskFault` never yet: no device is read.
+    pub fn view(&mut self, leaves: Vec<Leaf>) -> Result<View, (ViewError, Vec<Leaf>)>
+        ensures steps { Steps engine_sight (to_view (leaves_seen leaves.items))
+            (view_answer_of result) self.old self.new }
+        ensures same { self.new ≡ self.old }
+        ensures back { IfErr result (λ e. e.1 ≡ leaves) }
+        ensures calm { is_disk_fault (view_answer_of result) ≡ false }
     {
         match self.kept.view(self.alloc, self.commits(), leaves) {
             Ok(view) => Ok(view),
-            Err(AllocError) => Err(AllocError),
+            Err(leaves) => Err((ViewError::NoMemory, leaves)),
         }
     }
 
@@ -170,17 +179,25 @@ impl<D: Disk, E: Disk> Engine<D, E> {
         }
     }
 
-    /// What a view of the index lists, with the number of commits. Want of memory is the only
-    /// refusal; it goes on after a fault. It costs what it lists.
-    pub fn listing(&self, kind: ListingKind) -> Result<NumberedListing, AllocError>
-        ensures { Steps engine_sight (to_list kind) (listing_answer_of result) self.now self.now }
+    /// What a view of the index lists, with the number of commits. It goes on after a fault. It
+    /// costs what it lists.
+    ///
+    /// # Errors
+    ///
+    /// - `NoMemory` if memory ran out.
+    /// - `DiskFault` never yet: no device is read.
+    pub fn listing(&mut self, kind: ListingKind) -> Result<NumberedListing, ViewError>
+        ensures steps { Steps engine_sight (to_list kind) (listing_answer_of result)
+            self.old self.new }
+        ensures same { self.new ≡ self.old }
+        ensures calm { is_disk_fault (listing_answer_of result) ≡ false }
     {
         match self.kept.listing(kind) {
             Ok(listing) => Ok(NumberedListing {
                 number: self.commits(),
                 listing,
             }),
-            Err(AllocError) => Err(AllocError),
+            Err(AllocError) => Err(ViewError::NoMemory),
         }
     }
 

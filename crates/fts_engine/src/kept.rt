@@ -10,7 +10,7 @@ ghost use Rattle.fts_engine.specs.Fitting.{AreTableRows};
 ghost use Rattle.fts_engine.specs.Indexed.{IsIndexOf, HasIndex};
 ghost use Rattle.fts_engine.specs.Next.{WillHold};
 
-use crate::looking::candidates;
+use crate::looking::{candidates, paired};
 use fts_commits::{Change, are_turns};
 use fts_index::{CommitPlan, Index, PassPlan, SyncPlan};
 use fts_listing::{Listing, ListingKind};
@@ -145,8 +145,8 @@ impl Kept {
     }
 
     /// What the rows have for these leaves, as the view of so many commits, where the index is
-    /// right.
-    pub fn view(&self, alloc: Global, number: u64, leaves: Vec<Leaf>) -> Result<View, AllocError>
+    /// right. Where there is no memory, the leaves come back.
+    pub fn view(&self, alloc: Global, number: u64, leaves: Vec<Leaf>) -> Result<View, Vec<Leaf>>
         ensures numbered { IfOk result (λ view. (view_seen view).number ≡ number) }
         ensures right { IfOk result (λ view. (commits : List Commit) (s : IndexState)
             → IsIndexed self.now commits s
@@ -154,14 +154,24 @@ impl Kept {
             (turns_from no_rows commits) s → view_seen view
             ≡ view_of (rules_of (kept_settings self.now)) (kept_rows self.now).list number
             (leaves_seen leaves.items)) }
+        ensures back { IfErr result (λ back. back ≡ leaves) }
     {
-        let gathered = self.index.gather(leaves)?;
-        let texts = candidates(alloc, &self.rows, gathered.looked_into.as_slice())?;
-        Ok(View {
-            number,
-            postings: gathered.postings,
-            texts,
-        })
+        let gathered = match self.index.gather(leaves.as_slice()) {
+            Ok(gathered) => gathered,
+            Err(AllocError) => return Err(leaves),
+        };
+        let texts = match candidates(alloc, &self.rows, gathered.looked_into.as_slice()) {
+            Ok(texts) => texts,
+            Err(AllocError) => return Err(leaves),
+        };
+        match paired(alloc, leaves, gathered.lists) {
+            Ok(postings) => Ok(View {
+                number,
+                postings,
+                texts,
+            }),
+            Err(leaves) => Err(leaves),
+        }
     }
 
     /// The next batch of the index, with the room for it; None where all commits are flushed. Where

@@ -160,7 +160,7 @@ const FOUND: [(&str, &[DocId]); 7] = [
 ];
 
 /// The view of a word, if there is memory for it.
-fn view_of(alloc: Global, engine: &Engine<MemDisk, MemDisk>, word: &[u8]) -> Option<View> {
+fn view_of(alloc: Global, engine: &mut Engine<MemDisk, MemDisk>, word: &[u8]) -> Option<View> {
     let word = word.to_vec(alloc).ok()?;
     let leaves = vec![in alloc; Leaf::Word(word)].ok()?;
     engine.view(leaves).ok()
@@ -177,7 +177,7 @@ fn is_view(view: &View, number: u64, want: &[DocId]) -> bool {
 /// Whether a view of each word has what it should after so many commits.
 fn finds_after(
     alloc: Global,
-    engine: &Engine<MemDisk, MemDisk>,
+    engine: &mut Engine<MemDisk, MemDisk>,
     number: u64,
     found: &[(&str, &[DocId])],
 ) -> bool {
@@ -191,12 +191,21 @@ fn finds_after(
 }
 
 /// Whether a view of each word has what it should after the first commit.
-fn finds_all(alloc: Global, engine: &Engine<MemDisk, MemDisk>, found: &[(&str, &[DocId])]) -> bool {
+fn finds_all(
+    alloc: Global,
+    engine: &mut Engine<MemDisk, MemDisk>,
+    found: &[(&str, &[DocId])],
+) -> bool {
     finds_after(alloc, engine, 1, found)
 }
 
 /// Whether a view of the word has so many postings.
-fn finds_many(alloc: Global, engine: &Engine<MemDisk, MemDisk>, word: &[u8], count: usize) -> bool {
+fn finds_many(
+    alloc: Global,
+    engine: &mut Engine<MemDisk, MemDisk>,
+    word: &[u8],
+    count: usize,
+) -> bool {
     match view_of(alloc, engine, word) {
         None => false,
         Some(view) => match view.postings.as_slice() {
@@ -214,7 +223,7 @@ fn new_limited(alloc: Global, most_rows: u64, log_bytes: u64) -> Option<Engine<M
 }
 
 /// Whether an engine has one commit, in which views find the two rows.
-fn has_two_rows(alloc: Global, engine: &Engine<MemDisk, MemDisk>) -> bool {
+fn has_two_rows(alloc: Global, engine: &mut Engine<MemDisk, MemDisk>) -> bool {
     engine.commits() == 1 && finds_all(alloc, engine, &FOUND)
 }
 
@@ -225,9 +234,9 @@ fn is_found_twice(alloc: Global) -> Option<bool> {
     };
     let mut engine = new_limited(alloc, 2, 4_096)?;
     let is_first = commit(&mut engine, &changes) == Some(Ok(1));
-    let is_found = has_two_rows(alloc, &engine);
-    let again = open(alloc, engine.close(), 1, 0).ok()?;
-    Some(is_first && is_found && has_two_rows(alloc, &again))
+    let is_found = has_two_rows(alloc, &mut engine);
+    let mut again = open(alloc, engine.close(), 1, 0).ok()?;
+    Some(is_first && is_found && has_two_rows(alloc, &mut again))
 }
 
 #[test]
@@ -242,8 +251,8 @@ fn are_a_commit(alloc: Global) -> Option<bool> {
     };
     let mut engine = new_limited(alloc, 1_000, LARGEST_LOG)?;
     let is_first = commit(&mut engine, &changes) == Some(Ok(1));
-    let again = open(alloc, engine.close(), 1_000, 0).ok()?;
-    Some(is_first && again.commits() == 1 && finds_many(alloc, &again, b"cream", 1_000))
+    let mut again = open(alloc, engine.close(), 1_000, 0).ok()?;
+    Some(is_first && again.commits() == 1 && finds_many(alloc, &mut again, b"cream", 1_000))
 }
 
 #[test]
@@ -266,7 +275,7 @@ fn is_found_whole(alloc: Global) -> Option<bool> {
     };
     let mut engine = new_limited(alloc, 2, 4_096)?;
     let is_first = commit(&mut engine, &changes) == Some(Ok(1));
-    Some(is_first && finds_all(alloc, &engine, &FOUND_WHOLE))
+    Some(is_first && finds_all(alloc, &mut engine, &FOUND_WHOLE))
 }
 
 #[test]
@@ -374,7 +383,7 @@ fn no_batch_is_made_after_a_fault(rt: HostRuntime) {
 }
 
 /// How many words a view lists, as of how many commits.
-fn listed_words(engine: &Engine<MemDisk, MemDisk>, kind: ListingKind) -> Option<(u64, usize)> {
+fn listed_words(engine: &mut Engine<MemDisk, MemDisk>, kind: ListingKind) -> Option<(u64, usize)> {
     let NumberedListing { number, listing } = engine.listing(kind).ok()?;
     match listing {
         Listing::Words { words } => Some((number, words.as_slice().len())),
@@ -383,7 +392,7 @@ fn listed_words(engine: &Engine<MemDisk, MemDisk>, kind: ListingKind) -> Option<
 }
 
 /// Through which commit, and up to which id, the index is flushed, as it lists.
-fn listed_config(engine: &Engine<MemDisk, MemDisk>) -> Option<(u64, DocId)> {
+fn listed_config(engine: &mut Engine<MemDisk, MemDisk>) -> Option<(u64, DocId)> {
     let NumberedListing { listing, .. } = engine.listing(ListingKind::Config).ok()?;
     match listing {
         Listing::Config { config } => Some((config.flushed, config.synced)),
@@ -392,7 +401,7 @@ fn listed_config(engine: &Engine<MemDisk, MemDisk>) -> Option<(u64, DocId)> {
 }
 
 /// How many words the tables and the cache list.
-fn listed_in_both(engine: &Engine<MemDisk, MemDisk>) -> [Option<(u64, usize)>; 2] {
+fn listed_in_both(engine: &mut Engine<MemDisk, MemDisk>) -> [Option<(u64, usize)>; 2] {
     [
         listed_words(engine, ListingKind::IndexTable),
         listed_words(engine, ListingKind::IndexCache),
@@ -402,10 +411,10 @@ fn listed_in_both(engine: &Engine<MemDisk, MemDisk>) -> [Option<(u64, usize)>; 2
 /// Whether the listings tell of a batch what they should, and nothing before it.
 fn is_listed(alloc: Global) -> Option<bool> {
     let mut engine = two_commits(alloc)?;
-    let before = listed_config(&engine);
+    let before = listed_config(&mut engine);
     let flushed = engine.sync_batch();
-    let words = listed_in_both(&engine);
-    let behind = listed_config(&engine);
+    let words = listed_in_both(&mut engine);
+    let behind = listed_config(&mut engine);
     let is_flushed = flushed == flushes(1) && words == [Some((2, 3)), Some((2, 3))];
     Some(is_flushed && before == Some((0, 0)) && behind == Some((1, 1)))
 }
@@ -434,9 +443,9 @@ fn found_again(
     if engine.sync_batch() != flushes(through) {
         return None;
     }
-    let again = opened_again(alloc, engine)?;
-    let is_listed = listed_in_both(&again) == [Some((2, tables)), Some((2, cache))];
-    if is_listed && finds_after(alloc, &again, 2, &FOUND) {
+    let mut again = opened_again(alloc, engine)?;
+    let is_listed = listed_in_both(&mut again) == [Some((2, tables)), Some((2, cache))];
+    if is_listed && finds_after(alloc, &mut again, 2, &FOUND) {
         return Some(again);
     }
     None

@@ -1,5 +1,5 @@
 -- What documents have by the cache is what rows have by their texts.
-use Rattle.std.proofs.Common.{◌≡◌, ◌↔◌, ℕ, suc, ◌+◌, ◌-◌, ◌<◌, Bool, true, false, cond, not, ◌&&◌, ◌||◌, List, [], ◌∷◌, ◌++◌, map, filter, length, take, get_or, nat_lt, append_assoc, append-nil, nat_eq, Some, refl, sym, ap, ap₂, subst, ◌∙◌, ⊎_elim, arith, All, IsTrue}
+use Rattle.std.proofs.Common.{◌≡◌, ◌⊎◌, inl, inr, ◌↔◌, ℕ, suc, ◌+◌, ◌-◌, ◌<◌, Bool, true, false, cond, not, ◌&&◌, ◌||◌, List, [], ◌∷◌, ◌++◌, map, filter, length, take, get_or, nat_lt, append_assoc, append-nil, nat_eq, Some, refl, sym, ap, ap₂, subst, ◌∙◌, ⊎_elim, arith, IsTrue}
 use Rattle.std.specs.Prelude.{◌≢◌, Result, Ok, Err, IfOk}
 use Rattle.std.specs.Borrow.{Bor}
 use Rattle.std.specs.List.{AllByRecursion, list_any, list_all}
@@ -12,7 +12,7 @@ use Rattle.std.proofs.lemmas.Bool.{cases_Bool, false≢true, eqb-true, leb-true,
 use Rattle.std.proofs.lemmas.List.{map-append, take-append-drop}
 use Rattle.std.proofs.lemmas.List.Folds.{list_any-append}
 use Rattle.std.proofs.lemmas.Map.Text.{is_eq-slice_cmp}
-use Rattle.std.proofs.lemmas.List.Elements.{All-head, All-tail, recursion_from_All}
+use Rattle.std.proofs.lemmas.List.Elements.{recursion_from_All}
 use Rattle.std.proofs.lemmas.Slice.Eq.{bytes_eq-Decides}
 use Rattle.fts_words.specs.declared.placed.PlacedWord.{PlacedWord}
 use Rattle.fts_words.specs.Order.{begins_with, byte_order}
@@ -43,8 +43,8 @@ use Rattle.fts_meaning.specs.Leaf.{Leaf, no_leaf, of_word, of_prefix, of_words}
 use Rattle.fts_meaning.specs.Holds.{some_indexed}
 use Rattle.fts_meaning.specs.View as view
 use Rattle.fts_meaning.specs.View.{has_word, has_words, is_candidate, needs_texts, ids_where, columns_at, is_looked_into}
-use Rattle.fts_query.specs.declared.view.Postings.{Postings}
-use Rattle.fts_query.specs.Seen.{leaf_seen, postings_seen}
+use Rattle.fts_query.specs.declared.view.Leaf.{Leaf as Asked}
+use Rattle.fts_query.specs.Seen.{leaves_seen}
 use Rattle.fts_query.proofs.Chosen.{has_where, where_ascends}
 use Rattle.fts_entries.specs.Words.{rows_postings}
 use Rattle.fts_index.specs.Gathered.{doc_ids, Shown, table_has, cache_has, doc_has, doc_has_words, HasPrefix, IsAskedFor, AreAskedFor, AreTold, is_needed, IsGathered}
@@ -454,23 +454,22 @@ module _ (rules : Rules) (rows : List Row) (shown : Shown) (up : AscendFrom 0 (m
       same_ids 0 0 ids (ids_where (λ (row : Row). test row.texts) rows) told.ascend (where_ascends (λ (row : Row). test row.texts) rows 0 up)
       (λ id. told_at leaf ids told id ∙ sym (has_where test (no_candidate leaf) rows 0 up id))
 
-  told_postings : (ps : List Postings) → All (λ p. AreAskedFor shown (leaf_seen p.leaf) p.ids) ps
-      → map postings_seen ps ≡ map (view.postings_of rules rows) (map (λ (p : Postings). leaf_seen p.leaf) ps)
-  told_postings [] all = refl
-  told_postings (p ∷ ps) all =
-      let first : AreAskedFor shown (leaf_seen p.leaf) p.ids = All-head (λ (q : Postings). AreAskedFor shown (leaf_seen q.leaf) q.ids) p ps all in
-      let one : view.Postings = view.postings_of rules rows (leaf_seen p.leaf) in
-      ap (λ (ids : List ℕ). record { leaf = leaf_seen p.leaf; ids = ids } ∷ map postings_seen ps) (told_ids (leaf_seen p.leaf) p.ids first)
-      ∙ ap (λ (rest : List view.Postings). one ∷ rest) (told_postings ps (All-tail (λ (q : Postings). AreAskedFor shown (leaf_seen q.leaf) q.ids) p ps all))
+  told_lists : (asked : List Leaf) (lists : List (List ℕ)) → AreTold shown asked lists → lists ≡ map (λ (l : Leaf). (view.postings_of rules rows l).ids) asked
+  told_lists [] [] all = refl
+  told_lists [] (ids ∷ lists) all = absurd all
+  told_lists (l ∷ ls) [] all = absurd all
+  told_lists (l ∷ ls) (ids ∷ lists) all =
+      ap (λ (first : List ℕ). first ∷ lists) (told_ids l ids all.0)
+      ∙ ap (λ (rest : List (List ℕ)). (view.postings_of rules rows l).ids ∷ rest) (told_lists ls lists all.1)
 
-  needed_at : (id : ℕ) (ps : List Postings) → All (λ p. AreAskedFor shown (leaf_seen p.leaf) p.ids) ps
-      → is_needed ps id ≡ list_any (λ (l : Leaf). needs_texts l && is_candidate rules (columns_at rows id) l) (map (λ (p : Postings). leaf_seen p.leaf) ps)
-  needed_at id [] all = refl
-  needed_at id (p ∷ ps) all =
-      let first : AreAskedFor shown (leaf_seen p.leaf) p.ids = All-head (λ (q : Postings). AreAskedFor shown (leaf_seen q.leaf) q.ids) p ps all in
-      ap (λ (b : Bool). (needs_texts (leaf_seen p.leaf) && b) || is_needed ps id) (told_at (leaf_seen p.leaf) p.ids first id)
-      ∙ ap (λ (b : Bool). (needs_texts (leaf_seen p.leaf) && is_candidate rules (columns_at rows id) (leaf_seen p.leaf)) || b)
-      (needed_at id ps (All-tail (λ (q : Postings). AreAskedFor shown (leaf_seen q.leaf) q.ids) p ps all))
+  needed_at : (id : ℕ) (asked : List Leaf) (lists : List (List ℕ)) → AreTold shown asked lists
+      → is_needed asked lists id ≡ list_any (λ (l : Leaf). needs_texts l && is_candidate rules (columns_at rows id) l) asked
+  needed_at id [] [] all = refl
+  needed_at id [] (ids ∷ lists) all = absurd all
+  needed_at id (l ∷ ls) [] all = absurd all
+  needed_at id (l ∷ ls) (ids ∷ lists) all =
+      ap (λ (b : Bool). (needs_texts l && b) || is_needed ls lists id) (told_at l ids all.0 id)
+      ∙ ap (λ (b : Bool). (needs_texts l && is_candidate rules (columns_at rows id) l) || b) (needed_at id ls lists all.1)
 
   none_needed : (asked : List Leaf) → list_any (λ (l : Leaf). needs_texts l && is_candidate rules [] l) asked ≡ false
   none_needed [] = refl
@@ -479,15 +478,23 @@ module _ (rules : Rules) (rows : List Row) (shown : Shown) (up : AscendFrom 0 (m
       ∙ none_needed ls
 
   -- what is told of leaves is gathered
-  pub gathers : (asked : List Leaf) (gathered : Gathered) → AreTold shown asked gathered.postings.items → Ascend gathered.looked_into
-      → ((id : ℕ) → has gathered.looked_into id ≡ is_needed gathered.postings.items id) → IsGathered rules rows asked gathered
+  pub gathers : (asked : List Leaf) (gathered : Gathered) → AreTold shown asked gathered.lists.items → Ascend gathered.looked_into
+      → ((id : ℕ) → has gathered.looked_into id ≡ is_needed asked gathered.lists.items id) → IsGathered rules rows asked gathered
   gathers asked gathered told ascend each =
-      let ps = gathered.postings.items in
       let test : List (List ℕ) → Bool = λ columns. list_any (λ (l : Leaf). needs_texts l && is_candidate rules columns l) asked in
       record {
-        postings = told_postings ps told.ids ∙ ap (map (view.postings_of rules rows)) told.leaves;
+        lists = told_lists asked gathered.lists.items told;
         looked_into = same_ids 0 0 gathered.looked_into (ids_where (is_looked_into rules asked) rows) ascend (where_ascends (is_looked_into rules asked) rows 0 up)
-            (λ id. each id ∙ needed_at id ps told.ids
-            ∙ ap (list_any (λ (l : Leaf). needs_texts l && is_candidate rules (columns_at rows id) l)) told.leaves
-            ∙ sym (has_where test (none_needed asked) rows 0 up id));
+            (λ id. each id ∙ needed_at id asked gathered.lists.items told ∙ sym (has_where test (none_needed asked) rows 0 up id));
       }
+
+-- one of two lists that are walked together has ended
+or_nothing : (b : Bool) → b ≡ (b || false)
+or_nothing true = refl
+or_nothing false = refl
+
+pub no_more : (b : Bool) (id : ℕ) (left : List Asked) (lists : List (List ℕ)) → (length left ≡ 0) ⊎ (length lists ≡ 0) → b ≡ (b || is_needed (leaves_seen left) lists id)
+no_more b id [] lists over = or_nothing b
+no_more b id (leaf ∷ left) [] over = or_nothing b
+no_more b id (leaf ∷ left) (ids ∷ lists) (inl over) = absurd (omega (arith, over))
+no_more b id (leaf ∷ left) (ids ∷ lists) (inr over) = absurd (omega (arith, over))

@@ -1,6 +1,6 @@
 -- What an index tells of the leaves of a query.
-use Rattle.std.specs.Prelude.{◌≡◌, ◌↔◌, ℕ, Bool, false, ◌&&◌, ◌||◌, not, List, [], ◌∷◌, map, All, IsTrue}
-use Rattle.std.specs.List.{list_any, list_all}
+use Rattle.std.specs.Prelude.{◌≡◌, ◌↔◌, ℕ, Bool, false, ◌&&◌, ◌||◌, not, List, [], ◌∷◌, map, IsTrue}
+use Rattle.std.specs.List.{list_any, list_all, zip, AllZip}
 use Rattle.fts_words.specs.Order.{begins_with}
 use Rattle.fts_words.specs.Indexed.{Rules}
 use Rattle.fts_types.specs.Row.{Row}
@@ -14,8 +14,6 @@ use Rattle.fts_lists.specs.declared.lists.DeleteList.TheVariants.{Deleted, Delet
 use Rattle.fts_meaning.specs.Leaf.{Leaf, no_leaf, of_word, of_prefix, of_words}
 use Rattle.fts_meaning.specs.View as view
 use Rattle.fts_meaning.specs.View.{ids_where, is_looked_into, needs_texts}
-use Rattle.fts_query.specs.declared.view.Postings.{Postings}
-use Rattle.fts_query.specs.Seen.{leaf_seen, postings_seen}
 use Rattle.fts_index.specs.declared.gather.Gathered.{Gathered}
 use Rattle.fts_index.specs.declared.index.Index.{Index}
 
@@ -65,15 +63,14 @@ pub record AreAskedFor (shown : Shown) (leaf : Leaf) (ids : List ℕ) : Type 0 w
   pub each : (id : ℕ) → IsTrue (has ids id) ↔ IsAskedFor shown leaf id
 
 -- for each leaf there are the ids of the documents for which it asks
-pub record AreTold (shown : Shown) (asked : List Leaf) (postings : List Postings) : Type 0 where
-  pub leaves : map (λ p. leaf_seen p.leaf) postings ≡ asked
-  pub ids : All (λ p. AreAskedFor shown (leaf_seen p.leaf) p.ids) postings
+abbrev pub AreTold : Shown → List Leaf → List (List ℕ) → Type 0
+AreTold shown asked lists = AllZip (AreAskedFor shown) asked lists
 
 -- the document is one for which a leaf asks that needs texts
-abbrev pub is_needed : List Postings → ℕ → Bool
-is_needed postings id = list_any (λ p. needs_texts (leaf_seen p.leaf) && has p.ids id) postings
+abbrev pub is_needed : List Leaf → List (List ℕ) → ℕ → Bool
+is_needed asked lists id = list_any (λ p. needs_texts p.0 && has p.1 id) (zip asked lists)
 
--- for each leaf the rows that are its candidates, and the ids of the rows whose texts are looked into
+-- for each leaf the ids of the rows that are its candidates, and those of the rows whose texts are looked into
 pub record IsGathered (rules : Rules) (rows : List Row) (asked : List Leaf) (gathered : Gathered) : Type 0 where
-  pub postings : map postings_seen gathered.postings.items ≡ map (view.postings_of rules rows) asked
+  pub lists : gathered.lists.items ≡ map (λ leaf. (view.postings_of rules rows leaf).ids) asked
   pub looked_into : gathered.looked_into ≡ ids_where (is_looked_into rules asked) rows

@@ -17,15 +17,15 @@ use crate::walk::words_with;
 use fts_ids::{IdList, both, union, united};
 use fts_ilist::{Cursor, NodeSlice};
 use fts_lists::{DeleteList, Lists};
-use fts_query::{Leaf, Postings};
+use fts_query::Leaf;
 use fts_types::{DocId, Word};
 use std::alloc::{AllocError, Global};
 
 /// What an index tells of leaves.
 #[derive(Debug, Drop)]
 pub struct Gathered {
-    /// For each leaf the rows that it asks for, in the leaves' order.
-    pub postings: Vec<Postings>,
+    /// For each leaf the ids of the rows that it asks for, in the leaves' order.
+    pub lists: Vec<IdList>,
     /// The rows that have the words of some phrase or distance.
     pub looked_into: IdList,
 }
@@ -253,29 +253,29 @@ fn leaf_ids(index: &Index, leaf: &Leaf) -> Result<IdList, AllocError>
 }
 
 /// For each leaf the ids of the documents for which it asks.
-pub(crate) fn told(index: &Index, leaves: Vec<Leaf>) -> Result<Vec<Postings>, AllocError>
-    ensures { IfOk result (λ postings.
-        AreTold (doc_has index.now) (leaves_seen leaves.items) postings.items) }
+pub(crate) fn told(index: &Index, leaves: &[Leaf]) -> Result<Vec<IdList>, AllocError>
+    ensures { IfOk result (λ lists.
+        AreTold (doc_has index.now) (leaves_seen leaves.now) lists.items) }
 {
-    let mut postings = Vec::new(index.alloc);
+    let mut lists = Vec::new(index.alloc);
     for leaf in leaves {
-        let ids = leaf_ids(index, &leaf)?;
-        postings.push(Postings { leaf, ids })?;
+        lists.push(leaf_ids(index, leaf)?)?;
     }
-    Ok(postings)
+    Ok(lists)
 }
 
-/// The ids of the documents for which a leaf asks that needs texts.
-pub(crate) fn needed(alloc: Global, postings: &[Postings]) -> Result<IdList, AllocError>
+/// The ids of the documents for which a leaf asks that needs texts, by the ids of each leaf.
+pub(crate) fn needed(alloc: Global, leaves: &[Leaf], lists: &[IdList]) -> Result<IdList, AllocError>
     ensures ascend { IfOk result Ascend }
-    ensures each { IfOk result (λ ids. (id : ℕ) → has ids id ≡ is_needed postings.now id) }
+    ensures each { IfOk result (λ ids. (id : ℕ)
+        → has ids id ≡ is_needed (leaves_seen leaves.now) lists.now id) }
 {
-    let mut lists = Vec::new(alloc);
-    for one in postings {
-        match &one.leaf {
-            Leaf::Words(_) => lists.push(&one.ids)?,
+    let mut found = Vec::new(alloc);
+    for (leaf, ids) in leaves.iter().zip(lists.iter()) {
+        match leaf {
+            Leaf::Words(_) => found.push(ids)?,
             _ => {}
         }
     }
-    united(alloc, &lists)
+    united(alloc, &found)
 }

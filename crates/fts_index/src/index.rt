@@ -251,17 +251,14 @@ impl Index {
 
     /// What the index tells of these leaves. It costs the documents of their words; for a prefix,
     /// those of each word that begins so. Where documents died, their ids are tested too.
-    pub fn gather(&self, leaves: Vec<Leaf>) -> Result<Gathered, AllocError>
+    pub fn gather(&self, leaves: &[Leaf]) -> Result<Gathered, AllocError>
         ensures { IfOk result (λ gathered. (rules : Rules) (rows : Rows) (turns : List Turn)
             (s : IndexState) → Indexes rules rows turns s self.now
-            → IsGathered rules rows.list (leaves_seen leaves.items) gathered) }
+            → IsGathered rules rows.list (leaves_seen leaves.now) gathered) }
     {
-        let postings = told(self, leaves)?;
-        let looked_into = needed(self.alloc, &postings)?;
-        Ok(Gathered {
-            postings,
-            looked_into,
-        })
+        let lists = told(self, leaves)?;
+        let looked_into = needed(self.alloc, leaves, &lists)?;
+        Ok(Gathered { lists, looked_into })
     }
 
     /// What a view of the index lists. It costs what it gives; of words, a look-up for each.

@@ -5,7 +5,7 @@
 //! words and makes the room for them, and `index.install_commit(plan)` adds them without memory.
 //! `index.plan_sync(1_000)?` is the next batch, or None where all commits are flushed, and
 //! `index.install_sync(plan)` moves its documents from the cache to the tables.
-//! `index.gather(leaves)?` gives the ids of the rows that have a word, a word that begins so, or
+//! `index.gather(&leaves)?` gives the ids of the rows that have a word, a word that begins so, or
 //! each of some words, and `index.listing(&settings, kind)?` what a view lists. Source: MySQL 8.0
 //! Reference Manual, "InnoDB Full-Text Indexes".
 //!

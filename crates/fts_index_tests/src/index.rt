@@ -5,10 +5,11 @@ ghost use Rattle.fts_entries.specs.Rows.{CanIndex};
 ghost use Rattle.fts_index.specs.Births.{AreBirths};
 ghost use Rattle.fts_index.specs.Made.{IsMade};
 
+use fts_ids::IdList;
 use fts_ilist::{Node, WordNodes};
 use fts_index::Index;
 use fts_listing::{Listing, ListingKind};
-use fts_query::{Leaf, Postings};
+use fts_query::Leaf;
 use fts_types::{Names, Row, RowTexts, Settings, Texts};
 use std::alloc::{AllocError, Global};
 use std::sync::Arc;
@@ -140,9 +141,9 @@ fn leaf_of(alloc: Global, asked: &Asked) -> Result<Leaf, AllocError> {
     }
 }
 
-fn are_ids(postings: &[Postings], want: &[u64]) -> bool {
-    match postings {
-        [one] => one.ids.as_slice() == want,
+fn are_ids(lists: &[IdList], want: &[u64]) -> bool {
+    match lists {
+        [one] => one.as_slice() == want,
         _ => false,
     }
 }
@@ -150,8 +151,8 @@ fn are_ids(postings: &[Postings], want: &[u64]) -> bool {
 // Whether what is asked for is these rows.
 fn finds(alloc: Global, index: &Index, asked: &Asked, want: &[u64]) -> Result<bool, AllocError> {
     let leaf = leaf_of(alloc, asked)?;
-    let gathered = index.gather(vec![in alloc; leaf]?)?;
-    Ok(are_ids(&gathered.postings, want))
+    let gathered = index.gather(&[leaf])?;
+    Ok(are_ids(&gathered.lists, want))
 }
 
 // Whether each of these finds its rows.

@@ -15,11 +15,15 @@ use Rattle.fts_meaning.specs.Scan.{scan}
 use Rattle.fts_meaning.specs.View.{View, StandsFor, view_of}
 use Rattle.fts_schema.specs.declared.reply.Reply.{Reply}
 use Rattle.fts_sessions.specs.Found.{IsFoundIn, TellsFound}
+use Rattle.fts_sessions.specs.Conversation.{reply_to}
 use Rattle.fts_sessions.specs.Execute.{Makes}
 use Rattle.fts_eval.proofs.Answering.{ascend_from_increasing}
+use Rattle.fts_steps.specs.declared.view_error.ViewError.{ViewError}
+use Rattle.fts_steps.specs.declared.view_error.ViewError.TheVariants.{NoMemory, DiskFault}
+use Rattle.fts_steps.specs.Answers.{view_error_answer_of}
 use Rattle.fts_steps.specs.State.{State}
 use Rattle.fts_steps.specs.Running.{Running, What, made, batched, optimized, failed, batch_failed, optimize_failed, Entry, with_what, grown}
-use Rattle.fts_steps.specs.Step.{Answer, viewed, found, no_memory, is_disk_fault, to_view, to_find, state_view, MayAnswer, Sight, Keeps, Steps}
+use Rattle.fts_steps.specs.Step.{Answer, viewed, found, no_memory, disk_fault, is_disk_fault, to_view, to_find, state_view, MayAnswer, Sight, Keeps, Steps}
 
 -- what was added keeps the settings
 with_settings : (running : Running) (what : What) → (with_what running what).state.settings ≡ running.state.settings
@@ -89,6 +93,28 @@ module _ {S : Type 0} (sight : Sight S) (asked : List Leaf) (terms : Terms) (old
   -- want of memory for the view, and for what is found in it
   starved : (told : Answer) → is_disk_fault told ≡ false → Steps sight (to_view asked) told old new → Steps sight (to_find terms) no_memory old new
   starved told calm step = as_search told no_memory step calm refl (λ running stands. tt)
+
+  -- what refuses the view refuses the search
+  refused : (answer : Answer) → ((running : Running) → MayAnswer (sight.limits old) running (to_view asked) answer → MayAnswer (sight.limits old) running (to_find terms) answer)
+      → Steps sight (to_view asked) answer old new → Steps sight (to_find terms) answer old new
+  refused answer may step = record {
+    more = step.more;
+    each = λ running stands.
+        let each = step.each running stands in record {
+          alone = each.alone;
+          may = may (grown running step.more) each.may;
+          stands = each.stands;
+          rows = each.rows;
+          index = each.index;
+          keeps = step.keeps;
+        };
+    tells = λ shared. step.tells shared;
+    keeps = step.keeps;
+  }
+
+  pub told_refused : (error : ViewError) (told : Reply) → told ≡ reply_to (view_error_answer_of error) → Steps sight (to_view asked) (view_error_answer_of error) old new → Makes sight (to_find terms) old told new
+  told_refused NoMemory told is step = record { answer = no_memory; made = refused no_memory (λ running may. may) step; told = sym is }
+  told_refused (DiskFault faults) told is step = record { answer = disk_fault faults; made = refused (disk_fault faults) (λ running may. may) step; told = sym is }
 
   -- what is found in it
   finds : IdsAscend → (settings : Settings) (view : View) (docs : List ℕ) → asked ≡ leaves (rules_of settings) terms

@@ -4,9 +4,8 @@ use fts_disk::Disk;
 use fts_engine::Engine;
 use fts_listing::{ListingKind, NumberedListing};
 use fts_query::{Leaf, View};
-use fts_steps::{CommitError, IndexError, OptimizeStep, SyncBatch};
+use fts_steps::{CommitError, IndexError, OptimizeStep, SyncBatch, ViewError};
 use fts_types::Settings;
-use std::alloc::AllocError;
 
 /// The steps of an engine that one thread owns: each is a call of the engine.
 #[derive(Drop)]
@@ -23,7 +22,7 @@ impl<D: Disk, E: Disk> EngineSteps for Direct<D, E> {
         self.engine.commit(changes)
     }
 
-    fn view(&mut self, leaves: Vec<Leaf>) -> Result<View, AllocError> {
+    fn view(&mut self, leaves: Vec<Leaf>) -> Result<View, (ViewError, Vec<Leaf>)> {
         self.engine.view(leaves)
     }
 
@@ -35,7 +34,7 @@ impl<D: Disk, E: Disk> EngineSteps for Direct<D, E> {
         self.engine.optimize_step()
     }
 
-    fn listing(&mut self, kind: ListingKind) -> Result<NumberedListing, AllocError> {
+    fn listing(&mut self, kind: ListingKind) -> Result<NumberedListing, ViewError> {
         self.engine.listing(kind)
     }
 

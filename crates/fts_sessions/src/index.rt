@@ -2,7 +2,7 @@
 ghost use Rattle.std.specs.Prelude.{◌≡◌, ◌∷◌, ◌++◌, [], codes, IfOk};
 ghost use Rattle.fts_types.specs.declared.settings.Settings.{Settings};
 ghost use Rattle.fts_steps.specs.Step.{to_list, flushed};
-ghost use Rattle.fts_steps.specs.Answers.{error_answer_of};
+ghost use Rattle.fts_steps.specs.Answers.{error_answer_of, view_error_answer_of};
 ghost use Rattle.fts_sessions.specs.Conversation.{list_begins, reply_to};
 ghost use Rattle.fts_sessions.specs.Execute.{Does, GoesOn, Makes};
 ghost use Rattle.fts_sessions.specs.Request.{syncs};
@@ -13,7 +13,7 @@ use crate::EngineSteps;
 use crate::view::view_of_schema;
 use fts_listing::ListingKind;
 use fts_schema::Reply;
-use fts_steps::{IndexError, SyncBatch};
+use fts_steps::{IndexError, SyncBatch, ViewError};
 use fts_types::Text;
 use std::alloc::{AllocError, Global};
 
@@ -88,7 +88,17 @@ fn list_view<S: EngineSteps>(steps: &mut S, kind: ListingKind) -> Reply
             number: listed.number,
             listing: listed.listing,
         },
-        Err(AllocError) => Reply::NoMemory,
+        Err(error) => not_viewed(error),
+    }
+}
+
+// What tells why a view or a listing was not made.
+pub(crate) fn not_viewed(error: ViewError) -> Reply
+    ensures { result ≡ reply_to (view_error_answer_of error) }
+{
+    match error {
+        ViewError::NoMemory => Reply::NoMemory,
+        ViewError::DiskFault { .. } => Reply::DiskFault,
     }
 }
 

@@ -15,7 +15,7 @@ use crate::EngineSteps;
 use crate::asked::unknown_name;
 use crate::changes::{delete, insert, update};
 use crate::commits::{begin, commit, rollback};
-use crate::index::{list, sync};
+use crate::index::{list, not_viewed, sync};
 use crate::names::are_text_columns;
 use crate::optimize::optimize;
 use crate::query::query_of;
@@ -292,7 +292,7 @@ fn look_for<S: EngineSteps, G: Gate>(
     gate.pass(Point::Evaluate, number);
     match view {
         Ok(view) => found_in(alloc, &view, query),
-        Err(AllocError) => Reply::NoMemory,
+        Err((error, _)) => not_viewed(error),
     }
 }
 

@@ -1,4 +1,4 @@
-ghost use Rattle.std.specs.Prelude.{◌≡◌, ◌≤◌, length};
+ghost use Rattle.std.specs.Prelude.{◌≡◌, ◌≤◌, length, IfErr};
 ghost use Rattle.fts_commits.specs.Fits.{CanCommit};
 ghost use Rattle.fts_query.specs.Seen.{leaves_seen};
 ghost use Rattle.fts_steps.specs.Running.{Running};
@@ -11,9 +11,8 @@ ghost use Rattle.fts_steps.specs.Answers.{optimize_answer_of, listing_answer_of}
 use fts_commits::Change;
 use fts_listing::{ListingKind, NumberedListing};
 use fts_query::{Leaf, View};
-use fts_steps::{CommitError, IndexError, OptimizeStep, SyncBatch};
+use fts_steps::{CommitError, IndexError, OptimizeStep, SyncBatch, ViewError};
 use fts_types::Settings;
-use std::alloc::AllocError;
 
 /// The steps of an engine, each at once. A contract sees the engine by its sight: for which
 /// database it stands, and whether others make steps too.
@@ -37,13 +36,14 @@ pub trait EngineSteps {
     fn optimize_step(&mut self) -> Result<OptimizeStep, IndexError>
         ensures { Steps sight to_optimize (optimize_answer_of result) self.old self.new };
 
-    /// Tells what the rows have for the leaves of a query.
-    fn view(&mut self, leaves: Vec<Leaf>) -> Result<View, AllocError>
-        ensures { Steps sight (to_view (leaves_seen leaves.items)) (view_answer_of result)
-            self.old self.new };
+    /// Tells what the rows have for the leaves of a query. At an error the leaves come back.
+    fn view(&mut self, leaves: Vec<Leaf>) -> Result<View, (ViewError, Vec<Leaf>)>
+        ensures steps { Steps sight (to_view (leaves_seen leaves.items)) (view_answer_of result)
+            self.old self.new }
+        ensures back { IfErr result (λ e. e.1 ≡ leaves) };
 
     /// Lists what a view of the index has.
-    fn listing(&mut self, kind: ListingKind) -> Result<NumberedListing, AllocError>
+    fn listing(&mut self, kind: ListingKind) -> Result<NumberedListing, ViewError>
         ensures { Steps sight (to_list kind) (listing_answer_of result) self.old self.new };
 
     /// The size of the cache: what the documents count that are not flushed.

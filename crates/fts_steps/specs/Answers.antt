@@ -6,6 +6,8 @@ use Rattle.fts_steps.specs.declared.sync.SyncBatch.TheVariants.{Flushed, Nothing
 use Rattle.fts_steps.specs.declared.index_error.IndexError.{IndexError}
 use Rattle.fts_steps.specs.declared.index_error.IndexError.TheVariants as index
 use Rattle.fts_steps.specs.declared.optimize.OptimizeStep.{OptimizeStep}
+use Rattle.fts_steps.specs.declared.view_error.ViewError.{ViewError}
+use Rattle.fts_steps.specs.declared.view_error.ViewError.TheVariants as view
 use Rattle.fts_listing.specs.declared.listing.NumberedListing.{NumberedListing}
 use Rattle.fts_query.specs.declared.view.View.{View}
 use Rattle.fts_query.specs.Seen.{view_seen}
@@ -21,10 +23,15 @@ commit_answer_of (Err (LogFull end)) = full end
 commit_answer_of (Err (DiskFault faults)) = disk_fault faults
 commit_answer_of (Err (Stopped faults)) = stopped faults
 
--- the answer that a view's result is
-abbrev pub view_answer_of : {E : Type 0} → Result View E → Answer
+-- the answer that the error of a view or of a listing is
+abbrev pub view_error_answer_of : ViewError → Answer
+view_error_answer_of view.NoMemory = no_memory
+view_error_answer_of (view.DiskFault faults) = disk_fault faults
+
+-- the answer that a view's result is, which hands something back where it is an error
+abbrev pub view_answer_of : {B : Type 0} → Result View (ViewError × B) → Answer
 view_answer_of (Ok view) = viewed (view_seen view)
-view_answer_of (Err error) = no_memory
+view_answer_of (Err (error, back)) = view_error_answer_of error
 
 -- the answer that the error of a step of the index is
 abbrev pub error_answer_of : IndexError → Answer
@@ -45,6 +52,6 @@ optimize_answer_of (Ok step) = passed step
 optimize_answer_of (Err error) = error_answer_of error
 
 -- the answer that a listing's result is
-abbrev pub listing_answer_of : {E : Type 0} → Result NumberedListing E → Answer
+abbrev pub listing_answer_of : Result NumberedListing ViewError → Answer
 listing_answer_of (Ok listing) = listed listing.number listing.listing
-listing_answer_of (Err error) = no_memory
+listing_answer_of (Err error) = view_error_answer_of error

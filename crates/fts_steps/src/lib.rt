@@ -4,7 +4,8 @@
 //! cache or file appears in it; beside it stands how far the index is flushed, and what its tables
 //! have. The definitions stand in `specs/`; the crate has the types of the answers of a commit (its
 //! number, or a [`CommitError`]), of a batch ([`SyncBatch`]) and of a step of OPTIMIZE
-//! ([`OptimizeStep`]), or an [`IndexError`].
+//! ([`OptimizeStep`]), or an [`IndexError`]; and of why a view or a listing was refused
+//! ([`ViewError`]).
 //!
 //! Behind three commits `engine.sync_batch()?` may answer
 //! `SyncBatch::Flushed { through: 2, commits: 3 }`: the words of the first two are in the tables.
@@ -15,8 +16,10 @@ mod commit;
 mod index_error;
 mod optimize;
 mod sync;
+mod view_error;
 
 pub use commit::CommitError;
 pub use index_error::IndexError;
 pub use optimize::OptimizeStep;
 pub use sync::SyncBatch;
+pub use view_error::ViewError;

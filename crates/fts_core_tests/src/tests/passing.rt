@@ -90,7 +90,7 @@ const UNBATCHED: [Row; 5] = [
 ];
 
 /// How many words a view lists.
-fn words_in(engine: &Open, kind: ListingKind) -> Option<usize> {
+fn words_in(engine: &mut Open, kind: ListingKind) -> Option<usize> {
     let NumberedListing { listing, .. } = engine.listing(kind).ok()?;
     match listing {
         Listing::Words { words } => Some(words.as_slice().len()),
@@ -99,7 +99,7 @@ fn words_in(engine: &Open, kind: ListingKind) -> Option<usize> {
 }
 
 /// The ids that are deleted.
-fn deleted_in(engine: &Open) -> Option<DocIds> {
+fn deleted_in(engine: &mut Open) -> Option<DocIds> {
     let NumberedListing { listing, .. } = engine.listing(ListingKind::Deleted).ok()?;
     match listing {
         Listing::Ids { ids } => Some(ids),
@@ -108,7 +108,7 @@ fn deleted_in(engine: &Open) -> Option<DocIds> {
 }
 
 /// How many commits are flushed, and up to which id.
-fn flushed_in(engine: &Open) -> Option<(u64, DocId)> {
+fn flushed_in(engine: &mut Open) -> Option<(u64, DocId)> {
     let NumberedListing { listing, .. } = engine.listing(ListingKind::Config).ok()?;
     match listing {
         Listing::Config { config } => Some((config.flushed, config.synced)),
@@ -117,7 +117,7 @@ fn flushed_in(engine: &Open) -> Option<(u64, DocId)> {
 }
 
 /// Whether an engine lists what stands.
-fn lists_so(engine: &Open, stand: &Stand) -> bool {
+fn lists_so(engine: &mut Open, stand: &Stand) -> bool {
     match deleted_in(engine) {
         None => false,
         Some(ids) => {
@@ -143,8 +143,8 @@ fn finds_so(alloc: Global, outcome: &Outcome, stand: &Stand) -> bool {
 }
 
 /// Whether a world has an engine of which this stands.
-fn stands(world: &Devices, stand: &Stand) -> bool {
-    match &world.place {
+fn stands(world: &mut Devices, stand: &Stand) -> bool {
+    match &mut world.place {
         Place::Closed { .. } => false,
         Place::Open { engine } => counts_so(engine, stand) && lists_so(engine, stand),
     }
@@ -168,9 +168,9 @@ fn behind_both(
     let (first, view) = events;
     let (world, outcome) = step(alloc, world, first);
     let comes_so = told(&outcome) == (row.1, row.2);
-    let (world, outcome) = step(alloc, world, view);
+    let (mut world, outcome) = step(alloc, world, view);
     let is_found = finds_so(alloc, &outcome, row.3);
-    let is_so = comes_so && is_found && stands(&world, row.3);
+    let is_so = comes_so && is_found && stands(&mut world, row.3);
     kept(world, is_so)
 }
 

@@ -1,4 +1,5 @@
-use Rattle.std.proofs.Common.{refl, sym, subst}
+use Rattle.std.proofs.Common.{sym, subst, ap}
+use Rattle.fts_engine.specs.Stands.{rows_log, index_log}
 use Rattle.fts_core.specs.declared.event.Event.TheVariants as event
 use Rattle.fts_core.specs.declared.event.Outcome.TheVariants as outcome
 use Rattle.fts_core.specs.declared.world.World.{World}
@@ -16,5 +17,5 @@ returns g c told told' =
     (λ core fits can. turned_listing
     (record { told = told; stay = λ d. g.met.D.Disk.seen_may_stay d told; only = λ d files. g.met.D.Disk.only_now d files told })
     (record { told = told'; stay = λ d. g.met.E.Disk.seen_may_stay d told'; only = λ d files. g.met.E.Disk.only_now d files told' })
-    core parts.0 parts.0 parts.1 parts.2 parts.3 fits c.behind.result c.behind.ensures
-    c.args.kind c.listing-result.result c.listing-result.ensures refl refl)
+    core parts.0 c.listing-result.new.self parts.1 parts.2 parts.3 fits c.behind.result c.behind.ensures
+    c.args.kind c.listing-result.result c.listing-result.ensures.steps (ap rows_log c.listing-result.ensures.same) (ap index_log c.listing-result.ensures.same))

@@ -1,17 +1,15 @@
-use Rattle.std.proofs.Common.{List, ap, arith, ◌∙◌}
+use Rattle.std.proofs.Common.{ap, ◌∙◌, ⊎_elim, inl, inr}
 use Rattle.std.specs.List.{list_any}
-use Rattle.std.proofs.lemmas.List.{take_all}
+use Rattle.std.specs.Iterator.Adapters.{zip_first, zip_second}
+use Rattle.std.specs.Slice.Iter.{iter_rest}
 use Rattle.fts_ids.specs.Ids.{has}
-use Rattle.fts_query.specs.declared.view.Postings.{Postings}
-use Rattle.fts_index.specs.Gathered.{is_needed}
-use Rattle.fts_index.proofs.Gathering.{told_so}
+use Rattle.fts_index.proofs.Gathering.{told_so, no_more}
 use Rattle.fts_index.proofs.gather.needed.Goals as goal
 
-pub returns : goal.returns
-returns c =
-    let postings = c.args.postings.now in
-    record {
-      ascend = c.united.ensures.ascend;
-      each = told_so c.united.result _ _ c.united.ensures.each
-          (λ id. ap (list_any (λ list. has list.now id)) c.deref.ensures.value ∙ c.loop-one.invariant id ∙ ap (λ (ps : List Postings). is_needed ps id) (take_all c.loop-one.one-index postings (omega (arith, c.loop-one-test.false))));
-    }
+pub returns-clause-each : goal.returns-clause-each
+returns-clause-each c =
+    let here = c.loop-leaf.leaf-iterator in
+    told_so c.united.result _ _ c.united.ensures.each
+    (λ id. ap (list_any (λ list. has list.now id)) c.deref.ensures.value
+    ∙ no_more _ id (iter_rest (zip_first here)) (iter_rest (zip_second here)) (⊎_elim (λ ended. inl ended.1.0) (λ ended. inr ended.1.0) c.in-None.ensures.steps)
+    ∙ c.loop-leaf.invariant.here id)

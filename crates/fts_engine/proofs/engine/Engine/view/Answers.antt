@@ -5,8 +5,8 @@ use Rattle.fts_engine.proofs.Committing.{is_viewed, exact_kept}
 use Rattle.fts_engine.proofs.Steps.{refuses}
 use Rattle.fts_engine.proofs.engine.Engine.view.Goals as goal
 
-pub returns-in-Ok : goal.returns-in-Ok
-returns-in-Ok g c =
+pub returns-in-Ok-clause-steps : goal.returns-in-Ok-clause-steps
+returns-in-Ok-clause-steps g c =
     let asked = leaves_seen c.args.leaves.items in
     let view = view_seen c.in-Ok.view in
     refuses c.args.self.now c.args.self.now refl refl refl refl refl refl (λ commits s is. is) (to_view asked) (viewed view) refl refl
@@ -18,7 +18,7 @@ returns-in-Ok g c =
           (c.in-Ok.ensures.right running.state.commits running.index has.indexed (exact_kept running c.args.self.now stands right)),
     ))
 
-pub returns-in-Err : goal.returns-in-Err
-returns-in-Err g c =
+pub returns-in-Err-clause-steps : goal.returns-in-Err-clause-steps
+returns-in-Err-clause-steps g c =
     refuses c.args.self.now c.args.self.now refl refl refl refl refl refl (λ commits s is. is) (to_view (leaves_seen c.args.leaves.items)) no_memory refl refl
     (λ running stands. tt)
