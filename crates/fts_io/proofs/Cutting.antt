@@ -6,7 +6,7 @@ use Rattle.std.proofs.lemmas.Bool.{cases_lt, eqb-true, eq-eqb}
 use Rattle.std.proofs.lemmas.List.{take_all, take_min, length-take-le}
 use Rattle.memchr.specs.Find.{IsFirstByte, Passes, is_byte}
 use Rattle.std.proofs.lemmas.Grind.{common_steps}
-use Rattle.fts_io.specs.Text.{too_long, onto, cut, sorted, lines_of}
+use Rattle.fts_io.specs.Text.{too_long, onto, cut, sorted, lines_of, feeds}
 use Rattle.fts_io.specs.Reading.{glue, lines_from}
 
 -- bytes before the first line are put before what stands before it
@@ -54,6 +54,26 @@ cut-none (b ∷ text) left before =
     cut-other b (text ++ left) (before 0 (omega arith))
     ∙ ap (onto (b ∷ [])) (cut-none text left (λ k below. before (suc k) (omega arith)))
     ∙ onto-glue b text (cut left)
+
+-- its LF is one of those of the text, and bytes without an LF have none
+pub feeds-other : (b : ℕ) (text : List ℕ) → b ≢ 10 → feeds (b ∷ text) ≡ feeds text
+feeds-other b text h = grind (arith, common_steps)
+
+pub feeds-feed : (b : ℕ) (text : List ℕ) → b ≡ 10 → feeds (b ∷ text) ≡ feeds text + 1
+feeds-feed b text h = grind (arith, common_steps)
+
+pub feeds-found : (at : ℕ) (text left : List ℕ) → at < length text → NoneBelow text at → get_or text at 0 ≡ 10
+    → feeds (text ++ left) ≡ feeds (drop (suc at) text ++ left) + 1
+feeds-found at [] left h before is = absurd (omega arith)
+feeds-found zero (b ∷ text) left h before is = feeds-feed b (text ++ left) is
+feeds-found (suc at) (b ∷ text) left h before is =
+    feeds-other b (text ++ left) (before 0 (omega arith))
+    ∙ feeds-found at text left (omega arith) (λ k below. before (suc k) (omega arith)) is
+
+pub feeds-none : (text left : List ℕ) → NoneBelow text (length text) → feeds (text ++ left) ≡ feeds left
+feeds-none [] left before = refl
+feeds-none (b ∷ text) left before =
+    feeds-other b (text ++ left) (before 0 (omega arith)) ∙ feeds-none text left (λ k below. before (suc k) (omega arith))
 
 -- a line that is too long stays so, whatever is kept of it
 pub sorted-long : (line : List ℕ) → 1048576 < length line → sorted line ≡ too_long
@@ -121,19 +141,23 @@ not_feed text at before k below is = before k (omega arith) below (eq-eqb (get_o
 -- the first LF of the bytes that are unread makes the line whole
 pub moves-found : (at : ℕ) (line unread buffer line' rest left : List ℕ) → unread ≡ buffer → IsFirstByte (is_byte 10) unread (Some at)
     → line' ≡ take 1048577 (line ++ take at unread) → rest ≡ drop (at + 1) buffer
-    → lines_from line (buffer ++ left) ≡ sorted line' ∷ lines_of (rest ++ left)
+    → (lines_from line (buffer ++ left) ≡ sorted line' ∷ lines_of (rest ++ left)) × (feeds (buffer ++ left) ≡ feeds (rest ++ left) + 1)
 moves-found at line unread buffer line' rest left same first is gone =
     let one : at + 1 ≡ suc at = omega arith in
     let goes : drop (suc at) unread ≡ rest = ap (drop (suc at)) same ∙ sym (gone ∙ ap (λ n. drop n buffer) one) in
-    ap (λ l. lines_from line (l ++ left)) (sym same)
-    ∙ lines_from-found at line unread left first.0.high (not_feed unread at first.0.before) (eqb-true (get_or unread at 0) 10 first.1)
-    ∙ ap (λ l. sorted l ∷ lines_of (drop (suc at) unread ++ left)) (sym is)
-    ∙ ap (λ l. sorted line' ∷ lines_of (l ++ left)) goes
+    let none = not_feed unread at first.0.before in
+    let feed = eqb-true (get_or unread at 0) 10 first.1 in (
+      ap (λ l. lines_from line (l ++ left)) (sym same)
+          ∙ lines_from-found at line unread left first.0.high none feed
+          ∙ ap (λ l. sorted l ∷ lines_of (drop (suc at) unread ++ left)) (sym is)
+          ∙ ap (λ l. sorted line' ∷ lines_of (l ++ left)) goes,
+      ap (λ l. feeds (l ++ left)) (sym same) ∙ feeds-found at unread left first.0.high none feed ∙ ap (λ l. feeds (l ++ left) + 1) goes,
+    )
 
 -- where there is no LF, all of them belong to the line begun
 pub moves-none : (line unread buffer line' rest left : List ℕ) → unread ≡ buffer → IsFirstByte (is_byte 10) unread None
     → line' ≡ take 1048577 (line ++ unread) → rest ≡ drop (length unread) buffer
-    → (lines_from line' (rest ++ left) ≡ lines_from line (buffer ++ left)) × (rest ≡ [])
+    → (lines_from line' (rest ++ left) ≡ lines_from line (buffer ++ left)) × (rest ≡ []) × (feeds (buffer ++ left) ≡ feeds (rest ++ left))
 moves-none line unread buffer line' rest left same none is gone =
     let empty : rest ≡ [] = gone ∙ ap (drop (length unread)) (sym same) ∙ drop-length unread in (
       ap (λ l. lines_from line' (l ++ left)) empty
@@ -141,6 +165,9 @@ moves-none line unread buffer line' rest left same none is gone =
           ∙ lines_from-none line unread left (not_feed unread (length unread) none)
           ∙ ap (λ l. lines_from line (l ++ left)) same,
       empty,
+      ap (λ l. feeds (l ++ left)) (sym same)
+          ∙ feeds-none unread left (not_feed unread (length unread) none)
+          ∙ ap (λ l. feeds (l ++ left)) (sym empty),
     )
 
 -- ---- where there is a byte, there is a line

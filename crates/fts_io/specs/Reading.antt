@@ -1,6 +1,6 @@
-use Rattle.std.specs.Prelude.{◌≡◌, ℕ, ◌+◌, ◌-◌, ◌*◌, ◌^◌, ◌<◌, ◌≤◌, min, Bool, true, false, List, [], ◌∷◌, ◌++◌, length}
-use Rattle.std.specs.Prelude.{map}
-use Rattle.fts_io.specs.Text.{Line, onto, cut, lines_of, sorted, too_long, whole}
+use Rattle.std.specs.Prelude.{◌≡◌, ◌⊎◌, ℕ, ◌+◌, ◌-◌, ◌*◌, ◌^◌, ◌<◌, ◌≤◌, min, Bool, true, false, List, [], ◌∷◌, ◌++◌}
+use Rattle.std.specs.Prelude.{length, map}
+use Rattle.fts_io.specs.Text.{Line, onto, cut, lines_of, sorted, too_long, whole, feeds}
 use Rattle.fts_io.specs.declared.lines.Lines.{Lines}
 use Rattle.fts_io.specs.declared.lines.Filled.{Filled}
 use Rattle.fts_io.specs.declared.lines.Filled.TheVariants as filled
@@ -19,6 +19,10 @@ lines_from begun text = map sorted (glue begun (cut text))
 -- the lines that are still to come, where the source has these bytes left
 abbrev pub ahead : Lines → List ℕ → List Line
 ahead lines left = lines_from lines.line.items (lines.buffer ++ left)
+
+-- how many of these end with an LF
+abbrev pub ended_ahead : Lines → List ℕ → ℕ
+ended_ahead lines left = feeds (lines.buffer ++ left)
 
 -- how many bytes were taken from the source
 abbrev pub taken_by : Lines → ℕ
@@ -40,6 +44,16 @@ Gives next.End before after = (before ≡ []) × (after ≡ [])
 Gives (next.Endless bytes) before after = after ≡ before
 Gives next.ReadFault before after = after ≡ before
 Gives next.NoMemory before after = (after ≡ before) × (after ≡ [] → ⊥)
+
+-- what an answer says of the lines to come that end with an LF, before it and after it, by the lines after it: a line
+-- that is given is one of them, or there is none behind it
+abbrev pub Ends : Next → List Line → ℕ → ℕ → Type 0
+Ends (next.Line bytes) behind before after = (before ≡ after + 1) ⊎ (behind ≡ [])
+Ends (next.TooLong number) behind before after = (before ≡ after + 1) ⊎ (behind ≡ [])
+Ends next.End behind before after = before ≡ after
+Ends (next.Endless bytes) behind before after = before ≡ after
+Ends next.ReadFault behind before after = before ≡ after
+Ends next.NoMemory behind before after = before ≡ after
 
 -- what an answer says of the count of lines given: each line is counted, and one too long carries its number
 abbrev pub Counts : Next → ℕ → ℕ → Type 0
@@ -79,9 +93,10 @@ pub record Accounts (answer : Next) (old new : Lines) : Type 0 where
 abbrev pub IsEndless : Next → ℕ → Type 0
 IsEndless answer bytes = answer ≡ next.Endless bytes
 
--- of these lines no whole one was taken: they are those of what is left, behind what was begun
-abbrev pub OnlyBegun : List Line → List ℕ → Type 0
-OnlyBegun lines left = (begun : List ℕ) × (lines ≡ lines_from begun left)
+-- of these lines, of which so many end with an LF, no whole one was taken: they are those of what is left, behind what
+-- was begun
+abbrev pub OnlyBegun : List Line → ℕ → List ℕ → Type 0
+OnlyBegun lines ended left = (begun : List ℕ) × (lines ≡ lines_from begun left) × (ended ≡ feeds left)
 
 -- what is known once the buffer was filled
 abbrev pub HasFilled : Filled → Lines → Type 0
@@ -90,7 +105,9 @@ HasFilled filled.Dry lines = (lines.buffer ≡ []) × (lines.taken ≤ 2 ^ 40)
 HasFilled filled.Endless lines = 2 ^ 40 < lines.taken
 HasFilled filled.Fault lines = (lines.buffer ≡ []) × (lines.taken ≤ 2 ^ 40)
 
--- a piece of the buffer was moved to the line begun, which it made whole or not
+-- a piece of the buffer was moved to the line begun, which it made whole, by an LF, or not
 abbrev pub TakesPiece : Bool → Lines → Lines → List ℕ → Type 0
-TakesPiece true old new left = ahead old left ≡ sorted new.line.items ∷ lines_of (new.buffer ++ left)
+TakesPiece true old new left = (ahead old left ≡ sorted new.line.items ∷ lines_of (new.buffer ++ left))
+    × (ended_ahead old left ≡ ended_ahead new left + 1)
 TakesPiece false old new left = (ahead new left ≡ ahead old left) × (new.buffer ≡ [])
+    × (ended_ahead old left ≡ ended_ahead new left)

@@ -1,4 +1,4 @@
-use Rattle.std.specs.Prelude.{ℕ, nat_eq, nat_lt, cond, List, [], ◌∷◌, ◌++◌, length, map}
+use Rattle.std.specs.Prelude.{ℕ, ◌+◌, nat_eq, nat_lt, cond, List, [], ◌∷◌, ◌++◌, length, map}
 
 -- a line of a text: whole, or too long to be kept
 pub data Line : Type 0 where
@@ -14,6 +14,11 @@ onto front (line ∷ lines) = (front ++ line) ∷ lines
 abbrev pub cut : List ℕ → List (List ℕ)
 cut [] = []
 cut (byte ∷ text) = cond (nat_eq byte 10) ([] ∷ cut text) (onto (byte ∷ []) (cut text))
+
+-- how many LFs a text has
+abbrev pub feeds : List ℕ → ℕ
+feeds [] = 0
+feeds (byte ∷ text) = cond (nat_eq byte 10) (feeds text + 1) (feeds text)
 
 -- a line has at most 2^20 bytes
 abbrev pub sorted : List ℕ → Line

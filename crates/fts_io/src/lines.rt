@@ -76,14 +76,16 @@ pub struct Lines {
 }
 
 impl Lines {
-    ghost use Rattle.fts_io.specs.Text.{Line, lines_of, sorted};
+    ghost use Rattle.fts_io.specs.Text.{Line, lines_of, sorted, feeds};
     ghost use Rattle.fts_io.specs.Reading.{Accounts, Counts, Gives, HasFilled, IsEndless, IsLine};
-    ghost use Rattle.fts_io.specs.Reading.{Measures, OnlyBegun, TakesPiece, ahead, given_by};
-    ghost use Rattle.fts_io.specs.Reading.{taken_by, work_left};
+    ghost use Rattle.fts_io.specs.Reading.{Measures, OnlyBegun, TakesPiece, ahead, given_by, Ends};
+    ghost use Rattle.fts_io.specs.Reading.{ended_ahead, taken_by, work_left};
 
     /// A reader that has taken nothing yet.
     pub fn new(alloc: Global) -> Result<Lines, AllocError>
         ensures lines { IfOk result (λ lines. (left : List ℕ) → ahead lines left ≡ lines_of left) }
+        ensures ended { IfOk result
+            (λ lines. (left : List ℕ) → ended_ahead lines left ≡ feeds left) }
         ensures taken { IfOk result (λ lines. taken_by lines ≡ 0) }
         ensures given { IfOk result (λ lines. given_by lines ≡ 0) }
     {
@@ -102,6 +104,9 @@ impl Lines {
             → Gives result (ahead self.old (S.left source.old))
             (ahead self.new (S.left source.new)) }
         ensures end { IsTrue S.tells → result ≡ Next.End → S.left source.new ≡ [] }
+        ensures ends { IsTrue S.tells → Ends result (ahead self.new (S.left source.new))
+            (ended_ahead self.old (S.left source.old))
+            (ended_ahead self.new (S.left source.new)) }
 
         // Each byte that left the source was taken, and Endless comes exactly where more than 2^40
         // were.
@@ -112,10 +117,11 @@ impl Lines {
 
         // Where the reading stops, all whole lines before were given.
         ensures read_dry { IsTrue S.tells → result ≡ Next.ReadFault
-            → OnlyBegun (ahead self.new (S.left source.new)) (S.left source.new) }
+            → OnlyBegun (ahead self.new (S.left source.new))
+            (ended_ahead self.new (S.left source.new)) (S.left source.new) }
         ensures endless_dry { IsTrue S.tells → (bytes : ℕ) → IsEndless result bytes
             → (byte : ℕ) × OnlyBegun (ahead self.new (S.left source.new))
-            (byte ∷ S.left source.new) }
+            (ended_ahead self.new (S.left source.new)) (byte ∷ S.left source.new) }
 
         ensures faults { CountsFault (result ≡ Next.ReadFault) (S.faults source.old)
             (S.faults source.new) }

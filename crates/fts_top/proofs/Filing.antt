@@ -106,7 +106,7 @@ module _ {S : Type 0} (sight : Sight S) (single : sight.is_shared ≡ false) (se
   reads_on met reads = record { front = front_on true [] reads.front; whole = reads.whole; met_is = reads.met_is; empty = reads.empty }
 
   abbrev stops_on : (n : ℕ) → Stops sight start script n before now → Stops (device_sight both settings limits) start script n begun done
-  stops_on n stops = record { ahead = stops.ahead; front = front_on true stops.ahead stops.front; whole = stops.whole; begun = stops.begun }
+  stops_on n stops = record { ahead = stops.ahead; front = front_on true stops.ahead stops.front; whole = stops.whole; ended = stops.ended; begun = stops.begun; all = stops.all }
 
   -- the outcome of a run
   pub outcome_on : (result : RunEnd) → Outcome sight result start script before now

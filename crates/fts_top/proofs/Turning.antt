@@ -59,11 +59,11 @@ module _ {S : Type 0} (sight : Sight S) where
   }
 
   -- a line whose reply was not written whole
-  pub not_sent : (cause : Unsent) (line : Line) (reply : Reply) (ahead behind : List Line) (sessions left : List Met) (before after : Sides S)
+  pub not_sent : (cause : Unsent) (line : Line) (reply : Reply) (ahead behind : List Line) (ended : ℕ) (sessions left : List Met) (before after : Sides S)
       → ahead ≡ line ∷ behind → Serves sight line sessions before.steps reply left after.steps
       → Sends (Err cause) reply before.held after.held → (cause ≡ unsent.NoMemory → is_fixed reply ≡ false) → IsLeft behind after.left
-      → OneLine sight (Err (halt_of_unsent cause)) ahead behind sessions left before after
-  not_sent unsent.WriteFault line reply ahead behind sessions left before after one serves sends calm rest =
+      → OneLine sight (Err (halt_of_unsent cause)) ahead behind ended sessions left before after
+  not_sent unsent.WriteFault line reply ahead behind ended sessions left before after one serves sends calm rest =
       (line, one, (sends.0, record { reply = reply; serves = serves; written = sends.1 }), rest)
-  not_sent unsent.NoMemory line reply ahead behind sessions left before after one serves sends calm rest =
+  not_sent unsent.NoMemory line reply ahead behind ended sessions left before after one serves sends calm rest =
       (rest, inr (line, one, (record { reply = reply; serves = serves; written = sends ∙ sym (append-nil before.held) }, calm refl)))

@@ -1,6 +1,6 @@
 use Rattle.std.specs.Prelude.{◌≡◌, ◌⊎◌, ◌<◌, ◌≤◌, ◌+◌, ◌^◌, ℕ, Bool, true, false, List, [], ◌∷◌, ◌++◌, length, take}
 use Rattle.std.specs.Prelude.{Result, Ok, Err, Some}
-use Rattle.fts_io.specs.Text.{Line}
+use Rattle.fts_io.specs.Text.{Line, feeds}
 use Rattle.fts_io.specs.Reading.{OnlyBegun, lines_from}
 use Rattle.fts_schema.specs.declared.reply.Reply.{Reply}
 use Rattle.fts_schema.specs.Reply.{text_of, is_fixed}
@@ -65,9 +65,15 @@ pub record IsCut (n : ℕ) (replies : List Reply) (text : List ℕ) : Type 0 whe
 abbrev pub IsLeft : List Line → List ℕ → Type 0
 IsLeft ahead left = (begun unused : List ℕ) × (ahead ≡ lines_from begun (unused ++ left))
 
--- of the lines ahead only the first was begun; n bytes behind its begun part were read and not looked at
-abbrev pub Begun : ℕ → List Line → List ℕ → Type 0
-Begun n ahead left = (kept : List ℕ) × (length kept ≡ n) × OnlyBegun ahead (kept ++ left)
+-- of the lines ahead, of which so many end with an LF, only the first was begun; n bytes behind its begun part were read
+-- and not looked at
+abbrev pub Begun : ℕ → List Line → ℕ → List ℕ → Type 0
+Begun n ahead ended left = (kept : List ℕ) × (length kept ≡ n) × OnlyBegun ahead ended (kept ++ left)
+
+-- so many lines were executed of a text, and of those ahead so many end with an LF: that is all that do, unless none is
+-- ahead
+abbrev pub AreAllEnded : List ℕ → ℕ → List Line → ℕ → Type 0
+AreAllEnded script count ahead ended = (ahead ≡ []) ⊎ (feeds script ≡ count + ended)
 
 -- the script was read to its end, and its lines met this
 pub record ReadsToEnd {S : Type 0} (sight : Sight S) (met : Health) (start : Running) (script : List Line)
@@ -78,13 +84,15 @@ pub record ReadsToEnd {S : Type 0} (sight : Sight S) (met : Health) (start : Run
   pub empty : after.left ≡ []
 
 -- whole lines from the front were executed, and of those ahead no whole one was read: of the first some bytes,
--- and behind it n bytes that were not looked at
+-- and behind it n bytes that were not looked at. So each line that ended was executed
 pub record Stops {S : Type 0} (sight : Sight S) (start : Running) (script : List Line) (n : ℕ) (before after : Sides S)
     : Type 0 where
   pub ahead : List Line
   pub front : Front sight start true script ahead before after
   pub whole : IsWhole front.replies front.text
-  pub begun : Begun n ahead after.left
+  pub ended : ℕ
+  pub begun : Begun n ahead ended after.left
+  pub all : AreAllEnded before.left (length front.lines) ahead ended
 
 -- lines from the front were executed, and of the last one's reply n bytes written
 pub record Late {S : Type 0} (sight : Sight S) (start : Running) (script : List Line) (n : ℕ) (before after : Sides S)
@@ -152,26 +160,35 @@ pub record IsDone {S : Type 0} (sight : Sight S) (line : Line) (met : Health) (s
   pub batches : MakesBatches sight (committed_by reply) later middle after.steps
   pub met_is : met ≡ worse (health_of reply) later
 
--- one line of a run, which goes on or ends: from the lines ahead to those behind it, and from these sessions to those
-abbrev pub OneLine : {S : Type 0} → Sight S → Result Health Halt → List Line → List Line → List Met → List Met
+-- one line of a run, which goes on or ends: from the lines ahead to those behind it, of which so many end with an LF,
+-- and from these sessions to those
+abbrev pub OneLine : {S : Type 0} → Sight S → Result Health Halt → List Line → List Line → ℕ → List Met → List Met
     → Sides S → Sides S → Type 0
-OneLine sight (Ok met) ahead behind sessions left before after =
+OneLine sight (Ok met) ahead behind ended sessions left before after =
     (line : Line) × (ahead ≡ line ∷ behind) × IsDone sight line met sessions left before after
-OneLine sight (Err halt.End) ahead behind sessions left before after =
+OneLine sight (Err halt.End) ahead behind ended sessions left before after =
     (ahead ≡ []) × (after.left ≡ []) × Stays before after
-OneLine sight (Err halt.ReadFault) ahead behind sessions left before after =
-    Begun 0 ahead after.left × Stays before after
-OneLine sight (Err (halt.TooLong lines bytes)) ahead behind sessions left before after =
-    Begun 1 ahead after.left × Stays before after
-OneLine sight (Err (halt.TooManySessions number)) ahead behind sessions left before after = (line : Line)
+OneLine sight (Err halt.ReadFault) ahead behind ended sessions left before after =
+    Begun 0 ahead ended after.left × Stays before after
+OneLine sight (Err (halt.TooLong lines bytes)) ahead behind ended sessions left before after =
+    Begun 1 ahead ended after.left × Stays before after
+OneLine sight (Err (halt.TooManySessions number)) ahead behind ended sessions left before after = (line : Line)
     × (ahead ≡ line ∷ behind) × IsOf line (Some number) × (is_met sessions number ≡ false) × (length sessions ≡ 16)
     × IsLeft behind after.left × Stays before after
-OneLine sight (Err halt.WriteFault) ahead behind sessions left before after = (line : Line) × (ahead ≡ line ∷ behind)
+OneLine sight (Err halt.WriteFault) ahead behind ended sessions left before after = (line : Line) × (ahead ≡ line ∷ behind)
     × ((n : ℕ) × Replies sight line n sessions left before after) × IsLeft behind after.left
-OneLine sight (Err halt.NoMemory) ahead behind sessions left before after =
+OneLine sight (Err halt.NoMemory) ahead behind ended sessions left before after =
     IsLeft behind after.left × (((ahead ≡ behind) × (behind ≡ [] → ⊥) × Stays before after)
     ⊎ ((line : Line) × (ahead ≡ line ∷ behind)
     × ((replies : Replies sight line 0 sessions left before after) × (is_fixed replies.reply ≡ false))))
+
+-- what it leaves of the lines to come that end with an LF: it was one of them, or none is behind it; and all of them
+-- where no line was read
+abbrev pub LeavesEnded : Result Health Halt → List Line → ℕ → ℕ → Type 0
+LeavesEnded (Ok met) behind before after = (before ≡ after + 1) ⊎ (behind ≡ [])
+LeavesEnded (Err halt.ReadFault) behind before after = before ≡ after
+LeavesEnded (Err (halt.TooLong lines bytes)) behind before after = before ≡ after
+LeavesEnded (Err why) behind before after = Unit {0}
 
 -- the script was too long: more than 2^40 bytes of it were taken, and the rest is left
 abbrev pub PassesLimit : ℕ → List ℕ → List ℕ → Type 0

@@ -3,13 +3,13 @@ ghost use Rattle.std.specs.Prelude.{false, Ok, Err};
 ghost use Rattle.std.specs.Vec.{vec_capacity};
 ghost use Rattle.fts_faults.specs.Count.{CountsFault};
 ghost use Rattle.fts_io.specs.Text.{lines_of};
-ghost use Rattle.fts_io.specs.Reading.{ahead, given_by, taken_by, work_left};
+ghost use Rattle.fts_io.specs.Reading.{ahead, ended_ahead, given_by, taken_by, work_left};
 ghost use Rattle.fts_schema.specs.Reply.{is_fixed};
 ghost use Rattle.fts_steps.specs.Running.{Running};
 ghost use Rattle.fts_top.specs.Health.{IsRead};
 ghost use Rattle.fts_top.specs.Kept.{mets, AreKept, AllFit, NextSession};
 ghost use Rattle.fts_top.specs.Sessions.{IsCrowded};
-ghost use Rattle.fts_top.specs.Run.{Outcome, OneLine, PassesLimit, Sends, sides};
+ghost use Rattle.fts_top.specs.Run.{Outcome, OneLine, LeavesEnded, PassesLimit, Sends, sides};
 
 use crate::batches::met_behind;
 use crate::ends::{Halt, Health, RunEnd, Unsent};
@@ -91,12 +91,14 @@ fn one_line<I: Source, O: Sink, S: EngineSteps, G: Gate>(
     requires fit { AllFit (length (S.sight.settings steps.old).columns) sessions.old }
     ensures line { IsTrue I.tells → IsTrue O.tells → OneLine S.sight result
         (ahead lines.old (I.left input.old)) (ahead lines.new (I.left input.new))
-        (mets sessions.old) (mets sessions.new)
+        (ended_ahead lines.new (I.left input.new)) (mets sessions.old) (mets sessions.new)
         (sides (I.left input.old) (O.holds out.old) steps.old)
         (sides (I.left input.new) (O.holds out.new) steps.new) }
     ensures session { IsTrue I.tells → NextSession result
         (ahead lines.old (I.left input.old)) (ahead lines.new (I.left input.new))
         (mets sessions.old) (mets sessions.new) }
+    ensures ended { IsTrue I.tells → LeavesEnded result (ahead lines.new (I.left input.new))
+        (ended_ahead lines.old (I.left input.old)) (ended_ahead lines.new (I.left input.new)) }
     ensures kept { AreKept sessions.new }
     ensures fit { AllFit (length (S.sight.settings steps.new).columns) sessions.new }
     ensures progress { IsOk result → work_left lines.new < work_left lines.old }

@@ -1,7 +1,7 @@
 use Rattle.std.proofs.Common.{refl, ap, subst, sym, length}
 use Rattle.std.specs.Prelude.{Err}
 use Rattle.fts_io.specs.Text.{whole, too_long}
-use Rattle.fts_io.specs.Reading.{ahead}
+use Rattle.fts_io.specs.Reading.{ahead, ended_ahead}
 use Rattle.fts_top.specs.declared.ends.Halt.{Halt}
 use Rattle.fts_types.specs.declared.settings.Settings.{Settings}
 use Rattle.fts_steps.proofs.Making.{made_keeps}
@@ -18,12 +18,13 @@ returns-in-Ok-clause-line g c tells_input tells_out =
     let sight = g.S.EngineSteps.sight in
     let script = ahead c.args.lines.now (g.I.Source.left c.args.input.now) in
     let behind = ahead c.next_line.new.self (g.I.Source.left c.next_line.new.source) in
+    let ended = ended_ahead c.next_line.new.self (g.I.Source.left c.next_line.new.source) in
     let old = mets c.args.sessions.now in
     let new = mets c.execute.new.self in
     let before = sides (g.I.Source.left c.args.input.now) (g.O.Sink.holds c.args.out.now) c.args.steps.now in
     let after = sides (g.I.Source.left c.next_line.new.source) (g.O.Sink.holds c.send.new.out) c.execute.new.steps in
-    subst (λ (e : Halt). OneLine sight (Err e) script behind old new before after) (sym c.from.ensures)
-    (not_sent sight c.in-Err-send.unsent (whole c.in-Line.line.items) c.in-Ok.reply script behind old new before after
+    subst (λ (e : Halt). OneLine sight (Err e) script behind ended old new before after) (sym c.from.ensures)
+    (not_sent sight c.in-Err-send.unsent (whole c.in-Line.line.items) c.in-Ok.reply script behind ended old new before after
     (c.in-Line.ensures.lines tells_input)
     (rw c.deref.ensures.value at c.in-Ok.ensures.serves)
     (c.in-Err-send.ensures.sends tells_out)
@@ -65,12 +66,13 @@ returns-in-Ok-skip-clause-line g c tells_input tells_out =
     let sight = g.S.EngineSteps.sight in
     let script = ahead c.args.lines.now (g.I.Source.left c.args.input.now) in
     let behind = ahead c.next_line.new.self (g.I.Source.left c.next_line.new.source) in
+    let ended = ended_ahead c.next_line.new.self (g.I.Source.left c.next_line.new.source) in
     let old = mets c.args.sessions.now in
     let new = mets c.skip.new.self in
     let before = sides (g.I.Source.left c.args.input.now) (g.O.Sink.holds c.args.out.now) c.args.steps.now in
     let after = sides (g.I.Source.left c.next_line.new.source) (g.O.Sink.holds c.send-in-Ok-skip.new.out) c.args.steps.now in
-    subst (λ (e : Halt). OneLine sight (Err e) script behind old new before after) (sym c.from-in-Err-send-2.ensures)
-    (not_sent sight c.in-Err-send-2.unsent too_long LineTooLong script behind old new before after
+    subst (λ (e : Halt). OneLine sight (Err e) script behind ended old new before after) (sym c.from-in-Err-send-2.ensures)
+    (not_sent sight c.in-Err-send-2.unsent too_long LineTooLong script behind ended old new before after
     (c.in-TooLong.ensures.lines tells_input)
     (skips sight old new c.args.steps.now c.in-Ok-skip.ensures.met)
     (c.in-Err-send-2.ensures.sends tells_out)

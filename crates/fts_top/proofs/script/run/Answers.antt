@@ -1,7 +1,7 @@
-use Rattle.std.proofs.Common.{◌≡◌, true, arith, inl, refl, ap, sym, subst, ◌∙◌, []}
+use Rattle.std.proofs.Common.{◌≡◌, ◌+◌, true, arith, inl, inr, refl, ap, sym, subst, ◌∙◌, []}
 use Rattle.std.specs.Prelude.{Err}
 use Rattle.fts_io.specs.Text.{lines_of}
-use Rattle.fts_io.specs.Reading.{ahead, given_by}
+use Rattle.fts_io.specs.Reading.{ahead, ended_ahead, given_by}
 use Rattle.fts_top.specs.declared.ends.RunEnd.{RunEnd}
 use Rattle.fts_top.specs.Run.{sides, Outcome}
 use Rattle.fts_top.specs.Kept.{mets}
@@ -51,6 +51,7 @@ lines-init g c = record {
         whole = refl;
         met_is = refl;
         counted = sym c.in-Ok.ensures.given;
+        all = inr (sym (ap (λ n. n + ended_ahead c.in-Ok.lines left) c.in-Ok.ensures.given ∙ c.in-Ok.ensures.ended left));
         kept = refl;
       };
   session = λ tells. record { lines = []; cut = sym (c.in-Ok.ensures.lines (g.I.Source.left c.args.input.now)); are = ap numbers_of c.in-Ok-new.ensures.none };
@@ -67,12 +68,13 @@ lines-preserved g c = record {
   front = λ tells_input tells_out start stands.
       goes_on g.S.EngineSteps.sight start (lines_of (g.I.Source.left c.args.input.now))
       (ahead c.lines.lines (g.I.Source.left c.lines.input)) (ahead c.one_line.new.lines (g.I.Source.left c.one_line.new.input))
+      (ended_ahead c.lines.lines (g.I.Source.left c.lines.input)) (ended_ahead c.one_line.new.lines (g.I.Source.left c.one_line.new.input))
       c.lines.met c.in-Ok-one_line.now c.worse-met.result (mets c.lines.sessions) (mets c.one_line.new.sessions) (given_by c.lines.lines) (given_by c.one_line.new.lines)
       (sides (g.I.Source.left c.args.input.now) (g.O.Sink.holds c.args.out.now) c.args.steps.now)
       (sides (g.I.Source.left c.lines.input) (g.O.Sink.holds c.lines.out) c.lines.steps)
       (sides (g.I.Source.left c.one_line.new.input) (g.O.Sink.holds c.one_line.new.out) c.one_line.new.steps)
       (c.lines.invariant.front tells_input tells_out start stands) (kept_few c.one_line.new.sessions c.one_line.ensures.kept) (c.in-Ok-one_line.ensures.line tells_input tells_out)
-      c.worse-met.ensures (c.in-Ok-one_line.ensures.given refl);
+      (c.in-Ok-one_line.ensures.ended tells_input) c.worse-met.ensures (c.in-Ok-one_line.ensures.given refl);
   session = λ tells.
       met_more c.in-Ok-one_line.now (lines_of (g.I.Source.left c.args.input.now)) (ahead c.lines.lines (g.I.Source.left c.lines.input)) (ahead c.one_line.new.lines (g.I.Source.left c.one_line.new.input))
       (mets c.lines.sessions) (mets c.one_line.new.sessions) (c.lines.invariant.session tells) (c.in-Ok-one_line.ensures.session tells);
@@ -101,8 +103,9 @@ returns-in-Err-one_line-clause-runs g c tells_input tells_out start stands =
     subst (λ (e : RunEnd). Outcome sight e start script before now) (sym c.end_of.ensures)
     (ends sight start script c.in-Err-one_line.halt
     (ahead c.lines.lines (g.I.Source.left c.lines.input)) (ahead c.one_line.new.lines (g.I.Source.left c.one_line.new.input))
+    (ended_ahead c.lines.lines (g.I.Source.left c.lines.input)) (ended_ahead c.one_line.new.lines (g.I.Source.left c.one_line.new.input))
     c.lines.met (mets c.lines.sessions) (mets c.one_line.new.sessions) (given_by c.lines.lines) before middle now
-    (c.lines.invariant.front tells_input tells_out start stands) (kept_few c.one_line.new.sessions c.one_line.ensures.kept) (c.in-Err-one_line.ensures.line tells_input tells_out)
+    (c.lines.invariant.front tells_input tells_out start stands) (kept_few c.one_line.new.sessions c.one_line.ensures.kept) (c.in-Err-one_line.ensures.line tells_input tells_out) (c.in-Err-one_line.ensures.ended tells_input)
     (λ number bytes e. (c.in-Err-one_line.ensures.too_long number bytes (ap Err e)).0))
 
 pub returns-in-Err-one_line-clause-crowded : goal.returns-in-Err-one_line-clause-crowded

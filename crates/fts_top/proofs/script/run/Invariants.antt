@@ -1,7 +1,7 @@
 use Rattle.std.proofs.Common.{◌≡◌, ◌+◌, IsTrue, length}
 use Rattle.fts_faults.specs.Count.{CountsFault}
 use Rattle.fts_io.specs.Text.{lines_of}
-use Rattle.fts_io.specs.Reading.{ahead, given_by, taken_by, work_left}
+use Rattle.fts_io.specs.Reading.{ahead, ended_ahead, given_by, taken_by, work_left}
 use Rattle.fts_steps.specs.Running.{Running}
 use Rattle.fts_top.specs.declared.ends.Health.TheVariants.{Failed}
 use Rattle.fts_top.specs.Run.{sides}
@@ -13,7 +13,8 @@ use Rattle.fts_top.proofs.script.run.Given as goal
 abbrev pub invariant-lines : goal.invariant-lines
 invariant-lines g l = record {
   front : IsTrue g.I.Source.tells → IsTrue g.O.Sink.tells → (start : Running) → g.S.EngineSteps.sight.stands start l.initial.steps
-      → SoFar g.S.EngineSteps.sight start (lines_of (g.I.Source.left l.initial.input)) (ahead l.lines (g.I.Source.left l.input)) l.met (mets l.sessions) (given_by l.lines)
+      → SoFar g.S.EngineSteps.sight start (lines_of (g.I.Source.left l.initial.input)) (ahead l.lines (g.I.Source.left l.input))
+      (ended_ahead l.lines (g.I.Source.left l.input)) l.met (mets l.sessions) (given_by l.lines)
       (sides (g.I.Source.left l.initial.input) (g.O.Sink.holds l.initial.out) l.initial.steps)
       (sides (g.I.Source.left l.input) (g.O.Sink.holds l.out) l.steps);
   session : IsTrue g.I.Source.tells → AreMet (lines_of (g.I.Source.left l.initial.input)) (ahead l.lines (g.I.Source.left l.input)) (mets l.sessions);
