@@ -3,6 +3,7 @@ mod large;
 mod passing;
 mod random;
 
+use crate::number_behind_crash;
 use fts_commits::{Change, Changes, NewTexts};
 use fts_core::{Event, Last, Outcome, Place, World, step, steps};
 use fts_disk::{Kind, MemDisk};
@@ -673,6 +674,25 @@ fn a_crash_leaves_what_was_acknowledged(rt: HostRuntime) {
         let come = [true, case.found.len() > 1];
         assert_eq!(rt; ways_of(rt.alloc(), case), Some(come), "case {k}");
     }
+}
+
+/// The number that a client has behind two commits and this crash.
+fn client_number(alloc: Global, choice: u64) -> Option<u64> {
+    let settings = settings(alloc).ok()?;
+    let devices = (empty_disk(alloc, &[])?, empty_disk(alloc, &[])?);
+    let first = insert(alloc, 1, "apple", 1)?;
+    let second = insert(alloc, 2, "pear", 1)?;
+    let commits = (
+        Changes::from_vec(vec![in alloc; first].ok()?),
+        Changes::from_vec(vec![in alloc; second].ok()?),
+    );
+    let leaves = leaves_of(alloc, "apple")?;
+    number_behind_crash(alloc, &settings, devices, commits, leaves, choice)
+}
+
+#[test]
+fn a_client_finds_its_commits(rt: HostRuntime) {
+    assert!(rt; client_number(rt.alloc(), 0x33) == Some(2));
 }
 
 /// An opening and a commit, a crash that leaves empty devices, and an opening.
