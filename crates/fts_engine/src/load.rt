@@ -294,22 +294,22 @@ fn restore_read<D: Disk>(
 {
     match found {
         ReadEntry::Batch { batch } => restore_batch(alloc, rows, restoring, &batch),
-        ReadEntry::Step { step } => restore_step(restoring, step),
+        ReadEntry::Step { step } => restore_step(restoring, &step),
     }
 }
 
 // Makes a step of OPTIMIZE; or tells that it is not the next one.
-fn restore_step(restoring: &mut Restoring, step: PassPlan) -> Result<bool, ReadError>
-    requires written { IsEntry (rules_of (restoring_settings restoring.old)) (step_entry step) }
+fn restore_step(restoring: &mut Restoring, step: &PassPlan) -> Result<bool, ReadError>
+    requires written { IsEntry (rules_of (restoring_settings restoring.old)) (step_entry step.now) }
     requires flushed { IsFlushed restoring.old }
     ensures restored { result ≡ Ok true → (all read : List (List ℕ)) (j : ℕ)
         → IsRestored all read j restoring.old
-        → take (j + 1) read ≡ take j read ++ entry_payload (step_entry step) ∷ []
+        → take (j + 1) read ≡ take j read ++ entry_payload (step_entry step.now) ∷ []
         → IsRestored all read (j + 1) restoring.new }
     ensures flushed { result ≡ Ok true → IsFlushed restoring.new }
     ensures refused { result ≡ Ok false → (all read : List (List ℕ)) (j : ℕ)
         → (old : IsRestored all read j restoring.old) → IsRestored all read j restoring.new
-        × NoneCanCome all (index_state old.of_rows.state) (step_entry step) }
+        × NoneCanCome all (index_state old.of_rows.state) (step_entry step.now) }
     ensures memory { (error : ReadError) → IsErrOf result error → error ≡ ReadError.NoMemory }
 {
     match restoring.restore_step(step) {

@@ -154,18 +154,18 @@ impl Restoring {
     }
 
     /// Makes a step of OPTIMIZE that was read; or tells that it is not the next one.
-    pub fn restore_step(&mut self, step: PassPlan) -> Result<(), RestoreError>
+    pub fn restore_step(&mut self, step: &PassPlan) -> Result<(), RestoreError>
         ensures rows { restoring_rows self.new ≡ restoring_rows self.old }
         ensures settings { restoring_settings self.new ≡ restoring_settings self.old }
         ensures commits { restoring_commits self.new ≡ restoring_commits self.old }
         ensures stepped { OnOk result ((commits : List Commit) (s : IndexState)
-            → IsCovering self.old commits s → IsStep s (step_entry step) × IsCovering self.new
-            commits (after_entry (turns_from no_rows commits) s (step_entry step))) }
+            → IsCovering self.old commits s → IsStep s (step_entry step.now) × IsCovering self.new
+            commits (after_entry (turns_from no_rows commits) s (step_entry step.now))) }
         ensures flushed { IsFlushed self.old → IsFlushed self.new }
         ensures stays { IsErrOf result RestoreError.Bad → (commits : List Commit)
             (s : IndexState) → IsCovering self.old commits s → IsCovering self.new commits s }
         ensures bad { IsErrOf result RestoreError.Bad → (commits : List Commit)
-            (s : IndexState) → IsCovering self.old commits s → IsStep s (step_entry step) → ⊥ }
+            (s : IndexState) → IsCovering self.old commits s → IsStep s (step_entry step.now) → ⊥ }
     {
         match self.index.restore_step(step) {
             Ok(()) => Ok(()),

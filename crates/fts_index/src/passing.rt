@@ -189,12 +189,12 @@ impl Index {
     /// Makes a step that was read from the index log. It is refused where the next step is another
     /// one, or none. Where it is refused, the index has what it had. It costs what the next step
     /// costs.
-    pub fn restore_step(&mut self, step: PassPlan) -> Result<(), RestoreError>
+    pub fn restore_step(&mut self, step: &PassPlan) -> Result<(), RestoreError>
         ensures restored { OnOk result ((rules : Rules) (turns : List Turn) (s : IndexState)
-            → StandsFor rules turns s self.old → IsStep s (step_entry step)
-            × StandsFor rules turns (after_entry turns s (step_entry step)) self.new) }
-        ensures bad { IsErrOf result Bad → (rules : Rules) (turns : List Turn)
-            (s : IndexState) → StandsFor rules turns s self.old → IsStep s (step_entry step) → ⊥ }
+            → StandsFor rules turns s self.old → IsStep s (step_entry step.now)
+            × StandsFor rules turns (after_entry turns s (step_entry step.now)) self.new) }
+        ensures bad { IsErrOf result Bad → (rules : Rules) (turns : List Turn) (s : IndexState)
+            → StandsFor rules turns s self.old → IsStep s (step_entry step.now) → ⊥ }
         ensures stays { IsErr result → (rules : Rules) (turns : List Turn) (s : IndexState)
             → StandsFor rules turns s self.old → StandsFor rules turns s self.new }
     {
@@ -202,7 +202,7 @@ impl Index {
             Some(plan) => plan,
             None => return Err(RestoreError::Bad),
         };
-        if !is_same(&plan, &step) {
+        if !is_same(&plan, step) {
             return Err(RestoreError::Bad);
         }
         self.install_optimize(plan);

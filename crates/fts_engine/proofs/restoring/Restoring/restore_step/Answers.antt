@@ -14,7 +14,7 @@ invariant_of-self c =
       right = r.right;
       standard = r.standard;
       fit = r.fit;
-      noted = ∥∥₁_map r.noted (still_stepped r.settings (rows_of r.rows) r.index c.restore_step.new.self r.covered r.commits c.args.step
+      noted = ∥∥₁_map r.noted (still_stepped r.settings (rows_of r.rows) r.index c.restore_step.new.self r.covered r.commits c.args.step.now
           c.restore_step.result c.restore_step.ensures.restored c.restore_step.ensures.stays);
     }
 
@@ -22,7 +22,7 @@ pub returns-in-Ok-clause-stepped : goal.returns-in-Ok-clause-stepped
 returns-in-Ok-clause-stepped c commits s is =
     let r = c.args.self.now in
     let made = c.in-Ok.ensures.restored (rules_of r.settings) (take s.flushed (turns_from no_rows commits)) s is.restores.stands in
-    (made.0, one_stepped r.settings (rows_of r.rows) r.index r.covered r.commits commits s is c.args.step c.restore_step.new.self made.0 made.1)
+    (made.0, one_stepped r.settings (rows_of r.rows) r.index r.covered r.commits commits s is c.args.step.now c.restore_step.new.self made.0 made.1)
 
 pub returns-in-Err-clause-stays : goal.returns-in-Err-clause-stays
 returns-in-Err-clause-stays c bad commits s is =

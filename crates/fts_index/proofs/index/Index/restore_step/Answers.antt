@@ -9,4 +9,4 @@ pub returns-then-not-is_same-clause-bad : goal.returns-then-not-is_same-clause-b
 returns-then-not-is_same-clause-bad c e rules turns s stands is =
     let plan = c.in-Some.plan in
     let planned : PlansStep s (Some plan) = subst (PlansStep s) c.in-Some.is (c.in_ok-plan.ensures.planned rules turns s stands) in
-    false≢true (sym c.if-not-is_same.true ∙ c.is_same.ensures.1 (same_step s (step_entry plan) (step_entry c.args.step) planned is))
+    false≢true (sym c.if-not-is_same.true ∙ c.is_same.ensures.1 (same_step s (step_entry plan) (step_entry c.args.step.now) planned is))
