@@ -1,5 +1,5 @@
 //! A client of the headline.
-ghost use Rattle.std.specs.Prelude.{◌≡◌, ℕ, true, IfSome};
+ghost use Rattle.std.specs.Prelude.{◌≡◌, ℕ, [], ◌∷◌, length, Ok, IfSome, IsTrue};
 ghost use Rattle.fts_types.specs.declared.settings.Settings.{Settings};
 ghost use Rattle.fts_core.specs.World.{Moments};
 ghost use Rattle.fts_core.specs.Core.{Fits};
@@ -47,16 +47,54 @@ fn two_commits(alloc: Global, world: Database, commits: (Changes, Changes)) -> O
     let limits = Limits::standard();
     let first = Event::Commit { changes: commits.0 };
     let second = Event::Commit { changes: commits.1 };
-    let events = vec![in alloc; Event::Opening { limits }, first, second].ok()?;
-    let (world, outcomes) = steps(alloc, world, events).ok()?;
-    match outcomes.as_slice() {
-        [
-            Outcome::Opened { result: Ok(()) },
-            Outcome::Committed { result: Ok(_) },
-            Outcome::Committed { result: Ok(_) },
-        ] => Some(world),
-        _ => None,
+    let events = three_events(alloc, Event::Opening { limits }, first, second)?;
+    let Ok((world, outcomes)) = steps(alloc, world, events) else {
+        return None;
+    };
+    let (opened, first, second) = three(outcomes)?;
+    if is_opened(&opened) && is_committed(&first) && is_committed(&second) {
+        return Some(world);
     }
+    None
+}
+
+type Step = Event<MemDisk, MemDisk>;
+
+/// A list of three events.
+fn three_events(alloc: Global, first: Step, second: Step, third: Step) -> Option<Vec<Step>>
+    ensures { IfSome result (λ all. all.items ≡ first ∷ second ∷ third ∷ []) }
+{
+    let mut events = Vec::new(alloc);
+    events.push(first).ok()?;
+    events.push(second).ok()?;
+    events.push(third).ok()?;
+    Some(events)
+}
+
+/// Three outcomes.
+fn three(outcomes: Vec<Outcome>) -> Option<(Outcome, Outcome, Outcome)>
+    ensures { IfSome result (λ all. length outcomes.items ≡ 3
+        → outcomes.items ≡ all.0 ∷ all.1 ∷ all.2 ∷ []) }
+{
+    let mut outcomes = outcomes;
+    let third = outcomes.pop()?;
+    let second = outcomes.pop()?;
+    let first = outcomes.pop()?;
+    Some((first, second, third))
+}
+
+/// Whether an opening answered `Ok`.
+fn is_opened(outcome: &Outcome) -> bool
+    ensures { IsTrue result → outcome.now ≡ Outcome.Opened (Ok tt) }
+{
+    matches!(outcome, Outcome::Opened { result: Ok(()) })
+}
+
+/// Whether a commit answered `Ok`.
+fn is_committed(outcome: &Outcome) -> bool
+    ensures { IsTrue result → (number : ℕ) × (outcome.now ≡ Outcome.Committed (Ok number)) }
+{
+    matches!(outcome, Outcome::Committed { result: Ok(_) })
 }
 
 /// The world with its devices closed and synced, and a crash within these syncs.
@@ -92,12 +130,13 @@ fn synced(disk: MemDisk, choice: u64) -> Option<(MemDisk, MemDisk)>
     ensures { IfSome result (λ now. IsSynced ⟦<MemDisk as Disk>⟧ disk now.0 now.1) }
 {
     let mut disk = disk;
-    disk.sync().ok()?;
-    let calls = disk.calls().len();
-    if calls == 0 {
+    let Ok(()) = disk.sync() else {
         return None;
-    }
-    let left = disk.pick_image(calls - 1, choice).ok()?;
+    };
+    let last = disk.calls().len() - 1;
+    let Ok(left) = disk.pick_image(last, choice) else {
+        return None;
+    };
     Some((disk, left))
 }
 
@@ -112,14 +151,15 @@ fn viewed_behind(
         → number ≡ commits) }
 {
     let limits = Limits::standard();
-    let events = vec![in alloc; crash, Event::Opening { limits }, Event::View { leaves }].ok()?;
-    let (_, outcomes) = steps(alloc, world, events).ok()?;
-    match outcomes.as_slice() {
-        [
-            Outcome::Crashed,
-            Outcome::Opened { result: Ok(()) },
-            Outcome::Viewed { result: Ok(view) },
-        ] => Some(view.number),
+    let events = three_events(alloc, crash, Event::Opening { limits }, Event::View { leaves })?;
+    let Ok((_, outcomes)) = steps(alloc, world, events) else {
+        return None;
+    };
+    let (crashed, opened, viewed) = three(outcomes)?;
+    match (crashed, viewed) {
+        (Outcome::Crashed, Outcome::Viewed { result: Ok(view) }) if is_opened(&opened) => {
+            Some(view.number)
+        }
         _ => None,
     }
 }

@@ -65,8 +65,8 @@ pub record IsCut (n : ℕ) (replies : List Reply) (text : List ℕ) : Type 0 whe
 abbrev pub IsLeft : List Line → List ℕ → Type 0
 IsLeft ahead left = (begun unused : List ℕ) × (ahead ≡ lines_from begun (unused ++ left))
 
--- of the lines ahead, of which so many end with an LF, only the first was begun; n bytes behind its begun part were read
--- and not looked at
+-- of the lines ahead, of which so many end with an LF, only the first was begun; n bytes behind its begun part were
+-- read and not looked at
 abbrev pub Begun : ℕ → List Line → ℕ → List ℕ → Type 0
 Begun n ahead ended left = (kept : List ℕ) × (length kept ≡ n) × OnlyBegun ahead ended (kept ++ left)
 
@@ -175,8 +175,9 @@ OneLine sight (Err (halt.TooLong lines bytes)) ahead behind ended sessions left 
 OneLine sight (Err (halt.TooManySessions number)) ahead behind ended sessions left before after = (line : Line)
     × (ahead ≡ line ∷ behind) × IsOf line (Some number) × (is_met sessions number ≡ false) × (length sessions ≡ 16)
     × IsLeft behind after.left × Stays before after
-OneLine sight (Err halt.WriteFault) ahead behind ended sessions left before after = (line : Line) × (ahead ≡ line ∷ behind)
-    × ((n : ℕ) × Replies sight line n sessions left before after) × IsLeft behind after.left
+OneLine sight (Err halt.WriteFault) ahead behind ended sessions left before after =
+    (line : Line) × (ahead ≡ line ∷ behind) × ((n : ℕ) × Replies sight line n sessions left before after)
+    × IsLeft behind after.left
 OneLine sight (Err halt.NoMemory) ahead behind ended sessions left before after =
     IsLeft behind after.left × (((ahead ≡ behind) × (behind ≡ [] → ⊥) × Stays before after)
     ⊎ ((line : Line) × (ahead ≡ line ∷ behind)

@@ -46,7 +46,8 @@ fn commit_three(alloc: Global, steps: &mut Direct<MemDisk, MemDisk>) {
     session.execute(steps, &OpenGate, b"DELETE FROM docs WHERE id = 9");
 }
 
-/// What a session has seen behind another's three commits, with an open transaction and behind its commit.
+/// What a session has seen behind three commits of another: with an open transaction, and behind
+/// its commit.
 fn seen_by(alloc: Global, steps: &mut Direct<MemDisk, MemDisk>) -> (u64, u64) {
     commit_three(alloc, steps);
     let mut session = Session::new(alloc, 7);
