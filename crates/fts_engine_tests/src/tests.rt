@@ -334,14 +334,21 @@ fn finds_and_flushes(alloc: Global, engine: &mut Engine<MemDisk, MemDisk>, throu
 }
 
 /// Whether it is so at each of four batches, of which two flush nothing.
-fn is_found_between_batches(alloc: Global) -> Option<bool> {
-    let mut engine = two_commits(alloc)?;
+fn finds_between_batches(alloc: Global, engine: &mut Engine<MemDisk, MemDisk>) -> bool {
     for through in 1..5 {
-        if !finds_and_flushes(alloc, &mut engine, through) {
-            return Some(false);
+        if !finds_and_flushes(alloc, engine, through) {
+            return false;
         }
     }
-    Some(true)
+    true
+}
+
+/// The same on an engine of two commits.
+fn is_found_between_batches(alloc: Global) -> Option<bool> {
+    let mut engine = two_commits(alloc)?;
+    let is_so = finds_between_batches(alloc, &mut engine);
+    drop(engine);
+    Some(is_so)
 }
 
 #[test]
@@ -409,14 +416,21 @@ fn listed_in_both(engine: &mut Engine<MemDisk, MemDisk>) -> [Option<(u64, usize)
 }
 
 /// Whether the listings tell of a batch what they should, and nothing before it.
+fn lists_a_batch(engine: &mut Engine<MemDisk, MemDisk>) -> bool {
+    let before = listed_config(engine);
+    let flushed = engine.sync_batch();
+    let words = listed_in_both(engine);
+    let behind = listed_config(engine);
+    let is_flushed = flushed == flushes(1) && words == [Some((2, 3)), Some((2, 3))];
+    is_flushed && before == Some((0, 0)) && behind == Some((1, 1))
+}
+
+/// The same on an engine of two commits.
 fn is_listed(alloc: Global) -> Option<bool> {
     let mut engine = two_commits(alloc)?;
-    let before = listed_config(&mut engine);
-    let flushed = engine.sync_batch();
-    let words = listed_in_both(&mut engine);
-    let behind = listed_config(&mut engine);
-    let is_flushed = flushed == flushes(1) && words == [Some((2, 3)), Some((2, 3))];
-    Some(is_flushed && before == Some((0, 0)) && behind == Some((1, 1)))
+    let is_so = lists_a_batch(&mut engine);
+    drop(engine);
+    Some(is_so)
 }
 
 #[test]
@@ -456,7 +470,8 @@ fn are_found_again(alloc: Global) -> Option<bool> {
     let engine = two_commits(alloc)?;
     let engine = found_again(alloc, engine, (1, 3, 3))?;
     let engine = found_again(alloc, engine, (2, 4, 0))?;
-    let _engine = found_again(alloc, engine, (3, 4, 0))?;
+    let engine = found_again(alloc, engine, (3, 4, 0))?;
+    drop(engine);
     Some(true)
 }
 

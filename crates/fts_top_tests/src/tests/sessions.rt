@@ -61,7 +61,9 @@ fn seen_by(alloc: Global, steps: &mut Direct<MemDisk, MemDisk>) -> (u64, u64) {
 /// Whether it has seen what its replies told, and nothing of the other session's.
 fn has_seen(alloc: Global) -> Result<bool, AllocError> {
     let mut steps = new_steps(alloc)?;
-    Ok(seen_by(alloc, &mut steps) == (0, 4))
+    let seen = seen_by(alloc, &mut steps);
+    drop(steps);
+    Ok(seen == (0, 4))
 }
 
 #[test]
