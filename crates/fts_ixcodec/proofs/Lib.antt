@@ -4,6 +4,7 @@ pub mod ReadLists
 pub mod Walks
 pub mod Nodes
 pub mod Places
+pub mod One
 pub mod Entries
 pub mod Forms
 pub mod Batches

@@ -1,11 +1,10 @@
 -- Where reading an entry stops, the grammar of its payload has the first fault.
-use Rattle.std.proofs.Common.{◌≡◌, ℕ, zero, suc, ◌-◌, ◌≤◌, ◌<◌, ◌^◌, Bool, true, false, not, ◌&&◌, cond, eqb, List, [], ◌∷◌, ◌++◌, length, Option, Some, None, Result, Ok, Err, bytes_eq, refl, sym, ap, subst, ◌∙◌, arith}
+use Rattle.std.proofs.Common.{◌≡◌, ℕ, zero, suc, ◌-◌, ◌≤◌, ◌<◌, ◌^◌, Bool, true, false, cond, eqb, List, [], ◌∷◌, ◌++◌, length, Option, Some, None, Result, Ok, Err, bytes_eq, refl, sym, ap, subst, ◌∙◌, arith}
 use Rattle.std.specs.Int.{w32, w64, to_be_bytes}
-use Rattle.std.specs.Ordering.{is_lt}
 use Rattle.std.proofs.lemmas.Bool.{and_parts, eqb-true}
 use Rattle.std.proofs.lemmas.Slice.Eq.{bytes_eq-Decides}
 use Rattle.fts_codec.specs.declared.fault.Fault.{Fault}
-use Rattle.fts_codec.specs.declared.fault.Fault.TheVariants.{NoMemory, Bad}
+use Rattle.fts_codec.specs.declared.fault.Fault.TheVariants.{Bad}
 use Rattle.fts_codec.specs.Fault.{Lacks}
 use Rattle.fts_codec.specs.Reading.{number_at, piece_at}
 use Rattle.fts_codec.specs.Fields.{◌>>=◌, or_left, field, only, tested}
@@ -14,12 +13,10 @@ use Rattle.fts_codec.proofs.Spelled.{IsBytes, Takes, Spells, number32, number64,
 use Rattle.fts_codec.proofs.Fields.{bind_bind}
 use Rattle.fts_codec.proofs.Faults.{Left, stuck, passes, in_field, in_end}
 use Rattle.fts_words.specs.Indexed.{Rules}
-use Rattle.fts_words.specs.Order.{byte_order}
 use Rattle.fts_ilist.specs.Spelling.{list_bytes, last_id}
 use Rattle.fts_ilist.specs.Node.{Docs}
 use Rattle.fts_entries.specs.Entry.{Batch, IndexEntry}
 use Rattle.fts_entries.specs.Entry.IndexEntry.{sealed, begun, worked, finished}
-use Rattle.fts_ixcodec.specs.Payload.{is_form}
 use Rattle.fts_ixcodec.specs.Building.{Building, nothing, batch_of, turned_to, with_node}
 use Rattle.fts_ixcodec.specs.Grammar.{MayFollow, IsNext, InWord, InList, InLists, last_of, InNodes, Kind, kind_payload, InKind, IsEntryFault}
 use Rattle.fts_ixcodec.specs.Grammar.Kind.{batch, begin, word, finish}
@@ -29,7 +26,7 @@ use Rattle.fts_ixcodec.proofs.ReadLists.{node_found, node_again}
 
 -- ---- words
 
-size_spells : (rules : Rules) → Spells one_byte (IsFrom rules.min rules.max) (size_at rules)
+pub size_spells : (rules : Rules) → Spells one_byte (IsFrom rules.min rules.max) (size_at rules)
 size_spells rules = record {
   takes = λ bytes size rest fits e. (let read = size_takes rules bytes size rest fits e in ((read.0, read.1), read.2));
   again = λ size rest is. rw (in_range rules.min rules.max size is) refl;
@@ -41,7 +38,7 @@ follow_is before size text is = let parts = and_parts _ _ is.1 in record { long 
 follow_told : (before : List ℕ) (size : ℕ) (text : List ℕ) → MayFollow before size text → (length text ≡ size) × (may_follow before text ≡ true)
 follow_told before size text may = (may.long, rw (may.form, may.follows) refl)
 
-words_spell : (before : List ℕ) (size : ℕ) → Spells (λ text. text) (MayFollow before size) (tested (may_follow before) (piece_at size))
+pub words_spell : (before : List ℕ) (size : ℕ) → Spells (λ text. text) (MayFollow before size) (tested (may_follow before) (piece_at size))
 words_spell before size =
     spells_as (λ text. text) (λ text. (length text ≡ size) × (may_follow before text ≡ true)) (MayFollow before size) (tested (may_follow before) (piece_at size))
     (follow_is before size) (follow_told before size) (tested_spells (λ text. text) (λ text. length text ≡ size) (piece_at size) (piece_spells size) (may_follow before))
@@ -72,19 +69,19 @@ in_word {B = B} rules before f Behind bytes left fits next e =
 
 -- ---- lists
 
-abbrev docs_with : List ℕ → Option Docs → Option (Docs × List ℕ)
+abbrev pub docs_with : List ℕ → Option Docs → Option (Docs × List ℕ)
 docs_with rest (Some docs) = Some (docs, rest)
 docs_with rest None = None
 
-abbrev docs_of : ℕ → Option (List ℕ × List ℕ) → Option (Docs × List ℕ)
+abbrev pub docs_of : ℕ → Option (List ℕ × List ℕ) → Option (Docs × List ℕ)
 docs_of last (Some list) = docs_with list.1 (node_in last list.0)
 docs_of last None = None
 
 -- a list of so many bytes
-abbrev docs_at : ℕ → ℕ → List ℕ → Option (Docs × List ℕ)
+abbrev pub docs_at : ℕ → ℕ → List ℕ → Option (Docs × List ℕ)
 docs_at last size bytes = docs_of last (piece_at size bytes)
 
-abbrev IsListOf : ℕ → ℕ → Docs → Type 0
+abbrev pub IsListOf : ℕ → ℕ → Docs → Type 0
 IsListOf last size docs = IsNext last docs × (length (list_bytes docs) ≡ size)
 
 docs_take : (last size : ℕ) (bytes : List ℕ) (docs : Docs) (rest : List ℕ) → IsBytes bytes → docs_at last size bytes ≡ Some (docs, rest) → IsListOf last size docs × Takes bytes (list_bytes docs) rest
@@ -110,7 +107,7 @@ docs_again last size docs rest is =
     let piece : piece_at size (list_bytes docs ++ rest) ≡ Some (list_bytes docs, rest) = ap (λ (n : ℕ). piece_at n (list_bytes docs ++ rest)) (sym is.1) ∙ piece_again (list_bytes docs) rest in
     ap (docs_of last) piece ∙ ap (docs_with rest) (node_again last docs is.0)
 
-docs_spell : (last size : ℕ) → Spells list_bytes (IsListOf last size) (docs_at last size)
+pub docs_spell : (last size : ℕ) → Spells list_bytes (IsListOf last size) (docs_at last size)
 docs_spell last size = record { takes = docs_take last size; again = docs_again last size }
 
 as_docs : (last size : ℕ) (bytes : List ℕ)

@@ -13,6 +13,7 @@ ghost use Rattle.fts_entries.specs.Batch.{IsBatch};
 ghost use Rattle.fts_entries.specs.Entry.{Batch, IndexState, sealed};
 ghost use Rattle.fts_entries.specs.Rows.{CanIndex};
 ghost use Rattle.fts_entries.specs.Words.{rows_postings};
+ghost use Rattle.fts_ixcodec.specs.Grammar.{IsEntryFault};
 ghost use Rattle.fts_ixcodec.specs.Payload.{FitsRecord, IsEntry};
 
 /// The index log can hold a batch of the words of rows that can be indexed, where a record of the
@@ -31,4 +32,11 @@ pub fn batches_are_entries()
         → All CanIndex (fold rows_by no_rows turns).list
         → through < 2 ^ 64 → synced < 2 ^ 64 → FitsRecord (sealed through synced batch)
         → IsEntry rules (sealed through synced batch) }
+{}
+
+/// Bytes that are no payload are at fault at one place. It does nothing: its contract is the
+/// theorem.
+pub fn faults_have_one_place()
+    ensures entries { (rules : Rules) (bytes : List ℕ) (a b : ℕ)
+        → IsEntryFault rules bytes a → IsEntryFault rules bytes b → a ≡ b }
 {}

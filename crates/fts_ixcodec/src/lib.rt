@@ -25,5 +25,5 @@ pub use encoding::{
 };
 pub use entry::Entry;
 pub use error::DecodeError;
-pub use laws::batches_are_entries;
+pub use laws::{batches_are_entries, faults_have_one_place};
 pub use measure::{entry_size, sealed_size, worked_size};

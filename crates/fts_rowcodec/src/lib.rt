@@ -11,6 +11,7 @@
 mod commit;
 mod encode;
 mod error;
+mod laws;
 mod measure;
 mod settings;
 mod writing;
@@ -18,5 +19,6 @@ mod writing;
 pub use commit::decode_commit;
 pub use encode::{encode_commit, encode_commit_into, encode_settings, encode_settings_into};
 pub use error::DecodeError;
+pub use laws::faults_have_one_place;
 pub use measure::{commit_size, settings_size};
 pub use settings::decode_settings;
