@@ -207,14 +207,14 @@ fn refuses_wrong_columns(rt: HostRuntime) {
 // Where the fields of settings begin.
 const FIELDS: &[usize] = &[0, 1, 2, 3, 7, 8, 9, 10, 12, 16];
 
-fn is_cut(alloc: Global, cut: usize) -> bool {
-    is_no_settings(alloc, &SETTINGS[..cut], last_until(FIELDS, cut))
+fn is_cut(alloc: Global, front: &[u8]) -> bool {
+    is_no_settings(alloc, front, last_until(FIELDS, front.len()))
 }
 
 #[test]
 fn refuses_settings_that_are_cut_or_longer(rt: HostRuntime) -> Result<(), Fail> {
     for cut in 0..20 {
-        let holds = is_cut(rt.alloc(), cut);
+        let holds = is_cut(rt.alloc(), &SETTINGS[..cut]);
         assert!(rt; holds, "cut at {cut}");
     }
     let mut bytes = Vec::from_slice(rt.alloc(), &SETTINGS)?;
@@ -358,14 +358,14 @@ const KINDS: &[usize] = &[
     0, 1, 3, 4, 12, 13, 21, 23, 24, 26, 27, 35, 36, 37, 39, 41, 42, 50, 51, 52, 53,
 ];
 
-fn are_kinds_cut(alloc: Global, cut: usize) -> bool {
-    is_no_commit(alloc, 2, &ALL_KINDS[..cut], last_until(KINDS, cut))
+fn are_kinds_cut(alloc: Global, front: &[u8]) -> bool {
+    is_no_commit(alloc, 2, front, last_until(KINDS, front.len()))
 }
 
 #[test]
 fn refuses_all_kinds_that_are_cut(rt: HostRuntime) {
     for cut in 0..61 {
-        let holds = are_kinds_cut(rt.alloc(), cut);
+        let holds = are_kinds_cut(rt.alloc(), &ALL_KINDS[..cut]);
         assert!(rt; holds, "cut at {cut}");
     }
 }
@@ -406,14 +406,14 @@ fn refuses_a_wrong_byte_of_a_commit(rt: HostRuntime) -> Result<(), Fail> {
 // Where the fields of two INSERTs begin.
 const INSERTS: &[usize] = &[0, 1, 3, 4, 12, 13, 15, 18, 20, 21, 29, 30, 32, 34, 36];
 
-fn are_inserts_cut(alloc: Global, cut: usize) -> bool {
-    is_no_commit(alloc, 2, &TWO_INSERTS[..cut], last_until(INSERTS, cut))
+fn are_inserts_cut(alloc: Global, front: &[u8]) -> bool {
+    is_no_commit(alloc, 2, front, last_until(INSERTS, front.len()))
 }
 
 #[test]
 fn refuses_commits_that_are_cut_or_longer(rt: HostRuntime) -> Result<(), Fail> {
     for cut in 0..37 {
-        let holds = are_inserts_cut(rt.alloc(), cut);
+        let holds = are_inserts_cut(rt.alloc(), &TWO_INSERTS[..cut]);
         assert!(rt; holds, "cut at {cut}");
     }
     let mut bytes = Vec::from_slice(rt.alloc(), &TWO_INSERTS)?;
