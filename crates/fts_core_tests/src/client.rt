@@ -4,7 +4,8 @@ ghost use Rattle.fts_types.specs.declared.settings.Settings.{Settings};
 ghost use Rattle.fts_core.specs.World.{Moments};
 ghost use Rattle.fts_core.specs.Core.{Fits};
 ghost use Rattle.fts_core.specs.Lists.{created_core};
-ghost use Rattle.fts_core_tests.specs.Client.{Stands, CanCrash, IsSynced};
+ghost use Rattle.fts_query.specs.declared.view.View.{View};
+ghost use Rattle.fts_core_tests.specs.Client.{Stands, CanCrash, IsSynced, AreCommitted, IsViewed};
 
 use fts_commits::Changes;
 use fts_core::{Event, Last, Outcome, Place, World, steps};
@@ -33,10 +34,19 @@ pub fn number_behind_crash(
     if settings.check().is_err() {
         return None;
     }
-    let (rows, index) = create_engine(alloc, settings, devices.0, devices.1).ok()?;
-    let world = two_commits(alloc, World::new(alloc, rows, index), commits)?;
-    let (world, crash) = crashing(world, choice)?;
-    viewed_behind(alloc, world, crash, leaves)
+    let Ok((rows, index)) = create_engine(alloc, settings, devices.0, devices.1) else {
+        return None;
+    };
+    let Some(world) = two_commits(alloc, World::new(alloc, rows, index), commits) else {
+        return None;
+    };
+    let Some((world, crash)) = crashing(world, choice) else {
+        return None;
+    };
+    let Some(number) = viewed_behind(alloc, world, crash, leaves) else {
+        return None;
+    };
+    Some(number)
 }
 
 /// The world behind an opening and two commits.
@@ -47,15 +57,37 @@ fn two_commits(alloc: Global, world: Database, commits: (Changes, Changes)) -> O
     let limits = Limits::standard();
     let first = Event::Commit { changes: commits.0 };
     let second = Event::Commit { changes: commits.1 };
-    let events = three_events(alloc, Event::Opening { limits }, first, second)?;
-    let Ok((world, outcomes)) = steps(alloc, world, events) else {
+    let Some(events) = three_events(alloc, Event::Opening { limits }, first, second) else {
+        drop(world);
         return None;
     };
-    let (opened, first, second) = three(outcomes)?;
-    if is_opened(&opened) && is_committed(&first) && is_committed(&second) {
-        return Some(world);
+    match steps(alloc, world, events) {
+        Ok((world, outcomes)) => {
+            if are_committed(outcomes) {
+                return Some(world);
+            }
+            drop(world);
+            None
+        }
+        Err((world, events)) => {
+            drop(world);
+            drop(events);
+            None
+        }
     }
-    None
+}
+
+/// Whether an opening and two commits answered `Ok`.
+fn are_committed(outcomes: Vec<Outcome>) -> bool
+    ensures { IsTrue result → length outcomes.items ≡ 3 → AreCommitted outcomes.items }
+{
+    let Some((opened, first, second)) = three(outcomes) else {
+        return false;
+    };
+    if is_opened(&opened) && is_committed(&first) && is_committed(&second) {
+        return true;
+    }
+    false
 }
 
 type Step = Event<MemDisk, MemDisk>;
@@ -64,10 +96,12 @@ type Step = Event<MemDisk, MemDisk>;
 fn three_events(alloc: Global, first: Step, second: Step, third: Step) -> Option<Vec<Step>>
     ensures { IfSome result (λ all. all.items ≡ first ∷ second ∷ third ∷ []) }
 {
-    let mut events = Vec::new(alloc);
-    events.push(first).ok()?;
-    events.push(second).ok()?;
-    events.push(third).ok()?;
+    let Ok(mut events) = Vec::with_capacity(alloc, 3) else {
+        return None;
+    };
+    events.push(first).unwrap();
+    events.push(second).unwrap();
+    events.push(third).unwrap();
     Some(events)
 }
 
@@ -151,15 +185,54 @@ fn viewed_behind(
         → number ≡ commits) }
 {
     let limits = Limits::standard();
-    let events = three_events(alloc, crash, Event::Opening { limits }, Event::View { leaves })?;
-    let Ok((_, outcomes)) = steps(alloc, world, events) else {
+    let view = Event::View { leaves };
+    let Some(events) = three_events(alloc, crash, Event::Opening { limits }, view) else {
+        drop(world);
         return None;
     };
-    let (crashed, opened, viewed) = three(outcomes)?;
-    match (crashed, viewed) {
-        (Outcome::Crashed, Outcome::Viewed { result: Ok(view) }) if is_opened(&opened) => {
-            Some(view.number)
+    match steps(alloc, world, events) {
+        Ok((world, outcomes)) => {
+            drop(world);
+            number_in(outcomes)
         }
+        Err((world, events)) => {
+            drop(world);
+            drop(events);
+            None
+        }
+    }
+}
+
+/// The number of the view behind a crash and an opening, if both answered `Ok`.
+fn number_in(outcomes: Vec<Outcome>) -> Option<u64>
+    ensures { IfSome result (λ number. length outcomes.items ≡ 3 → IsViewed outcomes.items number) }
+{
+    let Some((crashed, opened, viewed)) = three(outcomes) else {
+        return None;
+    };
+    let Some(number) = number_of(viewed) else {
+        return None;
+    };
+    if is_crashed(&crashed) && is_opened(&opened) {
+        return Some(number);
+    }
+    None
+}
+
+/// The number of a view, if that is what came.
+fn number_of(outcome: Outcome) -> Option<u64>
+    ensures { IfSome result (λ number. (view : View) × (outcome ≡ Outcome.Viewed (Ok view))
+        × (number ≡ view.number)) }
+{
+    match outcome {
+        Outcome::Viewed { result: Ok(view) } => Some(view.number),
         _ => None,
     }
+}
+
+/// Whether a crash came.
+fn is_crashed(outcome: &Outcome) -> bool
+    ensures { IsTrue result → outcome.now ≡ Outcome.Crashed }
+{
+    matches!(outcome, Outcome::Crashed)
 }

@@ -1,4 +1,4 @@
-use Rattle.std.proofs.Common.{◌≡◌, ◌+◌, true, arith, inl, inr, refl, ap, sym, subst, ◌∙◌, []}
+use Rattle.std.proofs.Common.{◌≡◌, true, arith, inl, inr, refl, ap, sym, subst, ◌∙◌, []}
 use Rattle.std.specs.Prelude.{Err}
 use Rattle.fts_io.specs.Text.{lines_of}
 use Rattle.fts_io.specs.Reading.{ahead, ended_ahead, given_by}
@@ -51,7 +51,7 @@ lines-init g c = record {
         whole = refl;
         met_is = refl;
         counted = sym c.in-Ok.ensures.given;
-        all = inr (sym (ap (λ n. n + ended_ahead c.in-Ok.lines left) c.in-Ok.ensures.given ∙ c.in-Ok.ensures.ended left));
+        all = inr (omega (arith, c.in-Ok.ensures.given, c.in-Ok.ensures.ended left));
         kept = refl;
       };
   session = λ tells. record { lines = []; cut = sym (c.in-Ok.ensures.lines (g.I.Source.left c.args.input.now)); are = ap numbers_of c.in-Ok-new.ensures.none };
