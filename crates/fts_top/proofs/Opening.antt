@@ -1,5 +1,5 @@
 -- Why no database was opened, and what is made.
-use Rattle.std.proofs.Common.{◌≡◌, ℕ, IsTrue, List, [], refl, inl, inr, subst}
+use Rattle.std.proofs.Common.{◌≡◌, ℕ, List, [], refl, inl, inr, subst}
 use Rattle.fts_types.specs.declared.settings.Settings.{Settings}
 use Rattle.fts_steps.specs.State.{State, IsCreated, IsDatabase, IsRight, IsRows, IsIndex, created_with}
 use Rattle.fts_steps.proofs.Growing.{none_right}
@@ -7,15 +7,12 @@ use Rattle.fts_steps.proofs.Faults.{is_created, not_at_fault}
 use Rattle.fts_engine.specs.declared.error.Device.TheVariants.{Rows, Index}
 use Rattle.fts_engine.specs.declared.error.OpenError.{OpenError}
 use Rattle.fts_engine.specs.declared.error.OpenError.TheVariants as opening
-use Rattle.fts_engine.specs.Devices.{Disks}
 use Rattle.fts_engine.specs.Opening.{IsDamaged, IsIndexDamaged}
 use Rattle.fts_engine.proofs.Single.{one_rows}
-use Rattle.fts_top.specs.declared.ends.CreateEnd.{CreateEnd}
-use Rattle.fts_top.specs.declared.ends.CreateEnd.TheVariants as create_end
 use Rattle.fts_top.specs.declared.ends.RunEnd.{RunEnd}
 use Rattle.fts_top.specs.declared.ends.RunEnd.TheVariants as end
-use Rattle.fts_top.specs.Ends.{status_of_opening, status_of_run, status_of_create}
-use Rattle.fts_top.specs.Once.{Outside, IsWhy, Creates, Finishes, file_of}
+use Rattle.fts_top.specs.Ends.{status_of_opening, status_of_run}
+use Rattle.fts_top.specs.Once.{IsWhy, Finishes}
 
 -- why no database was opened, by its cases
 pub is_why : (error : OpenError) (rows index : List ℕ) → (error ≡ opening.NotCreated → IsCreated rows → ⊥)
@@ -68,13 +65,3 @@ database_read state seen seen' of_rows of_index = record {
   of_rows = subst (λ (f : ℕ → List ℕ). IsRows state (f 0)) seen of_rows;
   of_index = subst (λ (f : ℕ → List ℕ). IsIndex state (f 0)) seen' of_index;
 }
-
--- a `create` where no database was created finishes, where neither the sink nor a device failed
-pub create_finishes : {D E : Type 0} (disks : Disks D E) (end : CreateEnd) (settings : Settings) (before after : Outside D E) → Creates disks end settings before after
-    → IsTrue disks.rows.tells → (IsCreated (file_of disks.rows before.devices.rows) → ⊥) → (end ≡ create_end.WriteFault → ⊥) → (end ≡ create_end.DiskFault → ⊥)
-    → Finishes (status_of_create end)
-create_finishes disks create_end.Done settings before after creates told fresh written calm = inl refl
-create_finishes disks create_end.WriteFault settings before after creates told fresh written calm = absurd (written refl)
-create_finishes disks create_end.AlreadyCreated settings before after creates told fresh written calm = absurd (fresh (creates.1 told))
-create_finishes disks create_end.NoMemory settings before after creates told fresh written calm = inr refl
-create_finishes disks create_end.DiskFault settings before after creates told fresh written calm = absurd (calm refl)

@@ -52,12 +52,12 @@ source_seen ghosts input = record { tells = ghosts.tells; left = ghosts.left inp
 abbrev pub sink_seen : {O : Type 0} → sink.Ghosts O → O → SinkSeen
 sink_seen ghosts out = record { tells = ghosts.tells; held = ghosts.holds out; faults = ghosts.faults out }
 
-abbrev pub outside_with : {O D E : Type 0} → SourceSeen → sink.Ghosts O → O → D → E → Outside D E
-outside_with source sink out rows index =
-    record { source = source; sink = sink_seen sink out; devices = devices_of rows index }
-
 abbrev pub outside : {I O D E : Type 0} → source.Ghosts I → sink.Ghosts O → I → O → D → E → Outside D E
-outside source sink input out rows index = outside_with (source_seen source input) sink out rows index
+outside source sink input out rows index = record {
+  source = source_seen source input;
+  sink = sink_seen sink out;
+  devices = devices_of rows index;
+}
 
 -- a log's file, as its device reads
 abbrev pub file_of : {D : Type 0} → disk.Ghosts D → D → List ℕ
@@ -128,29 +128,28 @@ pub record Made {D E : Type 0} (disks : Disks D E) (settings : Settings) (before
 abbrev pub OnlyLooked : {D E : Type 0} → Disks D E → Devices D E → Devices D E → Type 0
 OnlyLooked disks before after = Looks disks.rows before.rows after.rows × Looks disks.index before.index after.index
 
--- what `create` has done to the sink and the devices
-abbrev pub Creates : {D E : Type 0} → Disks D E → CreateEnd → Settings → Outside D E → Outside D E → Type 0
-Creates disks create_end.Done settings before after =
-    (DisksTell disks → Made disks settings before.devices after.devices)
-    × (IsTrue before.sink.tells → after.sink.held ≡ before.sink.held ++ created_text)
-Creates disks create_end.WriteFault settings before after =
-    (DisksTell disks → Made disks settings before.devices after.devices)
-    × (IsTrue before.sink.tells → (n : ℕ) × (after.sink.held ≡ before.sink.held ++ take n created_text))
-Creates disks create_end.AlreadyCreated settings before after = (after.sink ≡ before.sink)
-    × (IsTrue disks.rows.tells → IsCreated (file_of disks.rows before.devices.rows))
-    × (DisksTell disks → OnlyLooked disks before.devices after.devices)
-Creates disks create_end.NoMemory settings before after =
-    (after.sink ≡ before.sink) × (after.devices ≡ before.devices)
-Creates disks create_end.DiskFault settings before after = (after.sink ≡ before.sink)
-    × (DisksTell disks → IsCreated (file_of disks.rows before.devices.rows)
-    → OnlyLooked disks before.devices after.devices)
+-- what `create` has done to the sink and the devices; `unwritten` says that the sink is as it was
+abbrev pub Creates : {D E : Type 0} → Disks D E → CreateEnd → Settings → Type 0 → SinkSeen → SinkSeen → Devices D E
+    → Devices D E → Type 0
+Creates disks create_end.Done settings unwritten sink sink' before after =
+    (DisksTell disks → Made disks settings before after)
+    × (IsTrue sink.tells → sink'.held ≡ sink.held ++ created_text)
+Creates disks create_end.WriteFault settings unwritten sink sink' before after =
+    (DisksTell disks → Made disks settings before after)
+    × (IsTrue sink.tells → (n : ℕ) × (sink'.held ≡ sink.held ++ take n created_text))
+Creates disks create_end.AlreadyCreated settings unwritten sink sink' before after = unwritten
+    × (IsTrue disks.rows.tells → IsCreated (file_of disks.rows before.rows))
+    × (DisksTell disks → OnlyLooked disks before after)
+Creates disks create_end.NoMemory settings unwritten sink sink' before after = unwritten × (after ≡ before)
+Creates disks create_end.DiskFault settings unwritten sink sink' before after = unwritten
+    × (DisksTell disks → IsCreated (file_of disks.rows before.rows) → OnlyLooked disks before after)
 
 -- how `create` ended
-pub record CreateEnds {D E : Type 0} (disks : Disks D E) (result : Status) (settings : Settings)
+pub record CreateEnds {D E : Type 0} (disks : Disks D E) (result : Status) (settings : Settings) (unwritten : Type 0)
     (before after : Outside D E) : Type 0 where
   pub end : CreateEnd
   pub told : result ≡ status_of_create end
-  pub creates : Creates disks end settings before after
+  pub creates : Creates disks end settings unwritten before.sink after.sink before.devices after.devices
   pub fault : CountsFault (end ≡ create_end.DiskFault) (disk_faults disks before.devices)
       (disk_faults disks after.devices)
 

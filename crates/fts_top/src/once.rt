@@ -9,8 +9,7 @@ ghost use Rattle.fts_args.specs.declared.command.Command.{Command};
 ghost use Rattle.fts_engine.specs.Bounds.{AreWithin};
 ghost use Rattle.fts_top.specs.Generated.{GenEnds};
 ghost use Rattle.fts_engine.specs.Devices.{devices_of, disks_of};
-ghost use Rattle.fts_top.specs.Once.{SourceSeen, outside, outside_with, sink_seen};
-ghost use Rattle.fts_top.specs.Once.{CreateEnds, Creates};
+ghost use Rattle.fts_top.specs.Once.{outside, sink_seen, CreateEnds, Creates};
 ghost use Rattle.fts_top.specs.Once.{Executed, RunEnds, Unopened};
 ghost use Rattle.fts_top.specs.Once.{CountsFaults, NoneRose, CanFinish, Finishes};
 
@@ -71,9 +70,9 @@ fn create<O: Sink, D: Disk, E: Disk>(
     index: E,
 ) -> (CreateEnd, D, E)
     requires { AreSettings settings.now }
-    ensures creates { (source : SourceSeen) → Creates (disks_of D.Disk E.Disk) result.0 settings.now
-        (outside_with source O.Sink out.old rows index)
-        (outside_with source O.Sink out.new result.1 result.2) }
+    ensures creates { Creates (disks_of D.Disk E.Disk) result.0 settings.now (out.new ≡ out.old)
+        (sink_seen O.Sink out.old) (sink_seen O.Sink out.new)
+        (devices_of rows index) (devices_of result.1 result.2) }
     ensures write { CountsFault (result.0 ≡ CreateEnd.WriteFault)
         (O.faults out.old) (O.faults out.new) }
     ensures disk { CountsFault (result.0 ≡ CreateEnd.DiskFault)
@@ -119,7 +118,7 @@ pub fn fts_once<I: Source, O: Sink, D: Disk, E: Disk, G: Gate>(
     ensures creates { (settings : Settings)
         → Asks (map string_bytes words.now) (Command.Create settings)
         → (input.new ≡ input.old)
-        × CreateEnds (disks_of D.Disk E.Disk) result.0 settings
+        × CreateEnds (disks_of D.Disk E.Disk) result.0 settings (out.new ≡ out.old)
         (outside I.Source O.Sink input.old out.old rows index)
         (outside I.Source O.Sink input.new out.new result.1 result.2) }
     ensures runs { Asks (map string_bytes words.now) Command.Run

@@ -6,12 +6,12 @@ use Rattle.fts_args.proofs.One.{asks_one}
 use Rattle.fts_args.specs.declared.command.Command.TheVariants.{Create, Run, Gen}
 use Rattle.fts_top.specs.declared.ends.CreateEnd.TheVariants.{NoMemory}
 use Rattle.fts_top.specs.declared.status.Status.{Status}
-use Rattle.fts_engine.specs.Devices.{disks_of}
-use Rattle.fts_top.specs.Once.{Creates, Finishes, outside, source_seen}
+use Rattle.fts_engine.specs.Devices.{devices_of, disks_of}
+use Rattle.fts_top.specs.Once.{Creates, Finishes, sink_seen}
 use Rattle.fts_top.specs.Health.{IsRead}
 use Rattle.fts_io.specs.Text.{lines_of}
 use Rattle.fts_top.proofs.Counting.{not_crowded}
-use Rattle.fts_top.proofs.Opening.{can_open, run_finishes, create_finishes}
+use Rattle.fts_top.proofs.Opening.{can_open, run_finishes}
 use Rattle.fts_top.proofs.Asking.{not_asked, is_asked, one_settings}
 use Rattle.fts_top.proofs.once.fts_once.Goals as goal
 
@@ -43,32 +43,14 @@ returns-in-Ok-Some-Create-clause-creates g c settings asks = (
   record {
     end = c.create-end.result.0;
     told = c.from.ensures;
-    creates = subst (λ (s : Settings). Creates (disks_of g.D.Disk g.E.Disk) c.create-end.result.0 s
-        (outside g.I.Source g.O.Sink c.args.input.now c.args.out.now c.args.rows c.args.index)
-        (outside g.I.Source g.O.Sink c.args.input.now c.create-end.new.out c.create-end.result.1 c.create-end.result.2))
+    creates = subst (λ (s : Settings). Creates (disks_of g.D.Disk g.E.Disk) c.create-end.result.0 s (c.create-end.new.out ≡ c.args.out.now)
+        (sink_seen g.O.Sink c.args.out.now) (sink_seen g.O.Sink c.create-end.new.out)
+        (devices_of c.args.rows c.args.index) (devices_of c.create-end.result.1 c.create-end.result.2))
         (one_settings (map string_bytes c.args.words.now) c.in-Ok-Some-Create.settings settings (is_asked (Asks (map string_bytes c.args.words.now)) c.in-Ok-Some-Create.field-0 c.in-Ok-Some-Create.field-0-0 (Create c.in-Ok-Some-Create.settings) c.in-Ok-Some-Create.field-0-is c.in-Ok-Some-Create.field-0-0-is c.in-Ok-Some-Create.ensures.found) asks)
-        (c.create-end.ensures.creates (source_seen g.I.Source c.args.input.now));
+        c.create-end.ensures.creates;
     fault = c.create-end.ensures.disk;
   },
 )
-
-pub returns-in-Ok-Some-Create-clause-complete : goal.returns-in-Ok-Some-Create-clause-complete
-returns-in-Ok-Some-Create-clause-complete g c can calm =
-    let words = map string_bytes c.args.words.now in
-    let made = Create c.in-Ok-Some-Create.settings in
-    let asked : Asks words made = is_asked (Asks words) c.in-Ok-Some-Create.field-0 c.in-Ok-Some-Create.field-0-0 made c.in-Ok-Some-Create.field-0-is c.in-Ok-Some-Create.field-0-0-is c.in-Ok-Some-Create.ensures.found in
-    ⊎_elim
-    (λ create.
-    subst (λ (status : Status). Finishes status) (sym c.from.ensures)
-    (create_finishes (disks_of g.D.Disk g.E.Disk) c.create-end.result.0 c.in-Ok-Some-Create.settings
-    (outside g.I.Source g.O.Sink c.args.input.now c.args.out.now c.args.rows c.args.index)
-    (outside g.I.Source g.O.Sink c.args.input.now c.create-end.new.out c.create-end.result.1 c.create-end.result.2)
-    (c.create-end.ensures.creates (source_seen g.I.Source c.args.input.now)) create.2 create.3
-    (λ is. calm.write (c.create-end.ensures.write.rose is)) (λ is. calm.disk (c.create-end.ensures.disk.rose is))))
-    (⊎_elim
-    (λ run. absurd (let same : Run ≡ made = asks_one words Run made run.0 asked in cc))
-    (λ gen. absurd (let same : Gen gen.0.0 gen.0.1 ≡ made = asks_one words (Gen gen.0.0 gen.0.1) made gen.0.2 asked in cc)))
-    can
 
 pub returns-in-Ok-clause-unasked : goal.returns-in-Ok-clause-unasked
 returns-in-Ok-clause-unasked g c none = absurd (none Run (is_asked (Asks (map string_bytes c.args.words.now)) c.in-Ok-Some-Run.field-0 c.in-Ok-Some-Run.field-0-0 Run c.in-Ok-Some-Run.field-0-is c.in-Ok-Some-Run.field-0-0-is c.in-Ok-Some-Run.ensures.found))
