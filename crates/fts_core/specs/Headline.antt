@@ -58,7 +58,7 @@ OpeningsFindAcknowledged (Opening limits) (Opened (Err error)) old new = IsFreeR
 OpeningsFindAcknowledged event outcome old new = Unit {0}
 
 -- behind each event the index is right: what is not deleted of it is exactly what the rows of the acknowledged commits
--- have; and so it is of whatever an opening may find
+-- have, and what its tables have of who is dead was born so; and so it is of whatever an opening may find
 abbrev pub IndexesAreRight : {D E : Type 0} → Law D E
 IndexesAreRight event outcome old new = HasRightIndex new.now
 

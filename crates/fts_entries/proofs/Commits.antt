@@ -18,7 +18,7 @@ use Rattle.fts_ilist.specs.Packing.{joined}
 use Rattle.fts_lists.specs.Ids.{with_ids}
 use Rattle.fts_entries.specs.Entry.{Batch, IndexEntry, sealed, begun, worked, finished, IndexState, no_entries, after_entry, index_of, unflushed, flushed_deaths, AreThrough}
 use Rattle.fts_entries.specs.Batch.{largest_after}
-use Rattle.fts_entries.specs.Exact.{is_deleted, all_postings, FitsTurns, IsExact}
+use Rattle.fts_entries.specs.Exact.{is_deleted, all_postings, FitsTurns, IsExact, LiveAreOf, TablesAreOf}
 use Rattle.fts_entries.specs.Words.{rows_postings, row_postings}
 use Rattle.fts_entries.proofs.Filters.{left_twice, leads}
 use Rattle.fts_entries.proofs.Postings.{IsBetween, rows_left, rows_between}
@@ -121,9 +121,8 @@ module _ (turns : List Turn) (turn : Turn) (s : IndexState) (fits : FitsTurns tu
         (fails (has turn.deaths p.id) (λ is. let down = among_all low p.id turn.deaths (recursion_from_All (λ (other : ℕ). other ≤ low) turn.deaths parts.of_rest.1) is in omega (arith, down, h.above))))
         (rows_between rules word low turn.largest turn.births parts.of_rest.0))
 
-    -- a commit keeps the index exact
-    pub one_exact : (rules : Rules) (rows : Rows) → IsExact rules rows.list turns s → IsExact rules (rows_by rows turn).list (turns ++ turn ∷ []) s
-    one_exact rules rows exact word =
+    one_live : (rules : Rules) (rows : Rows) → LiveAreOf rules rows.list turns s → LiveAreOf rules (rows_by rows turn).list (turns ++ turn ∷ []) s
+    one_live rules rows live word =
         let left = λ (p : Posting). not (is_deleted (turns ++ turn ∷ []) s p.id) in
         let stays = λ (p : Posting). not (has turn.deaths p.id) in
         let then = λ (p : Posting). not (is_deleted turns s p.id) in
@@ -134,11 +133,18 @@ module _ (turns : List Turn) (turn : Turn) (s : IndexState) (fits : FitsTurns tu
         ∙ ap₂ (λ (x y : List Posting). x ++ y)
         (filter_agree left (λ p. then p && stays p) (λ p. ap not (deleted_is p.id) ∙ of_old (has s.deleted p.id) (has (deaths_of (unflushed turns s)) p.id) (has turn.deaths p.id)) old
         ∙ sym (left_twice stays then old)
-        ∙ ap (filter stays) (exact word)
+        ∙ ap (filter stays) (live word)
         ∙ sym (rows_left rules word (λ id. not (has turn.deaths id)) rows.list)
         ∙ ap (rows_postings rules word) (filter_agree (λ row. not (has turn.deaths row.doc)) (λ row. not (list_any (λ id. nat_eq id row.doc) turn.deaths)) (λ row. ap not (sym (asked_so row.doc turn.deaths))) rows.list))
         (news_stay rules word)
         ∙ sym (flat_map-append (row_postings rules word) (rows_but turn.deaths rows.list) turn.births)
+
+    -- a commit keeps the index exact
+    pub one_exact : (rules : Rules) (rows : Rows) → IsExact rules rows.list turns s → IsExact rules (rows_by rows turn).list (turns ++ turn ∷ []) s
+    one_exact rules rows exact = record {
+      live = one_live rules rows exact.live;
+      tables = subst (λ (ts : List Turn). TablesAreOf rules (births_of ts) s) (sym (take-append-le s.flushed turns (turn ∷ []) fits.flushed)) exact.tables;
+    }
 
 -- ---- an index without entries
 
@@ -155,7 +161,7 @@ none_fits turns = record {
 }
 
 none_exact : (rules : Rules) → IsExact rules [] [] no_entries
-none_exact rules word = refl
+none_exact rules = record { live = λ word. refl; tables = λ word k d less. absurd (omega (arith, less)) }
 
 -- ---- the state of entries does not change with a commit behind those that they cover
 

@@ -164,7 +164,7 @@ left_deleted rules rows turns s exact word =
     let Q : Posting → Type 0 = λ p. has_doc p.id rows ≡ false → is_deleted turns s p.id ≡ true in
     All-from_recursion Q ps
     (leads (λ p. left p ≡ true → P p) Q ps (λ p is. by (has_doc p.id rows) (is_deleted turns s p.id) is)
-    (unfiltered P left ps (subst (AllByRecursion P) (sym (exact word)) (have_rows rules word rows))))
+    (unfiltered P left ps (subst (AllByRecursion P) (sym (exact.live word)) (have_rows rules word rows))))
   where
     by : (row deleted : Bool) → (not deleted ≡ true → row ≡ true) → row ≡ false → deleted ≡ true
     by row true is none = refl

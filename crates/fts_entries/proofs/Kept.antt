@@ -1,10 +1,11 @@
 -- A batch keeps an index right.
 use Rattle.std.proofs.Common.{◌≡◌, ℕ, suc, ◌+◌, ◌-◌, ◌<◌, ◌≤◌, Bool, true, false, not, ◌||◌, map, filter, nat_lt, if◌then◌else◌, List, [], ◌∷◌, ◌++◌, take, drop, length, nat_eq, refl, sym, ap, ap₂, subst, ◌∙◌, arith}
-use Rattle.std.specs.List.{All, AllByRecursion, list_any}
+use Rattle.std.specs.List.{All, AllByRecursion, Contains, list_any}
 use Rattle.std.proofs.Math.Nat.{max-le, le-max_left}
 use Rattle.std.proofs.lemmas.Bool.{eq-eqb, or_left, or_right}
+use Rattle.std.proofs.lemmas.Grind.{flat_map-append}
 use Rattle.std.proofs.lemmas.List.{drop-drop, length-drop}
-use Rattle.std.proofs.lemmas.List.Elements.{All-filter, recursion_from_All, All-from_recursion}
+use Rattle.std.proofs.lemmas.List.Elements.{All-append, All-filter, All-contains_itself, Contains-append_left, Contains-append_right, recursion_from_All, All-from_recursion}
 use Rattle.fts_words.specs.Indexed.{Rules}
 use Rattle.fts_types.specs.Row.{Row}
 use Rattle.fts_commits.specs.Turn.{Turn, AreTurns, births_of, deaths_of}
@@ -17,14 +18,14 @@ use Rattle.fts_lists.specs.Ids.{with_ids}
 use Rattle.fts_entries.specs.Entry.{Batch, IndexState, sealed, after_entry, unflushed, unflushed_through, flushed_deaths}
 use Rattle.fts_entries.specs.Batch.{IsBatch, covers, covered_within, alive_of, largest_after, next_through, after_batch}
 use Rattle.fts_entries.specs.Coming.{born_ids, CanSeal}
-use Rattle.fts_entries.specs.Exact.{FitsTurns, IsExact, IdsAfter}
+use Rattle.fts_entries.specs.Exact.{FitsTurns, IsExact, LiveAreOf, TablesAreOf, IdsAfter}
 use Rattle.fts_entries.specs.Words.{positions_of, row_postings, rows_postings}
 use Rattle.fts_entries.proofs.Filters.{leads, all_joined}
 use Rattle.fts_entries.proofs.Packing.{after_lower, after_left, packed_ascend, nodes_lower, last_within}
 use Rattle.fts_entries.proofs.Postings.{of_row, rows_left, rows_after, nothing_of_empty}
 use Rattle.fts_entries.proofs.Turns.{births_ascend}
 use Rattle.fts_entries.proofs.Batches.{word_same}
-use Rattle.fts_entries.proofs.Coming.{joined_both, front_are, seal_fits}
+use Rattle.fts_entries.proofs.Coming.{joined_both, front_is, front_are, seal_fits}
 
 -- a batch covers no more than there is
 within_all : (limit born : ℕ) (turns : List Turn) → covered_within limit born turns ≤ length turns
@@ -71,17 +72,41 @@ module _ (rules : Rules) (limit : ℕ) (turns : List Turn) (s : IndexState) (thr
       joined_both (s.nodes word) (nodes_for word batch)
       ∙ ap (λ (ps : List Posting). joined (s.nodes word) ++ ps) (ap joined (is.nodes word) ∙ joined_packed _)
 
-  -- it keeps the index exact
-  pub still_exact : (rows : List Row) → AreTurns 0 turns → FitsTurns turns s → IsExact rules rows turns s → IsExact rules rows turns later
-  still_exact rows are fits exact word =
+  -- what is not deleted stays
+  still_live : (rows : List Row) → AreTurns 0 turns → FitsTurns turns s → LiveAreOf rules rows turns s → LiveAreOf rules rows turns later
+  still_live rows are fits live word =
       ap₂ (λ (tables : List Posting) (rest : List Turn). filter (λ p. not (has later.deleted p.id || has (deaths_of rest) p.id)) (tables ++ rows_postings rules word (births_of rest)))
       (tables_are word) rest_is
       ∙ word_same rules turns s.synced s.flushed covered s.deleted are fits.synced fits.deleted word (joined (s.nodes word))
       (recursion_from_All (λ (p : Posting). p.id ≤ s.synced) (joined (s.nodes word)) (fits.tables word))
-      ∙ exact word
+      ∙ live word
 
   abbrev front : List Turn
   front = unflushed_through through turns s
+
+  -- and what it puts into the tables was born in the commits that it covers
+  still_born : TablesAreOf rules (births_of (take s.flushed turns)) s → TablesAreOf rules (births_of (take through turns)) later
+  still_born tables word =
+      let test : ℕ → Bool = λ id. not (list_any (λ other. nat_eq other id) (deaths_of turns)) in
+      let postings : List Row → List Posting = rows_postings rules word in
+      let old = postings (births_of (take s.flushed turns)) in
+      let new = postings (births_of front) in
+      let parts : postings (births_of (take through turns)) ≡ old ++ new =
+      ap (λ (ts : List Turn). postings (births_of ts)) (front_is turns s through (omega (arith, is.through_is)))
+      ∙ ap postings (flat_map-append (λ (turn : Turn). turn.births) (take s.flushed turns) front)
+      ∙ flat_map-append (row_postings rules word) (births_of (take s.flushed turns)) (births_of front) in
+      let alive : All (Contains new) (postings (alive_of turns front)) =
+      subst (All (Contains new)) (sym (rows_left rules word test (births_of front)))
+      (All-filter (λ (p : Posting). test p.id) (Contains new) new (All-contains_itself new)) in
+      subst (λ (ps : List Posting). All (Contains ps) (joined (later.nodes word))) (sym parts)
+      (subst (All (Contains (old ++ new))) (sym (tables_are word))
+      (All-append (Contains (old ++ new)) (joined (s.nodes word)) (postings (alive_of turns front))
+      (λ k d less. Contains-append_left old new _ (tables word k d less))
+      (λ k d less. Contains-append_right old new _ (alive k d less))))
+
+  -- it keeps the index exact
+  pub still_exact : (rows : List Row) → AreTurns 0 turns → FitsTurns turns s → IsExact rules rows turns s → IsExact rules rows turns later
+  still_exact rows are fits exact = record { live = still_live rows are fits exact.live; tables = still_born exact.tables }
 
   module _ (are : AreTurns 0 turns) (fits : FitsTurns turns s) where
     ids_after : (word : List ℕ) → IdsAfter s.synced (rows_postings rules word (alive_of turns front))

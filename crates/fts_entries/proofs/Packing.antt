@@ -1,5 +1,5 @@
 -- Nodes that documents are packed into: they have these documents, and ascend where these do.
-use Rattle.std.proofs.Common.{◌≡◌, ℕ, ◌≤◌, Bool, true, false, cond, filter, List, [], ◌∷◌, ◌++◌, if◌then◌else◌, refl, sym, ap, subst, arith}
+use Rattle.std.proofs.Common.{◌≡◌, ℕ, ◌≤◌, Bool, true, false, cond, filter, List, [], ◌∷◌, ◌++◌, if◌then◌else◌, refl, sym, subst, arith}
 use Rattle.std.specs.List.{AllByRecursion}
 use Rattle.fts_ilist.specs.Spelling.{Posting, id_at_end}
 use Rattle.fts_ilist.specs.Node.{Docs, NodesAfter, BeginsAfter, last_of}

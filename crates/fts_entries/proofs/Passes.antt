@@ -1,6 +1,6 @@
 -- The steps of a pass keep an index right.
 use Rattle.std.proofs.Common.{◌≡◌, ◌≢◌, ℕ, ◌≤◌, ◌⊎◌, inl, inr, ⊎_elim, Bool, true, false, cond, not, ◌&&◌, ◌||◌, if◌then◌else◌, filter, bytes_eq, List, [], ◌∷◌, ◌++◌, take, refl, sym, ap, ap₂, subst, ◌∙◌, arith, length, Option, Some, None}
-use Rattle.std.specs.List.{All, AllByRecursion}
+use Rattle.std.specs.List.{All, AllByRecursion, Contains}
 use Rattle.std.specs.Option.{unwrap_or}
 use Rattle.std.specs.Ordering.{is_eq, is_gt, ordering_reverse}
 use Rattle.std.specs.declared.cmp.Ordering.{Ordering}
@@ -25,7 +25,7 @@ use Rattle.fts_ilist.proofs.Packs.{joined_packed}
 use Rattle.fts_aux.specs.Table.{IsNext}
 use Rattle.fts_entries.specs.Entry.{IndexState, begun, worked, finished, after_entry, unflushed}
 use Rattle.fts_entries.specs.Batch.{largest_after}
-use Rattle.fts_entries.specs.Exact.{is_deleted, FitsTurns, IsExact, IsPassed, IdsAfter}
+use Rattle.fts_entries.specs.Exact.{is_deleted, FitsTurns, IsExact, LiveAreOf, IsPassed, IdsAfter}
 use Rattle.fts_entries.specs.Pass.{place_of, IsWord, CanFinish}
 use Rattle.fts_entries.specs.Words.{rows_postings}
 use Rattle.fts_entries.proofs.Filters.{same_left, left_twice, leads}
@@ -49,7 +49,7 @@ begin_fits turns s fits = record {
 }
 
 pub begin_exact : (rules : Rules) (rows : List Row) (turns : List Turn) (s : IndexState) → IsExact rules rows turns s → IsExact rules rows turns (after_entry turns s begun)
-begin_exact rules rows turns s exact = exact
+begin_exact rules rows turns s exact = record { live = exact.live; tables = exact.tables }
 
 -- ---- where words stand to one another
 
@@ -147,12 +147,18 @@ module _ (turns : List Turn) (s : IndexState) (word : List ℕ) (new : List Docs
       ∙ both_tests (has s.being_deleted p.id) (is_deleted turns s p.id) (still_gone p.id)) ps
 
   pub word_exact : (rules : Rules) (rows : List Row) → IsExact rules rows turns s → IsExact rules rows turns worked_on
-  word_exact rules rows exact w =
+  word_exact rules rows exact =
       let left = λ (p : Posting). not (is_deleted turns s p.id) in
       let cache = λ (v : List ℕ). rows_postings rules v (births_of (unflushed turns s)) in
-      by_word (λ v ps. filter left (ps ++ cache v) ≡ rows_postings rules v rows)
-      (filter_append_left left kept (joined (s.nodes word)) (cache word) (unseen (joined (s.nodes word))) ∙ exact word)
-      (λ v e. exact v) w
+      let Born = λ (v : List ℕ). Contains (rows_postings rules v (births_of (take s.flushed turns))) in
+      record {
+        live = by_word (λ v ps. filter left (ps ++ cache v) ≡ rows_postings rules v rows)
+            (filter_append_left left kept (joined (s.nodes word)) (cache word) (unseen (joined (s.nodes word))) ∙ exact.live word)
+            (λ v e. exact.live v);
+        tables = by_word (λ v ps. All (Born v) ps)
+            (All-filter (λ (p : Posting). not (is_among s.being_deleted p.id)) (Born word) (joined (s.nodes word)) (exact.tables word))
+            (λ v e. exact.tables v);
+      }
     where
       filter_append_left : (test : Posting → Bool) (xs ys rest : List Posting) → filter test xs ≡ filter test ys → filter test (xs ++ rest) ≡ filter test (ys ++ rest)
       filter_append_left test xs ys rest same = filter-append test xs rest ∙ ap (λ (l : List Posting). l ++ filter test rest) same ∙ sym (filter-append test ys rest)
@@ -204,8 +210,8 @@ module _ (turns : List Turn) (s : IndexState) (fits : FitsTurns turns s) (can : 
   deleted_still id not_in =
       ap (λ (b : Bool). b || has (deaths_of (unflushed turns s)) id) (has-without s.being_deleted s.deleted id ∙ ap (λ (b : Bool). not b && has s.deleted id) not_in)
 
-  pub finish_exact : (rules : Rules) (rows : List Row) → AreTurns 0 turns → IsExact rules rows turns s → IsExact rules rows turns end
-  finish_exact rules rows are exact word =
+  finish_live : (rules : Rules) (rows : List Row) → AreTurns 0 turns → LiveAreOf rules rows turns s → LiveAreOf rules rows turns end
+  finish_live rules rows are live word =
       let behind : List Turn = unflushed turns s in
       let parts = two_parts 0 (take s.flushed turns) behind (subst (AreTurns 0) (sym (take-append-drop s.flushed turns)) are) in
       let later : AreTurns s.synced behind = subst (λ n. AreTurns n behind) (sym fits.synced) parts.of_rest in
@@ -224,7 +230,10 @@ module _ (turns : List Turn) (s : IndexState) (fits : FitsTurns turns s) (can : 
       (λ p h. ap not (deleted_still p.id (fails (has s.being_deleted p.id) (λ there. let low = fits.deleted p.id (fits.being p.id there) in omega (arith, low, h.above)))))
       (rows_between rules word s.synced high (births_of behind) (births_ascend s.synced behind later))))
       ∙ sym (filter-append before tables cache)
-      ∙ exact word
+      ∙ live word
+
+  pub finish_exact : (rules : Rules) (rows : List Row) → AreTurns 0 turns → IsExact rules rows turns s → IsExact rules rows turns end
+  finish_exact rules rows are exact = record { live = finish_live rules rows are exact.live; tables = exact.tables }
 
   pub finish_fits : FitsTurns turns end
   finish_fits = record {

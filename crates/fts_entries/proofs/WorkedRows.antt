@@ -1,15 +1,16 @@
 -- Small indexes worked out by hand: what the definitions compute.
-use Rattle.std.proofs.Common.{◌≡◌, ℕ, Bool, true, false, cond, bytes_eq, List, [], ◌∷◌, ◌++◌, Some, None, refl, arith}
-use Rattle.std.specs.Prelude.{codes}
-use Rattle.std.specs.List.{All}
+use Rattle.std.proofs.Common.{◌≡◌, ℕ, ◌+◌, Bool, true, false, cond, not, filter, bytes_eq, List, [], ◌∷◌, ◌++◌, Some, None, refl, sym, subst, arith}
+use Rattle.std.specs.Prelude.{codes, take, fold}
+use Rattle.std.specs.List.{All, Contains}
 use Rattle.std.proofs.lemmas.Bool.{false≢true}
-use Rattle.std.proofs.lemmas.List.Elements.{All-head, All-from_recursion}
+use Rattle.std.proofs.lemmas.List.Elements.{All-head, All-contains, All-from_recursion}
+use Rattle.std.proofs.lemmas.Slice.Eq.{bytes_eq-Decides}
 use Rattle.fts_words.specs.Byte.{word_at, apostrophe_at}
 use Rattle.fts_words.specs.Run.{runs_from}
 use Rattle.fts_words.specs.RawWords.{in_word}
 use Rattle.fts_words.specs.Indexed.{Rules, placed_words}
 use Rattle.fts_types.specs.Row.{Row}
-use Rattle.fts_commits.specs.Turn.{Turn}
+use Rattle.fts_commits.specs.Turn.{Turn, births_of}
 use Rattle.fts_ids.specs.Ids.{has}
 use Rattle.fts_ilist.specs.Spelling.{Posting}
 use Rattle.fts_ilist.specs.Node.{Docs}
@@ -17,7 +18,8 @@ use Rattle.fts_ilist.specs.Packing.{packed, joined}
 use Rattle.fts_entries.specs.Entry.{IndexEntry, sealed, begun, worked, finished, no_entries, index_of, unflushed}
 use Rattle.fts_entries.specs.Batch.{covers, largest_after, alive_of, words_of, next_entry}
 use Rattle.fts_entries.specs.Coming.{CanSeal, AreEntries}
-use Rattle.fts_entries.specs.Exact.{is_deleted, IdsAfter}
+use Rattle.fts_entries.specs.Exact.{is_deleted, all_postings, IdsAfter, TablesAreOf}
+use Rattle.fts_entries.specs.Words.{rows_postings}
 
 abbrev row : ℕ → Row
 row doc = record { key = doc; doc = doc; texts = codes "apple" ∷ [] }
@@ -124,8 +126,13 @@ next_empty = refl
 abbrev if_asked : Docs → Bool → List Docs
 if_asked docs asked = cond asked (docs ∷ []) [] ++ []
 
-first_can : CanSeal four no_entries 1 2 ((codes "apple", node 1 ∷ []) ∷ [])
-first_can = record {
+-- document 1 alone, which has the word at this position
+abbrev placed : ℕ → Docs
+placed position = record { id = 1; positions = position ∷ [] } ∷ []
+
+-- whatever the position is: what can come says nothing of texts
+first_can : (position : ℕ) → packed (placed position) ≡ placed position ∷ [] → CanSeal four no_entries 1 2 ((codes "apple", placed position ∷ []) ∷ [])
+first_can position one = record {
   later = omega arith;
   made = omega arith;
   synced_is = refl;
@@ -135,20 +142,20 @@ first_can = record {
   born = λ word. is_born (bytes_eq word (codes "apple"));
 }
   where
-    ascends : (asked : Bool) → IdsAfter 0 (joined (if_asked (node 1) asked))
+    ascends : (asked : Bool) → IdsAfter 0 (joined (if_asked (placed position) asked))
     ascends true = (omega arith, tt)
     ascends false = tt
 
-    is_packed : (asked : Bool) → packed (joined (if_asked (node 1) asked)) ≡ if_asked (node 1) asked
-    is_packed true = refl
+    is_packed : (asked : Bool) → packed (joined (if_asked (placed position) asked)) ≡ if_asked (placed position) asked
+    is_packed true = one
     is_packed false = refl
 
-    is_born : (asked : Bool) → All (λ p. has (1 ∷ 2 ∷ []) p.id ≡ true) (joined (if_asked (node 1) asked))
-    is_born true = All-from_recursion (λ (p : Posting). has (1 ∷ 2 ∷ []) p.id ≡ true) (node 1) (refl, tt)
+    is_born : (asked : Bool) → All (λ p. has (1 ∷ 2 ∷ []) p.id ≡ true) (joined (if_asked (placed position) asked))
+    is_born true = All-from_recursion (λ (p : Posting). has (1 ∷ 2 ∷ []) p.id ≡ true) (placed position) (refl, tt)
     is_born false = All-from_recursion (λ (p : Posting). has (1 ∷ 2 ∷ []) p.id ≡ true) [] tt
 
 entries_one : AreEntries four (first ∷ [])
-entries_one = (first_can, tt)
+entries_one = (first_can 0 refl, tt)
 
 -- not with a document that is born behind the commits that it covers
 not_born : CanSeal four no_entries 1 2 ((codes "apple", node 3 ∷ []) ∷ []) → ⊥
@@ -161,3 +168,41 @@ not_ascending can = absurd (omega (arith, (can.ascend (codes "apple")).1.0))
 -- nor again, once it is flushed
 not_twice : CanSeal four (index_of four (first ∷ [])) 1 2 ((codes "apple", node 1 ∷ []) ∷ []) → ⊥
 not_twice can = absurd (omega (arith, can.later))
+
+-- ---- what the tables have of who is dead
+
+-- the first batch puts document 1 there as it was born, and the second commit takes it away
+as_born : TablesAreOf rules (births_of (take 1 four)) (index_of four (first ∷ []))
+unfolding placed_words runs_from in_word word_at
+as_born word = by (bytes_eq word (codes "apple")) refl
+  where
+    by : (asked : Bool) → bytes_eq word (codes "apple") ≡ asked → All (Contains (rows_postings rules word (births_of (take 1 four)))) (joined (if_asked (node 1) asked))
+    by true e =
+        subst (λ (w : List ℕ). All (Contains (rows_postings rules w (births_of (take 1 four)))) (joined (if_asked (node 1) true))) (sym ((bytes_eq-Decides word (codes "apple")).0 e))
+        (All-from_recursion (Contains (rows_postings rules (codes "apple") (births_of (take 1 four)))) (node 1) ((0, omega arith, refl), tt))
+    by false e = λ k d less. absurd (omega (arith, less))
+
+-- a batch that has it at another position could come
+abbrev elsewhere : IndexEntry
+elsewhere = sealed 1 2 ((codes "apple", placed 7 ∷ []) ∷ [])
+
+elsewhere_can : AreEntries four (elsewhere ∷ [])
+elsewhere_can = (first_can 7 refl, tt)
+
+-- what is not deleted would be the same, since it is dead
+live_elsewhere : filter (λ p. not (is_deleted four (index_of four (elsewhere ∷ [])) p.id)) (all_postings rules four (index_of four (elsewhere ∷ [])) (codes "apple"))
+    ≡ rows_postings rules (codes "apple") (row 6 ∷ [])
+unfolding placed_words runs_from in_word word_at
+live_elsewhere = refl
+
+-- but it was not born there
+not_elsewhere : TablesAreOf rules (births_of (take 1 four)) (index_of four (elsewhere ∷ [])) → ⊥
+unfolding placed_words runs_from in_word word_at
+not_elsewhere tables = none (All-head (Contains (node 1 ++ node 2)) (record { id = 1; positions = 7 ∷ [] }) [] (tables (codes "apple")))
+  where
+    none : Contains (node 1 ++ node 2) (record { id = 1; positions = 7 ∷ [] }) → ⊥
+    none there = absurd (omega (
+      arith,
+      All-contains (λ (p : Posting). fold (λ (n m : ℕ). n + m) 0 p.positions ≡ 0) (node 1 ++ node 2) (record { id = 1; positions = 7 ∷ [] })
+          (All-from_recursion (λ (p : Posting). fold (λ (n m : ℕ). n + m) 0 p.positions ≡ 0) (node 1 ++ node 2) (refl, (refl, tt))) there,
+    ))

@@ -1,7 +1,8 @@
--- What keeps an index right: its state fits the commits, and what it has and is not deleted is what the rows have.
+-- What keeps an index right: its state fits the commits, what it has and is not deleted is what the rows have, and what
+-- it has and is deleted was born so.
 use Rattle.std.specs.Prelude.{◌≡◌, ℕ, ◌<◌, ◌≤◌, Bool, true, false, not, ◌||◌, List, [], ◌∷◌, ◌++◌, length, take, filter}
 use Rattle.std.specs.Prelude.{Option, Some, None}
-use Rattle.std.specs.List.{All}
+use Rattle.std.specs.List.{All, Contains}
 use Rattle.std.specs.Ordering.{is_gt}
 use Rattle.fts_words.specs.Indexed.{Rules}
 use Rattle.fts_words.specs.Order.{byte_order}
@@ -45,7 +46,17 @@ is_deleted turns s id = has s.deleted id || has (deaths_of (unflushed turns s)) 
 abbrev pub all_postings : Rules → List Turn → IndexState → List ℕ → List Posting
 all_postings rules turns s word = joined (s.nodes word) ++ rows_postings rules word (births_of (unflushed turns s))
 
--- what is not deleted of tables and cache is what the rows have
-abbrev pub IsExact : Rules → List Row → List Turn → IndexState → Type 0
-IsExact rules rows turns s = (word : List ℕ)
+-- what the tables have of a word are documents of these rows, each with all positions at which its row has the word
+abbrev pub TablesAreOf : Rules → List Row → IndexState → Type 0
+TablesAreOf rules rows s = (word : List ℕ) → All (Contains (rows_postings rules word rows)) (joined (s.nodes word))
+
+-- what is not deleted of tables and cache is what these rows have
+abbrev pub LiveAreOf : Rules → List Row → List Turn → IndexState → Type 0
+LiveAreOf rules rows turns s = (word : List ℕ)
     → filter (λ p. not (is_deleted turns s p.id)) (all_postings rules turns s word) ≡ rows_postings rules word rows
+
+-- what is not deleted is what the rows have; and what the tables have, of who is dead too, was born so in the flushed
+-- commits
+pub record IsExact (rules : Rules) (rows : List Row) (turns : List Turn) (s : IndexState) : Type 0 where
+  pub live : LiveAreOf rules rows turns s
+  pub tables : TablesAreOf rules (births_of (take s.flushed turns)) s

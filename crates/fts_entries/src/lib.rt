@@ -7,12 +7,13 @@
 //!
 //! What an index stands for (`index_of`, a fold over its entries) says nothing of the texts behind
 //! the nodes: an opening takes any entries that the format allows. That what is not deleted of
-//! tables and cache is what the rows have (`IsExact`) is another fact, which each step keeps: the
-//! laws `no_entries_are_right`, `commits_keep`, `batches_keep` and `passes_keep`. Which batch comes
-//! next is one answer (`one_batch_is_next`), of rows of the table (`alive_are_rows`), and so is
-//! which step of OPTIMIZE comes next (`one_step_is_next`). Which entries can come is a fact on
-//! commits and entries alone (`AreEntries`), that each such batch meets (`entries_can_come`). What
-//! stands in DELETED has died, and what the index has of no row is deleted (`deleted_are_dead`).
+//! tables and cache is what the rows have, and that the tables have of who is dead what was born
+//! (`IsExact`), is another fact, which each step keeps: the laws `no_entries_are_right`,
+//! `commits_keep`, `batches_keep` and `passes_keep`. Which batch comes next is one answer
+//! (`one_batch_is_next`), of rows of the table (`alive_are_rows`), and so is which step of OPTIMIZE
+//! comes next (`one_step_is_next`). Which entries can come is a fact on commits and entries alone
+//! (`AreEntries`), that each such batch meets (`entries_can_come`). What stands in DELETED has
+//! died, and what the index has of no row is deleted (`deleted_are_dead`).
 //!
 //! There is no code here but these laws, which a caller cites as `batches_keep();` and which cost
 //! nothing.

@@ -225,7 +225,7 @@ shows_rows rules rows turns s index is id word =
     ∙ and_comm (has (doc_ids (tables ++ cached)) id) (test id)
     ∙ sym (has-filter test (doc_ids (tables ++ cached)) id)
     ∙ ap (λ (xs : List ℕ). has xs id) (sym (left_ids test (tables ++ cached)))
-    ∙ ap (λ (ps : List Posting). has (doc_ids ps) id) (is.exact word)
+    ∙ ap (λ (ps : List Posting). has (doc_ids ps) id) (is.exact.live word)
 
 -- ---- words of tables and cache that begin so
 

@@ -13,7 +13,8 @@ pub record MayBe (running : Running) (state : State) : Type 0 where
   pub commits : IsWithOrWithout running.state.commits running.doubt state.commits
   pub entries : IsWithOrWithout running.state.entries running.loose state.entries
 
--- the index is right: what is not deleted of it is exactly what the rows have. And so it is of whatever may be found
+-- the index is right: what is not deleted of it is exactly what the rows have, and what its tables have of who is dead
+-- was born so. And so it is of whatever may be found
 pub record HasRightIndex (running : Running) : Type 0 where
   pub right : IsRight running.state
   pub found : (state : State) → MayBe running state → HasEntries state → IsRight state

@@ -77,8 +77,8 @@ pub record HasEntries (state : State) : Type 0 where
   pub written : All (IsEntry (rules_of state.settings)) state.entries
   pub come : AreEntries (turns_of state) state.entries
 
--- what is not deleted of the index is what the rows have. Each step keeps it, and so it is of a database that was just
--- created; of files that somebody else wrote nothing is known
+-- what is not deleted of the index is what the rows have, and what its tables have of who is dead was born so. Each
+-- step keeps it, and so it is of a database that was just created; of files that somebody else wrote nothing is known
 abbrev pub IsRight : State → Type 0
 IsRight state =
     IsExact (rules_of state.settings) (replay state.commits).list (turns_of state) (index_state state)
