@@ -1,13 +1,12 @@
 -- Reading the records of both logs, one call after another.
-use Rattle.std.proofs.Common.{ℕ, ◌+◌, IsTrue, refl, ap, inl, inr, arith}
+use Rattle.std.proofs.Common.{IsTrue, refl}
 use Rattle.fts_disk.specs.declared.disk.Disk.{Ghosts}
-use Rattle.fts_faults.specs.Count.{Rose, CountsFault}
 use Rattle.fts_log.specs.Records.{AreRead, records_device}
 use Rattle.fts_log.specs.declared.records.Records.{Records}
 use Rattle.fts_log.proofs.Reading.{read_more}
+use Rattle.fts_steps.proofs.FaultCounts.{counts_calm, counts_behind, counts_told, counts_rows}
 use Rattle.fts_engine.specs.Reading.{ReadsOne, ReadsBoth}
-use Rattle.fts_engine.proofs.Causes.{counts_as}
-use Rattle.fts_engine.proofs.OneLog.{counts_more, many_more}
+use Rattle.fts_engine.proofs.OneLog.{many_more}
 
 module _ {D E : Type 0} {disk : Ghosts D} {disk' : Ghosts E} where
   -- nothing was read yet
@@ -17,7 +16,7 @@ module _ {D E : Type 0} {disk : Ghosts D} {disk' : Ghosts E} where
     of_index = of_index;
     many_rows = record { count = refl; magic = refl };
     many_index = record { count = refl; magic = refl };
-    faults = record { rose = λ none. absurd none; calm = λ none. refl; never_falls = omega arith };
+    faults = counts_calm ⊥ _ _ (λ none. none) refl;
   }
 
   -- a reading without a fault, and one behind it
@@ -28,7 +27,7 @@ module _ {D E : Type 0} {disk : Ghosts D} {disk' : Ghosts E} where
     of_index = λ told. read_more index index_mid index_new (first.of_index told) (then_.of_index told);
     many_rows = many_more rows rows_mid rows_new first.many_rows then_.many_rows;
     many_index = many_more index index_mid index_new first.many_index then_.many_index;
-    faults = counts_more fault _ _ _ first.faults then_.faults;
+    faults = counts_behind ⊥ fault _ _ _ (λ none. none) first.faults then_.faults;
   }
 
   -- what tells of a fault otherwise
@@ -39,7 +38,7 @@ module _ {D E : Type 0} {disk : Ghosts D} {disk' : Ghosts E} where
     of_index = reads.of_index;
     many_rows = reads.many_rows;
     many_index = reads.many_index;
-    faults = counts_as fault fault' _ _ down up reads.faults;
+    faults = counts_told fault fault' _ _ down up reads.faults;
   }
 
   -- a reading of the rows log alone
@@ -50,16 +49,5 @@ module _ {D E : Type 0} {disk : Ghosts D} {disk' : Ghosts E} where
     of_index = of_index;
     many_rows = reads.same;
     many_index = record { count = refl; magic = refl };
-    faults = counts_beside fault _ _ (disk'.faults (records_device index)) reads.faults;
+    faults = counts_rows fault _ _ (disk'.faults (records_device index)) _ refl reads.faults;
   }
-    where
-      rose_beside : (a a' b : ℕ) → Rose a a' → Rose (a + b) (a' + b)
-      rose_beside a a' b (inl rose) = inl (omega (arith, rose))
-      rose_beside a a' b (inr last) = inr (omega (arith, last))
-
-      counts_beside : (fault : Type 0) (a a' b : ℕ) → CountsFault fault a a' → CountsFault fault (a + b) (a' + b)
-      counts_beside fault a a' b counts = record {
-        rose = λ told. rose_beside a a' b (counts.rose told);
-        calm = λ none. ap (λ (n : ℕ). n + b) (counts.calm none);
-        never_falls = omega (arith, counts.never_falls);
-      }

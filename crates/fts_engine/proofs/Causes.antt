@@ -1,7 +1,9 @@
 -- Why a database was not opened, by its two logs.
-use Rattle.std.proofs.Common.{◌≡◌, ℕ, ◌+◌, refl, ap, sym, ◌∙◌, inl, inr, arith}
+use Rattle.std.proofs.Common.{◌≡◌, ℕ, refl, ap, sym, ◌∙◌}
 use Rattle.std.specs.Prelude.{Ok, Err, IsErrOf}
-use Rattle.fts_faults.specs.Count.{Rose, CountsFault}
+use Rattle.fts_faults.specs.Count.{CountsFault}
+use Rattle.fts_steps.specs.FaultCounts.{CountsFaultOf}
+use Rattle.fts_steps.proofs.FaultCounts.{both_same, counts_calm}
 use Rattle.fts_engine.specs.Opening.{load_error_of, open_error_of, open_error_of_rows}
 use Rattle.fts_engine.specs.declared.error.Device.{Device}
 use Rattle.fts_engine.specs.declared.error.Device.TheVariants.{Rows}
@@ -37,10 +39,6 @@ of_fault device NoMemory is = absurd cc
 of_fault device (Damaged place) is = absurd cc
 of_fault device DiskFault is = refl
 
-rose_behind : (a b b' : ℕ) → Rose b b' → Rose (a + b) (a + b')
-rose_behind a b b' (inl rose) = inl (omega (arith, rose))
-rose_behind a b b' (inr last) = inr (omega (arith, last))
-
 pub fault_of : {T : Type 0} (told error : LoadError) (a a' : ℕ) → told ≡ error → CountsFault (error ≡ load.DiskFault) a a' → CountsFault (IsErrOf {T = T} (Err told) load.DiskFault) a a'
 fault_of told error a a' same counts = record {
   rose = λ is. counts.rose (sym same ∙ (let e = is in cc));
@@ -68,7 +66,7 @@ pub ok_no_err : {T E : Type 0} (value : T) (error : E) → IsErrOf (Ok value) er
 ok_no_err value error is = absurd (let no = is in cc)
 
 -- no fault was told, and the two devices are the same
-pub counts_none : (told told' : Type 0) (a b c b' c' : ℕ) → (told → ⊥) → (told' → ⊥) → b' ≡ b → c' ≡ c → CountsFault told a (b + c) → CountsFault told' a (b' + c')
-counts_none told told' a b c b' c' calm calm' same same' counts =
-    let still = counts.calm calm in
-    record { rose = λ is. absurd (calm' is); calm = λ _. omega (arith, same, same', still); never_falls = omega (arith, same, same', still) }
+pub counts_none : (told told' : Type 0) (a b a' b' c c' : ℕ) → (told → ⊥) → (told' → ⊥) → c ≡ b → c' ≡ b' → CountsFaultOf told (a, a') (b, b')
+    → CountsFaultOf told' (a, a') (c, c')
+counts_none told told' a b a' b' c c' calm calm' same same' counts =
+    counts_calm told' (a, a') (c, c') calm' (both_same b c b' c' same same' ∙ counts.calm calm)

@@ -1,5 +1,5 @@
 -- The steps of an engine, by their answers.
-use Rattle.std.proofs.Common.{◌≡◌, ℕ, ◌+◌, ◌≤◌, List, [], ◌∷◌, refl, ap, subst, sym, ◌∙◌, ◌++◌, arith, map, length, inl, inr, append-nil}
+use Rattle.std.proofs.Common.{◌≡◌, ℕ, ◌+◌, ◌≤◌, List, [], ◌∷◌, refl, ap, subst, sym, ◌∙◌, ◌++◌, map, length, inl, inr, append-nil}
 use Rattle.std.proofs.lemmas.Bool.{false≢true}
 use Rattle.std.specs.Prelude.{false, fold, Option, Some, None, IsTrue}
 use Rattle.fts_commits.specs.Commit.{Commit}
@@ -16,7 +16,9 @@ use Rattle.fts_steps.specs.State.{State, payloads, index_payloads, index_state, 
 use Rattle.fts_steps.specs.Crash.{MayHold, MayHoldIndex, IsBetween, IsIndexBetween}
 use Rattle.fts_steps.specs.Running.{Running, What, made, batched, optimized, failed, batch_failed, optimize_failed, grown, with_what, next_index, next_batch, next_optimized}
 use Rattle.fts_steps.specs.Step.{Ask, to_commit, to_sync, to_optimize, Answer, disk_fault, committed, stopped, is_disk_fault, changes_of, after, unless_stopped, would_write, MayAnswer, Leaves, Keeps as StepKeeps, Steps, plain_answer}
+use Rattle.fts_steps.specs.FaultCounts.{together}
 use Rattle.fts_steps.proofs.Adding.{rows_stay, index_stay}
+use Rattle.fts_steps.proofs.FaultCounts.{both_same, counts_calm, counts_rows, counts_index}
 use Rattle.fts_steps.proofs.Growing.{index_stays}
 use Rattle.fts_types.specs.declared.settings.Settings.{Settings}
 use Rattle.fts_engine.specs.declared.engine.Engine.{Engine}
@@ -114,8 +116,7 @@ module _ {D E : Type 0} {disk : Ghosts D} {disk' : Ghosts E} (old new : Engine D
   }
 
   same_faults : engine_faults new ≡ engine_faults old
-  same_faults = ap (λ (log : Log D disk). disk.faults (device_of log) + disk'.faults (index_device new)) same
-      ∙ ap (λ (log : Log E disk'). disk.faults (rows_device old) + disk'.faults (device_of log)) index
+  same_faults = both_same _ _ _ _ (ap (λ (log : Log D disk). disk.faults (device_of log)) same) (ap (λ (log : Log E disk'). disk'.faults (device_of log)) index)
 
   -- a step that changes nothing
   pub refuses : (ask : Ask) (answer : Answer) → changes_of ask answer ≡ [] → is_disk_fault answer ≡ false
@@ -138,11 +139,7 @@ module _ {D E : Type 0} {disk : Ghosts D} {disk' : Ghosts E} (old new : Engine D
       kept = record {
         settings = settings;
         limits = limits;
-        faults = record {
-          rose = λ fault. absurd (false≢true (sym calm ∙ fault));
-          calm = λ e. same_faults;
-          never_falls = omega (arith, same_faults);
-        };
+        faults = counts_calm _ _ _ (λ fault. false≢true (sym calm ∙ fault)) same_faults;
         sum = λ n is. absurd (no_fault answer n calm is);
       }
 
@@ -155,15 +152,6 @@ is_stopped engine faults running stands is answer = let same : running.stopped �
 pub can_still : {D E : Type 0} {disk : Ghosts D} {disk' : Ghosts E} (running : Running) (engine : Engine D E disk disk') → Holds running engine → (commit : Commit)
     → CanCommit (length (kept_settings engine.kept).columns) commit → CanCommit (length running.state.settings.columns) commit
 can_still running engine stands commit can = subst (λ (s : Settings). CanCommit (length s.columns) commit) (sym stands.has.keeps.settings) can
-
--- the sum of two counts rises as one does
-rose_sum : (before after more : ℕ) → Rose before after → Rose (before + more) (after + more)
-rose_sum before after more (inl rose) = inl (omega (arith, rose))
-rose_sum before after more (inr last) = inr (omega (arith, last))
-
-rose_behind : (more before after : ℕ) → Rose before after → Rose (more + before) (more + after)
-rose_behind more before after (inl rose) = inl (omega (arith, rose))
-rose_behind more before after (inr last) = inr (omega (arith, last))
 
 -- ---- a commit
 
@@ -219,7 +207,7 @@ module _ {D E : Type 0} {disk : Ghosts D} {disk' : Ghosts E} (old new : Engine D
       kept = record {
         settings = settings;
         limits = limits;
-        faults = record { rose = λ e. absurd (false≢true e); calm = λ e. omega (arith, calm, same_count); never_falls = omega (arith, calm, same_count) };
+        faults = counts_calm _ _ _ (λ e. false≢true e) (both_same _ _ _ _ calm same_count);
         sum = λ n e. absurd cc;
       }
 
@@ -253,7 +241,7 @@ module _ {D E : Type 0} {disk : Ghosts D} {disk' : Ghosts E} (old new : Engine D
 
   -- the device failed: what is kept stays, and the commit is in doubt
   pub fails : (faults : ℕ) → stopped_at new ≡ Some faults → Rose (disk.faults (rows_device old)) (disk.faults (rows_device new))
-      → disk.faults (rows_device old) ≤ disk.faults (rows_device new) → faults ≡ engine_faults new
+      → disk.faults (rows_device old) ≤ disk.faults (rows_device new) → faults ≡ together (engine_faults new)
       → ((running : Running) → Holds running old → running.stopped ≡ None → plain_answer (engine_limits old) running (to_commit commit) ≡ Some (committed (length running.state.commits + 1)))
       → ((running : Running) → Holds running old → Keeps running.state new)
       → ((t : ℕ) (c : Files) → IsTrue disk.tells → t ≤ disk.moment (rows_device new) → disk.images (rows_device new) c → disk.left_since (rows_device new) t c)
@@ -295,12 +283,7 @@ module _ {D E : Type 0} {disk : Ghosts D} {disk' : Ghosts E} (old new : Engine D
       kept = record {
         settings = settings;
         limits = limits;
-        faults = record {
-          rose = λ e. subst (λ (n : ℕ). Rose (engine_faults old) (disk.faults (rows_device new) + n)) (sym same_count)
-              (rose_sum (disk.faults (rows_device old)) (disk.faults (rows_device new)) (disk'.faults (index_device old)) rose);
-          calm = λ no. absurd (no refl);
-          never_falls = omega (arith, up, same_count);
-        };
+        faults = counts_rows _ _ _ _ _ same_count (record { rose = λ e. rose; calm = λ no. absurd (no refl); never_falls = up });
         sum = λ n e. (let same : faults ≡ n = (let is = e in cc) in sym same ∙ sum);
       }
 
@@ -376,7 +359,7 @@ module _ {D E : Type 0} {disk : Ghosts D} {disk' : Ghosts E} (old new : Engine D
       kept = record {
         settings = settings;
         limits = limits;
-        faults = record { rose = λ e. absurd (false≢true (sym no_disk_fault ∙ e)); calm = λ e. omega (arith, calm, same_rows_count); never_falls = omega (arith, calm, same_rows_count) };
+        faults = counts_calm _ _ _ (λ e. false≢true (sym no_disk_fault ∙ e)) (both_same _ _ _ _ same_rows_count calm);
         sum = λ n e. absurd (no_fault answer n no_disk_fault e);
       }
 
@@ -413,7 +396,7 @@ module _ {D E : Type 0} {disk : Ghosts D} {disk' : Ghosts E} (old new : Engine D
 
   -- the device failed: what is kept stays, and the entry is in doubt
   pub loosens : (faults : ℕ) → stopped_at new ≡ Some faults → Rose (disk'.faults (index_device old)) (disk'.faults (index_device new))
-      → disk'.faults (index_device old) ≤ disk'.faults (index_device new) → faults ≡ engine_faults new
+      → disk'.faults (index_device old) ≤ disk'.faults (index_device new) → faults ≡ together (engine_faults new)
       → ((running : Running) → Holds running old → running.stopped ≡ None → MayAnswer (engine_limits old) running ask (disk_fault faults))
       → ((running : Running) → Holds running old → Keeps running.state new)
       → ((t : ℕ) (c : Files) → IsTrue disk'.tells → t ≤ disk'.moment (index_device new) → disk'.images (index_device new) c → disk'.left_since (index_device new) t c)
@@ -442,12 +425,7 @@ module _ {D E : Type 0} {disk : Ghosts D} {disk' : Ghosts E} (old new : Engine D
       kept = record {
         settings = settings;
         limits = limits;
-        faults = record {
-          rose = λ e. subst (λ (n : ℕ). Rose (engine_faults old) (n + disk'.faults (index_device new))) (sym same_rows_count)
-              (rose_behind (disk.faults (rows_device old)) (disk'.faults (index_device old)) (disk'.faults (index_device new)) rose);
-          calm = λ no. absurd (no refl);
-          never_falls = omega (arith, up, same_rows_count);
-        };
+        faults = counts_index _ _ _ _ _ same_rows_count (record { rose = λ e. rose; calm = λ no. absurd (no refl); never_falls = up });
         sum = λ n e. (let same : faults ≡ n = (let is = e in cc) in sym same ∙ sum);
       }
 

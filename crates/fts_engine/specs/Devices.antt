@@ -1,8 +1,9 @@
 -- The two devices of a database, and the steps on it as these show them.
-use Rattle.std.specs.Prelude.{ℕ, ◌+◌, false, IsTrue}
+use Rattle.std.specs.Prelude.{false, IsTrue}
 use Rattle.fts_types.specs.declared.limits.Limits.{Limits}
 use Rattle.fts_types.specs.declared.settings.Settings.{Settings}
 use Rattle.fts_disk.specs.declared.disk.Disk as disk
+use Rattle.fts_steps.specs.FaultCounts.{FaultCounts}
 use Rattle.fts_steps.specs.Step.{Sight, no_account}
 use Rattle.fts_engine.specs.Stands.{OnRows, OnIndex}
 
@@ -22,9 +23,9 @@ pub record Disks (D E : Type 0) : Type 1 where
 abbrev pub disks_of : {D E : Type 0} → disk.Ghosts D → disk.Ghosts E → Disks D E
 disks_of rows index = record { rows = rows; index = index }
 
--- how many faults the two devices had together
-abbrev pub disk_faults : {D E : Type 0} → Disks D E → Devices D E → ℕ
-disk_faults disks here = disks.rows.faults here.rows + disks.index.faults here.index
+-- how many faults each of the two devices had
+abbrev pub disk_faults : {D E : Type 0} → Disks D E → Devices D E → FaultCounts
+disk_faults disks here = (disks.rows.faults here.rows, disks.index.faults here.index)
 
 -- both devices tell what they hold
 abbrev pub DisksTell : {D E : Type 0} → Disks D E → Type 0

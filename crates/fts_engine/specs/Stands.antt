@@ -1,4 +1,4 @@
-use Rattle.std.specs.Prelude.{◌≡◌, ℕ, ◌+◌, List, [], false, length, Result, Ok, Err, Option, None, IsTrue}
+use Rattle.std.specs.Prelude.{◌≡◌, ℕ, List, [], false, length, Result, Ok, Err, Option, None, IsTrue}
 use Rattle.fts_disk.specs.Device.{Files}
 use Rattle.fts_disk.specs.declared.disk.Disk.{Ghosts}
 use Rattle.fts_log.specs.declared.log.Log.{Log}
@@ -8,6 +8,7 @@ use Rattle.fts_types.specs.declared.limits.Limits.{Limits}
 use Rattle.fts_types.specs.declared.settings.Settings.{Settings}
 use Rattle.fts_types.specs.Limits.{standard_limits}
 use Rattle.fts_commits.specs.Commit.{replay}
+use Rattle.fts_steps.specs.FaultCounts.{FaultCounts}
 use Rattle.fts_steps.specs.State.{State, payloads, index_payloads, rows_magic, index_magic, index_state, IsSound}
 use Rattle.fts_steps.specs.State.{HasEntries, IsRows, IsIndex}
 use Rattle.fts_steps.specs.Running.{Running}
@@ -43,9 +44,10 @@ rows_device engine = device_of engine.rows
 abbrev pub index_device : {D E : Type 0} {rows : Ghosts D} {index : Ghosts E} → Engine D E rows index → E
 index_device engine = device_of engine.index
 
--- how many faults the two devices had together
-abbrev pub engine_faults : {D E : Type 0} {rows : Ghosts D} {index : Ghosts E} → Engine D E rows index → ℕ
-engine_faults {rows} {index} engine = rows.faults (device_of engine.rows) + index.faults (device_of engine.index)
+-- how many faults each of the two devices had
+abbrev pub engine_faults : {D E : Type 0} {rows : Ghosts D} {index : Ghosts E} → Engine D E rows index
+    → FaultCounts
+engine_faults {rows} {index} engine = (rows.faults (device_of engine.rows), index.faults (device_of engine.index))
 
 -- the devices behind an opening: the engine's, or those that are handed back
 abbrev pub rows_left : {D E X : Type 0} {rows : Ghosts D} {index : Ghosts E}

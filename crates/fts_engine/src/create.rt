@@ -1,4 +1,4 @@
-ghost use Rattle.std.specs.Prelude.{◌≡◌, ◌≤◌, ◌+◌, [], length, IsTrue, IsErr, IsErrAnd};
+ghost use Rattle.std.specs.Prelude.{◌≡◌, ◌≤◌, [], length, IsTrue, IsErr, IsErrAnd};
 ghost use Rattle.std.specs.Prelude.{IfOk, IfErr};
 ghost use Rattle.fts_faults.specs.Count.{CountsFault};
 ghost use Rattle.fts_disk.specs.Crash.{Only};
@@ -10,6 +10,7 @@ ghost use Rattle.fts_log.specs.Framing.{inner};
 ghost use Rattle.fts_log.specs.Log.{framed_size};
 ghost use Rattle.fts_log.specs.Record.{IsLog};
 ghost use Rattle.fts_rowcodec.specs.Payload.{settings_payload};
+ghost use Rattle.fts_steps.specs.FaultCounts.{CountsFaultOf};
 ghost use Rattle.fts_steps.specs.State.{IsCreated, IsRows, IsIndex, index_magic, created_with};
 ghost use Rattle.fts_engine.specs.Opening.{device_behind, rows_behind, index_behind};
 
@@ -86,9 +87,9 @@ pub fn create_engine<D: Disk, E: Disk>(
         → IsCreated (D.seen rows 0) → Looks E.Disk index e.2) }
     ensures untouched { IfErr result (λ e. e.0 ≡ CreateError.NoMemory
         → (e.1 ≡ rows) × (e.2 ≡ index)) }
-    ensures faults { CountsFault (IsErrAnd result (λ e. e.0 ≡ CreateError.DiskFault))
-        (D.faults rows + E.faults index)
-        (D.faults (rows_behind result) + E.faults (index_behind result)) }
+    ensures faults { CountsFaultOf (IsErrAnd result (λ e. e.0 ≡ CreateError.DiskFault))
+        (D.faults rows, E.faults index)
+        (D.faults (rows_behind result), E.faults (index_behind result)) }
 {
     let framed = match framed_settings(alloc, settings) {
         Ok(framed) => framed,
@@ -139,8 +140,8 @@ fn make<D: Disk, E: Disk>(rows: D, index: E, framed: &Framed) -> Result<(D, E), 
         → IsLog index_magic [] (E.seen made.1 0)
         × Only (E.seen made.1) (E.images made.1)) }
     ensures failed { IfErr result (λ e. e.0 ≡ CreateError.DiskFault) }
-    ensures faults { CountsFault (IsErr result) (D.faults rows + E.faults index)
-        (D.faults (rows_behind result) + E.faults (index_behind result)) }
+    ensures faults { CountsFaultOf (IsErr result) (D.faults rows, E.faults index)
+        (D.faults (rows_behind result), E.faults (index_behind result)) }
 {
     let index = match create_log(index, INDEX_MAGIC, LARGEST_LOG) {
         Ok(log) => log.close(),

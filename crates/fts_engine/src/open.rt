@@ -1,9 +1,10 @@
-ghost use Rattle.std.specs.Prelude.{◌≡◌, ◌⊎◌, ◌↔◌, ◌+◌, ◌<◌, ℕ, List};
+ghost use Rattle.std.specs.Prelude.{◌≡◌, ◌⊎◌, ◌↔◌, ◌<◌, ℕ, List};
 ghost use Rattle.std.specs.Prelude.{IsTrue, IsErrAnd, IfOk, IfErr};
 ghost use Rattle.fts_faults.specs.Count.{CountsFault};
 ghost use Rattle.fts_disk.specs.Moments.{Looks};
 ghost use Rattle.fts_log.specs.Records.{Hold, records_device, records_magic, record_count};
 ghost use Rattle.fts_log.specs.Record.{IsLog, IsBrokenBehind};
+ghost use Rattle.fts_steps.specs.FaultCounts.{CountsFaultOf};
 ghost use Rattle.fts_steps.specs.State.{State, IsCreated, IsRows, rows_magic, index_magic};
 ghost use Rattle.fts_steps.specs.Running.{opened};
 ghost use Rattle.fts_steps.specs.Fault.{IsFaultAt};
@@ -63,9 +64,9 @@ pub fn open_engine<D: Disk, E: Disk>(
         → IsIndexDamaged at (D.seen rows 0) (E.seen index 0))) }
     ensures looks_rows { IsTrue D.tells → Looks D.Disk rows (rows_left result) }
     ensures looks_index { IsTrue E.tells → Looks E.Disk index (index_left result) }
-    ensures faults { CountsFault (IsErrAnd result (λ e. e.0 ≡ OpenError.DiskFault))
-        (D.faults rows + E.faults index)
-        (D.faults (rows_left result) + E.faults (index_left result)) }
+    ensures faults { CountsFaultOf (IsErrAnd result (λ e. e.0 ≡ OpenError.DiskFault))
+        (D.faults rows, E.faults index)
+        (D.faults (rows_left result), E.faults (index_left result)) }
 {
     let rows = match read_rows(alloc, rows) {
         Ok(rows) => rows,
@@ -113,9 +114,9 @@ fn open_records<D: Disk, E: Disk>(
     ensures looks_rows { IsTrue D.tells → Looks D.Disk (records_device rows) (rows_left result) }
     ensures looks_index { IsTrue E.tells
         → Looks E.Disk (records_device entries) (index_left result) }
-    ensures faults { CountsFault (IsErrAnd result (λ e. e.0 ≡ LoadError.DiskFault))
-        (D.faults (records_device rows) + E.faults (records_device entries))
-        (D.faults (rows_left result) + E.faults (index_left result)) }
+    ensures faults { CountsFaultOf (IsErrAnd result (λ e. e.0 ≡ LoadError.DiskFault))
+        (D.faults (records_device rows), E.faults (records_device entries))
+        (D.faults (rows_left result), E.faults (index_left result)) }
 {
     let mut rows = rows;
     let mut entries = entries;

@@ -8,7 +8,7 @@ use Rattle.fts_commits.specs.declared.change.Change.{Change}
 use Rattle.fts_commits.specs.Fits.{FitsColumns, FitsNumbers, CanCommit}
 use Rattle.fts_schema.specs.declared.reply.Reply.{Reply}
 use Rattle.fts_schema.specs.declared.reply.Reply.TheVariants.{Begun, NoMemory, DiskFault, Buffered, TooManyChanges}
-use Rattle.fts_faults.specs.Count.{CountsFault}
+use Rattle.fts_steps.specs.FaultCounts.{CountsFaultOf}
 use Rattle.fts_types.specs.declared.settings.Settings.{Settings}
 use Rattle.fts_steps.specs.declared.commit.CommitError.{CommitError}
 use Rattle.fts_steps.specs.declared.commit.CommitError.TheVariants as error
@@ -83,7 +83,7 @@ module _ {S : Type 0} (sight : Sight S) (settings : Settings) (transaction : Tra
       → begun_by (commit_answer_of made) ≡ reply → GoesOn sight settings transaction opens [] old reply new
   begins_behind made reply some step told =
       one_last sight settings transaction opens [] (to_commit (changes_in transaction)) old new (commit_answer_of made) step (commit_asks Begun (changes_in transaction) some) reply (ap ends told)
-      (subst (λ (r : Reply). CountsFault (r ≡ DiskFault) (sight.faults old) (sight.faults new)) told (begun_fault (commit_answer_of made) (sight.faults old) (sight.faults new) step.keeps.faults))
+      (subst (λ (r : Reply). CountsFaultOf (r ≡ DiskFault) (sight.faults old) (sight.faults new)) told (begun_fault (commit_answer_of made) (sight.faults old) (sight.faults new) step.keeps.faults))
 
   pub begin_refused : (error : CommitError) (reply : Reply) → (changes_in transaction ≡ [] → ⊥) → Steps sight (to_commit (changes_in transaction)) (commit_answer_of (Err error)) old new
       → reply_to (commit_answer_of (Err error)) ≡ reply → GoesOn sight settings transaction opens [] old reply new

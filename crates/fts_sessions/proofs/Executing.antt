@@ -1,8 +1,9 @@
 -- A request's steps are those of its line.
-use Rattle.std.proofs.Common.{◌≡◌, ℕ, ◌+◌, List, [], ◌∷◌, length, refl, ap, subst, sym, ◌∙◌, inl, inr, arith}
+use Rattle.std.proofs.Common.{◌≡◌, ℕ, ◌+◌, List, [], ◌∷◌, length, refl, ap, subst, sym, ◌∙◌, inl, inr}
 use Rattle.std.specs.Prelude.{Bool, true, false, nat_lt, if◌then◌else◌, Option, Some, None, IsTrue, codes}
 use Rattle.std.specs.Str.{str_eq_ignore_ascii_case}
-use Rattle.fts_faults.specs.Count.{CountsFault}
+use Rattle.fts_steps.specs.FaultCounts.{FaultCounts, CountsFaultOf}
+use Rattle.fts_steps.proofs.FaultCounts.{counts_calm, counts_told}
 use Rattle.fts_types.specs.declared.settings.Settings.{Settings}
 use Rattle.fts_commits.specs.declared.change.Change.{Change}
 use Rattle.fts_io.specs.Text.{whole}
@@ -154,20 +155,14 @@ begun_told (disk_fault faults) is = refl
 begun_told (stopped faults) is = absurd cc
 begun_told no_memory is = absurd cc
 
-pub told_fault : (answer : Answer) (reply : Reply) (before after : ℕ) → reply_to answer ≡ reply → CountsFault (IsTrue (is_disk_fault answer)) before after
-    → CountsFault (reply ≡ DiskFault) before after
-told_fault answer reply before after told counts = record {
-  rose = λ is. counts.rose (fault_answered answer (told ∙ is));
-  calm = λ no. counts.calm (λ fault. no (sym told ∙ fault_told answer fault));
-  never_falls = counts.never_falls;
-}
+pub told_fault : (answer : Answer) (reply : Reply) (before after : FaultCounts) → reply_to answer ≡ reply → CountsFaultOf (IsTrue (is_disk_fault answer)) before after
+    → CountsFaultOf (reply ≡ DiskFault) before after
+told_fault answer reply before after told =
+    counts_told _ _ before after (λ is. fault_answered answer (told ∙ is)) (λ fault. sym told ∙ fault_told answer fault)
 
-pub begun_fault : (answer : Answer) (before after : ℕ) → CountsFault (IsTrue (is_disk_fault answer)) before after → CountsFault (begun_by answer ≡ DiskFault) before after
-begun_fault answer before after counts = record {
-  rose = λ is. counts.rose (begun_answered answer is);
-  calm = λ no. counts.calm (λ fault. no (begun_told answer fault));
-  never_falls = counts.never_falls;
-}
+pub begun_fault : (answer : Answer) (before after : FaultCounts) → CountsFaultOf (IsTrue (is_disk_fault answer)) before after
+    → CountsFaultOf (begun_by answer ≡ DiskFault) before after
+begun_fault answer before after = counts_told _ _ before after (begun_answered answer) (begun_told answer)
 
 module _ {S : Type 0} (sight : Sight S) (line : List ℕ) (transaction : Transaction) where
   -- no step was made
@@ -177,7 +172,7 @@ module _ {S : Type 0} (sight : Sight S) (line : List ℕ) (transaction : Transac
     calls = [];
     says = says;
     made = refl;
-    faults = record { rose = λ is. absurd (calm is); calm = λ no. refl; never_falls = omega arith };
+    faults = counts_calm _ _ _ calm refl;
   })
 
   -- memory ran out before the first step

@@ -1,8 +1,9 @@
 -- The steps of a request, one behind another.
-use Rattle.std.proofs.Common.{◌≡◌, ℕ, List, [], ◌∷◌, ◌++◌, refl, ap, subst, ◌∙◌, sym, arith}
+use Rattle.std.proofs.Common.{◌≡◌, List, [], ◌∷◌, ◌++◌, refl, ap, ◌∙◌, sym}
 use Rattle.std.proofs.lemmas.Bool.{false≢true}
 use Rattle.std.specs.Prelude.{false}
-use Rattle.fts_faults.specs.Count.{CountsFault}
+use Rattle.fts_steps.specs.FaultCounts.{CountsFaultOf}
+use Rattle.fts_steps.proofs.FaultCounts.{counts_behind, counts_calm}
 use Rattle.fts_types.specs.declared.settings.Settings.{Settings}
 use Rattle.fts_schema.specs.declared.reply.Reply.{Reply}
 use Rattle.fts_schema.specs.declared.reply.Reply.TheVariants.{DiskFault}
@@ -20,7 +21,7 @@ module _ {S : Type 0} (sight : Sight S) (settings : Settings) (transaction : Tra
     calls = [];
     says = is;
     made = refl;
-    faults = record { rose = λ is. absurd (calm is); calm = λ no. refl; never_falls = omega arith };
+    faults = counts_calm _ _ _ calm refl;
   }
 
   module _ (ask : Ask) (old mid : S) (answer : Answer) (step : Steps sight ask answer old mid) (asked : next settings transaction request answers ≡ asks ask) where
@@ -34,12 +35,11 @@ module _ {S : Type 0} (sight : Sight S) (settings : Settings) (transaction : Tra
         calls = call ∷ rest.calls;
         says = (asked, rest.says);
         made = (mid, (step, refl), rest.made);
-        faults = subst (λ (count : ℕ). CountsFault (reply ≡ DiskFault) count (sight.faults new))
-            (step.keeps.faults.calm (λ fault. false≢true (sym calm ∙ fault))) rest.faults;
+        faults = counts_behind _ _ _ _ _ (λ fault. false≢true (sym calm ∙ fault)) step.keeps.faults rest.faults;
       }
 
     -- the last step, and what it tells
-    pub one_last : (reply : Reply) → next settings transaction request (answers ++ answer ∷ []) ≡ ends reply → CountsFault (reply ≡ DiskFault) (sight.faults old) (sight.faults mid)
+    pub one_last : (reply : Reply) → next settings transaction request (answers ++ answer ∷ []) ≡ ends reply → CountsFaultOf (reply ≡ DiskFault) (sight.faults old) (sight.faults mid)
         → GoesOn sight settings transaction request answers old reply mid
     one_last reply is counts = record {
       calls = call ∷ [];

@@ -3,7 +3,7 @@ use Rattle.std.proofs.Common.{◌≡◌, ℕ, ◌+◌, ◌<◌, List, [], ◌∷
 use Rattle.std.proofs.lemmas.Bool.{false≢true}
 use Rattle.std.specs.Prelude.{Bool, true, false, IsTrue}
 use Rattle.std.specs.List.{AllPairs}
-use Rattle.fts_faults.specs.Count.{CountsFault}
+use Rattle.fts_steps.specs.FaultCounts.{CountsFaultOf}
 use Rattle.fts_ids.specs.Ids.{Ascend}
 use Rattle.fts_types.specs.declared.settings.Settings.{Settings}
 use Rattle.fts_types.specs.Rules.{rules_of}
@@ -86,7 +86,7 @@ module _ {S : Type 0} (sight : Sight S) (asked : List Leaf) (terms : Terms) (old
       kept = record {
         settings = step.keeps.settings;
         limits = step.keeps.limits;
-        faults = subst (λ (b : Bool). CountsFault (IsTrue b) (sight.faults old) (sight.faults new)) (calm ∙ sym calm') step.keeps.faults;
+        faults = subst (λ (b : Bool). CountsFaultOf (IsTrue b) (sight.faults old) (sight.faults new)) (calm ∙ sym calm') step.keeps.faults;
         sum = λ n is. absurd (false≢true (sym calm' ∙ ap is_disk_fault is));
       }
 

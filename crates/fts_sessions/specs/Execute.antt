@@ -1,9 +1,9 @@
 use Rattle.std.specs.Prelude.{◌≡◌, ◌⊎◌, ℕ, List, []}
-use Rattle.fts_faults.specs.Count.{CountsFault}
 use Rattle.fts_io.specs.Text.{Line}
 use Rattle.fts_types.specs.declared.settings.Settings.{Settings}
 use Rattle.fts_schema.specs.declared.reply.Reply.{Reply}
 use Rattle.fts_schema.specs.declared.reply.Reply.TheVariants.{NoMemory, DiskFault}
+use Rattle.fts_steps.specs.FaultCounts.{CountsFaultOf}
 use Rattle.fts_steps.specs.Step.{Ask, Answer, Call, Sight, Steps, AreMade}
 use Rattle.fts_sessions.specs.Query.{Search, IsSearch}
 use Rattle.fts_sessions.specs.Request.{Request, IsRequest}
@@ -25,7 +25,7 @@ pub record Proceeds {S : Type 0} (sight : Sight S) (Told : List Call → Reply �
   pub calls : List Call
   pub says : Told calls reply
   pub made : AreMade sight calls old new
-  pub faults : CountsFault (reply ≡ DiskFault) (sight.faults old) (sight.faults new)
+  pub faults : CountsFaultOf (reply ≡ DiskFault) (sight.faults old) (sight.faults new)
 
 -- a line is executed in a session in which this transaction is open: its steps are made, its reply is given, and that
 -- transaction is left

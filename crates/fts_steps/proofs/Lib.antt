@@ -3,3 +3,4 @@ pub mod Leaving
 pub mod Adding
 pub mod Faults
 pub mod Making
+pub mod FaultCounts

@@ -1,3 +1,4 @@
+pub mod FaultCounts
 pub mod State
 pub mod Fault
 pub mod Running

@@ -1,6 +1,5 @@
 use Rattle.std.specs.Prelude.{Bool, true, false, ◌≡◌, ◌⊎◌, ℕ, ◌+◌, if◌then◌else◌, nat_lt, List, [], ◌∷◌, length, map}
 use Rattle.std.specs.Prelude.{◌++◌, Option, Some, None, Result, Ok, Err, IsTrue}
-use Rattle.fts_faults.specs.Count.{CountsFault}
 use Rattle.fts_types.specs.declared.limits.Limits.{Limits}
 use Rattle.fts_types.specs.declared.settings.Settings.{Settings}
 use Rattle.fts_types.specs.Rules.{rules_of}
@@ -13,6 +12,7 @@ use Rattle.fts_meaning.specs.View.{View, view_of}
 use Rattle.fts_disk.specs.Crash.{Images}
 use Rattle.fts_disk.specs.Moments.{LeavesOnly}
 use Rattle.fts_disk.specs.declared.disk.Disk.{Ghosts}
+use Rattle.fts_steps.specs.FaultCounts.{FaultCounts, together, CountsFaultOf}
 use Rattle.fts_steps.specs.State.{State, IsRight, turns_of, end_after, index_end_after}
 use Rattle.fts_listing.specs.declared.kind.ListingKind.{ListingKind}
 use Rattle.fts_listing.specs.declared.listing.Listing.{Listing}
@@ -230,8 +230,8 @@ abbrev pub no_account : Account
 no_account = record { number = 0; seen = []; gave = []; turns = 0 }
 
 -- what contracts see of what makes steps: whether others make some in between, and then its place among them and its
--- account; the settings and the limits of commits, how many faults the devices had together, for which engine it
--- stands, and the devices of its two logs
+-- account; the settings and the limits of commits, how many faults each device had, for which engine it stands, and the
+-- devices of its two logs
 pub record Sight (S : Type 0) : Type 1 where
   pub is_shared : Bool
   pub Place : Type 0
@@ -239,7 +239,7 @@ pub record Sight (S : Type 0) : Type 1 where
   pub account : S → Account
   pub settings : S → Settings
   pub limits : S → Limits
-  pub faults : S → ℕ
+  pub faults : S → FaultCounts
   pub stands : Running → S → Type 0
   pub rows : Below S
   pub index : Below S
@@ -257,13 +257,13 @@ pub record Tells {S : Type 0} (sight : Sight S) (more own : List Entry) (turns :
   pub turns_are : (sight.account new).turns ≡ (sight.account old).turns + turns
   pub place : sight.place new ≡ sight.place old
 
--- what a step keeps, whatever it was asked: the settings and the limits; and a fault is counted exactly where its
--- answer tells it, with the sum of the counts
+-- what a step keeps, whatever it was asked: the settings and the limits; and a fault is counted of one device exactly
+-- where the answer tells it, with the sum of both counts
 pub record Keeps {S : Type 0} (sight : Sight S) (answer : Answer) (old new : S) : Type 0 where
   pub settings : sight.settings new ≡ sight.settings old
   pub limits : sight.limits new ≡ sight.limits old
-  pub faults : CountsFault (IsTrue (is_disk_fault answer)) (sight.faults old) (sight.faults new)
-  pub sum : (n : ℕ) → answer ≡ disk_fault n → n ≡ sight.faults new
+  pub faults : CountsFaultOf (IsTrue (is_disk_fault answer)) (sight.faults old) (sight.faults new)
+  pub sum : (n : ℕ) → answer ≡ disk_fault n → n ≡ together (sight.faults new)
 
 -- ---- a step
 

@@ -1,11 +1,11 @@
 -- What was done by the steps of an engine, seen by its devices.
 use Rattle.std.specs.Prelude.{IsTrue, Result, Ok, Err}
-use Rattle.std.proofs.Common.{◌≡◌, ℕ, ◌+◌, Bool, true, false, List, [], ◌∷◌, refl, ap, subst, sym, ◌∙◌, inr}
+use Rattle.std.proofs.Common.{◌≡◌, ℕ, Bool, true, false, List, [], ◌∷◌, refl, ap, subst, sym, ◌∙◌, inr}
 use Rattle.fts_types.specs.declared.limits.Limits.{Limits}
 use Rattle.fts_types.specs.declared.settings.Settings.{Settings}
 use Rattle.fts_disk.specs.Moments.{LeavesAsBefore}
 use Rattle.fts_engine.specs.Stands.{OnRows, OnIndex}
-use Rattle.fts_faults.specs.Count.{CountsFault}
+use Rattle.fts_steps.specs.FaultCounts.{FaultCounts, together, CountsFaultOf}
 use Rattle.fts_io.specs.Text.{Line}
 use Rattle.fts_steps.specs.Running.{Running, grown}
 use Rattle.fts_steps.specs.Step.{Call, Sight, MayAnswer, is_disk_fault, Traced, Runs, after_call}
@@ -31,8 +31,8 @@ module _ {S : Type 0} (sight : Sight S) (single : sight.is_shared ≡ false) (se
     (start : Running) (script : List Line) (before now : Sides S)
     (first : Devices sight.rows.Device sight.index.Device) (looked : Looked sight first before.steps)
     (same_settings : sight.settings before.steps ≡ settings) (same_limits : sight.limits before.steps ≡ limits)
-    (calm : sight.faults before.steps ≡ sight.rows.disk.faults first.rows + sight.index.disk.faults first.index)
-    (counts : (s : S) → sight.faults s ≡ sight.rows.disk.faults (sight.rows.device s) + sight.index.disk.faults (sight.index.device s)) where
+    (calm : sight.faults before.steps ≡ (sight.rows.disk.faults first.rows, sight.index.disk.faults first.index))
+    (counts : (s : S) → sight.faults s ≡ (sight.rows.disk.faults (sight.rows.device s), sight.index.disk.faults (sight.index.device s))) where
   abbrev both : Disks sight.rows.Device sight.index.Device
   both = disks_of sight.rows.disk sight.index.disk
 
@@ -64,9 +64,9 @@ module _ {S : Type 0} (sight : Sight S) (single : sight.is_shared ≡ false) (se
       keeps = record {
         settings = refl;
         limits = refl;
-        faults = subst (λ (n : ℕ). CountsFault (IsTrue (is_disk_fault call.answer)) n (disk_faults both (seen mid))) (counts old)
-            (subst (λ (n : ℕ). CountsFault (IsTrue (is_disk_fault call.answer)) (sight.faults old) n) (counts mid) step.keeps.faults);
-        sum = λ n is. step.keeps.sum n is ∙ counts mid;
+        faults = subst (λ (n : FaultCounts). CountsFaultOf (IsTrue (is_disk_fault call.answer)) n (disk_faults both (seen mid))) (counts old)
+            (subst (λ (n : FaultCounts). CountsFaultOf (IsTrue (is_disk_fault call.answer)) (sight.faults old) n) (counts mid) step.keeps.faults);
+        sum = λ n is. step.keeps.sum n is ∙ ap together (counts mid);
       };
     },
     traced_on (after_call running call) calls mid new (step.keeps.limits ∙ kept) rest,

@@ -1,7 +1,8 @@
 -- What replies tell of the lines.
-use Rattle.std.proofs.Common.{◌≡◌, ◌⊎◌, ℕ, ◌≤◌, refl, ap, sym, ◌∙◌, inl, inr, ⊎_elim, arith}
+use Rattle.std.proofs.Common.{◌≡◌, ◌⊎◌, refl, ap, sym, ◌∙◌, inl, inr}
 use Rattle.std.specs.Prelude.{Result, Ok}
-use Rattle.fts_faults.specs.Count.{CountsFault, Rose}
+use Rattle.fts_steps.specs.FaultCounts.{FaultCounts, CountsFaultOf}
+use Rattle.fts_steps.proofs.FaultCounts.{counts_both, counts_told}
 use Rattle.fts_schema.specs.declared.reply.Reply.{Reply}
 use Rattle.fts_schema.specs.declared.reply.Reply.TheVariants as reply
 use Rattle.fts_sessions.specs.Calm.{IsCalm}
@@ -66,30 +67,15 @@ sound_calm reply is = record {
   no_fault = λ e. let no : ◌≡◌ {A = Health} Failed Sound = sym (ap health_of e) ∙ is in cc;
 }
 
--- a count over two parts of a run
-pub counted_more : (first next : Health) (old mid new : ℕ) → CountsFault (first ≡ Failed) old mid → CountsFault (next ≡ Failed) mid new
-    → CountsFault (worse first next ≡ Failed) old new
-counted_more first next old mid new before behind = record {
-  rose = λ is. ⊎_elim (λ e. rose_before (before.rose e) behind.never_falls) (λ e. rose_behind before.never_falls (behind.rose e)) (failed_in first next is);
-  calm = λ no. behind.calm (λ e. no (failed_now first next e)) ∙ before.calm (λ e. no (failed_before first next e));
-  never_falls = let a = before.never_falls in let b = behind.never_falls in omega arith;
-}
-  where
-    rose_before : Rose old mid → mid ≤ new → Rose old new
-    rose_before (inl less) up = inl (omega (arith, less, up))
-    rose_before (inr most) up = inr (omega (arith, most, up))
+-- the counts over two parts of a run
+pub counted_more : (first next : Health) (old mid new : FaultCounts) → CountsFaultOf (first ≡ Failed) old mid → CountsFaultOf (next ≡ Failed) mid new
+    → CountsFaultOf (worse first next ≡ Failed) old new
+counted_more first next old mid new = counts_both _ _ _ old mid new (failed_in first next) (failed_before first next) (failed_now first next)
 
-    rose_behind : old ≤ mid → Rose mid new → Rose old new
-    rose_behind up (inl less) = inl (omega (arith, less, up))
-    rose_behind up (inr most) = inr most
-
--- the count of a line that went on
-pub counted_line : (now : Health) (old new : ℕ) → CountsFault (◌≡◌ {A = Result Health Halt} (Ok now) (Ok Failed)) old new → CountsFault (now ≡ Failed) old new
-counted_line now old new counts = record {
-  rose = λ is. counts.rose (ap Ok is);
-  calm = λ no. counts.calm (λ is. no (let same = is in cc));
-  never_falls = counts.never_falls;
-}
+-- those of a line that went on
+pub counted_line : (now : Health) (old new : FaultCounts) → CountsFaultOf (◌≡◌ {A = Result Health Halt} (Ok now) (Ok Failed)) old new
+    → CountsFaultOf (now ≡ Failed) old new
+counted_line now old new = counts_told _ _ old new (ap Ok) (λ is. let same = is in cc)
 
 -- a reply is a fault's where its line met one
 fault_met : (told : Reply) → health_of told ≡ Failed → told ≡ reply.DiskFault
@@ -120,10 +106,6 @@ fault_met reply.NothingToOptimize is = absurd cc
 fault_met (reply.Optimized words finished) is = absurd cc
 fault_met (reply.Listed number listing) is = absurd cc
 
--- the count of a line, by its reply
-pub counted_reply : (told : Reply) (old new : ℕ) → CountsFault (told ≡ reply.DiskFault) old new → CountsFault (health_of told ≡ Failed) old new
-counted_reply told old new counts = record {
-  rose = λ is. counts.rose (fault_met told is);
-  calm = λ no. counts.calm (λ is. no (ap health_of is));
-  never_falls = counts.never_falls;
-}
+-- the counts of a line, by its reply
+pub counted_reply : (told : Reply) (old new : FaultCounts) → CountsFaultOf (told ≡ reply.DiskFault) old new → CountsFaultOf (health_of told ≡ Failed) old new
+counted_reply told old new = counts_told _ _ old new (fault_met told) (ap health_of)

@@ -3,7 +3,8 @@ use Rattle.std.proofs.Common.{◌≡◌, ℕ, zero, suc, Bool, true, false, if�
 use Rattle.std.specs.Prelude.{nat_lt, ◌%◌, take, Result, Ok, Err, IfOk, IsOk}
 use Rattle.std.specs.Char.{is_ascii_digit}
 use Rattle.std.proofs.lemmas.Bool.{both_ways}
-use Rattle.fts_faults.specs.Count.{CountsFault}
+use Rattle.fts_steps.specs.FaultCounts.{FaultCounts, CountsFaultOf}
+use Rattle.fts_steps.proofs.FaultCounts.{counts_told}
 use Rattle.fts_gen.specs.Draws.{draw}
 use Rattle.fts_gen.specs.Script.{Spelled, decided, behind, lines_from}
 use Rattle.fts_io.specs.Text.{Line, whole}
@@ -133,16 +134,16 @@ module _ {S : Type 0} (sight : Sight S) (start : Running) (script : List Line) w
         kept = (made_keeps sight batches.calls one.middle now batches.steps).settings ∙ (made_keeps sight one.executes.calls middle one.middle one.executes.made).settings ∙ far.kept;
       }
 
--- the count of a line and of the batches behind it
+-- the counts of a line and of the batches behind it
 pub line_counts : {S : Type 0} (sight : Sight S) (line : Line) (played next : Played) (transaction left : Transaction) (first old new : S)
-    → CountsFault (played.met ≡ Failed) (sight.faults first) (sight.faults old) → PlaysLine sight line played next transaction left old new
-    → CountsFault (next.met ≡ Failed) (sight.faults first) (sight.faults new)
+    → CountsFaultOf (played.met ≡ Failed) (sight.faults first) (sight.faults old) → PlaysLine sight line played next transaction left old new
+    → CountsFaultOf (next.met ≡ Failed) (sight.faults first) (sight.faults new)
 line_counts sight line played next transaction left first old new before one =
     let batches = one.behind.batches in
     let here = counted_more (health_of one.reply) one.behind.later (sight.faults old) (sight.faults one.middle) (sight.faults new)
     (counted_reply one.reply (sight.faults old) (sight.faults one.middle) one.executes.faults) batches.faults in
-    let now = subst (λ (h : Health). CountsFault (h ≡ Failed) (sight.faults old) (sight.faults new)) (sym one.behind.met_is) here in
-    subst (λ (h : Health). CountsFault (h ≡ Failed) (sight.faults first) (sight.faults new)) (sym one.met_is)
+    let now = subst (λ (h : Health). CountsFaultOf (h ≡ Failed) (sight.faults old) (sight.faults new)) (sym one.behind.met_is) here in
+    subst (λ (h : Health). CountsFaultOf (h ≡ Failed) (sight.faults first) (sight.faults new)) (sym one.met_is)
     (counted_more played.met one.now (sight.faults first) (sight.faults old) (sight.faults new) before now)
 
 -- ---- what is told
@@ -202,12 +203,9 @@ comes_to engine statements running replies sums summary stands (counted, same, k
       sums = subst (AreSums replies) (sym same) are;
     }
 
--- the count of a script whose lines were all executed
-pub counted_end : (end : Result Health Unsent) (old new : ℕ) → IfOk end (λ met. CountsFault (met ≡ Failed) old new) → IsOk end
-    → CountsFault (end ≡ Ok Failed) old new
-counted_end (Ok health) old new counts is = record {
-  rose = λ e. counts.rose (let same : ◌≡◌ {A = Result Health Unsent} (Ok health) (Ok Failed) = e in cc);
-  calm = λ no. counts.calm (λ e. no (ap Ok e));
-  never_falls = counts.never_falls;
-}
+-- the counts of a script whose lines were all executed
+pub counted_end : (end : Result Health Unsent) (old new : FaultCounts) → IfOk end (λ met. CountsFaultOf (met ≡ Failed) old new) → IsOk end
+    → CountsFaultOf (end ≡ Ok Failed) old new
+counted_end (Ok health) old new counts is =
+    counts_told _ _ old new (λ e. let same : ◌≡◌ {A = Result Health Unsent} (Ok health) (Ok Failed) = e in cc) (ap Ok) counts
 counted_end (Err why) old new counts is = absurd (both_ways false refl is)

@@ -3,7 +3,8 @@ use Rattle.std.proofs.Common.{◌≡◌, ℕ, zero, suc, ◌-◌, ◌<◌, ◌�
 use Rattle.std.specs.Prelude.{Option, Some, None}
 use Rattle.std.proofs.lemmas.Bool.{false≢true, lt-ltb, le-ltb}
 use Rattle.std.proofs.lemmas.List.{append-nil}
-use Rattle.fts_faults.specs.Count.{CountsFault, Rose}
+use Rattle.fts_steps.specs.FaultCounts.{FaultCounts, CountsFaultOf}
+use Rattle.fts_steps.proofs.FaultCounts.{counts_calm, counts_behind, counts_told}
 use Rattle.fts_steps.specs.Step.{Answer, full, flushed, all_flushed, measured, disk_fault, stopped, no_memory, to_measure, to_sync, Call, Sight, Steps, AreMade, is_disk_fault}
 use Rattle.fts_top.specs.declared.ends.Health.{Health}
 use Rattle.fts_top.specs.declared.ends.Health.TheVariants.{Sound, Short, Failed}
@@ -14,21 +15,15 @@ use Rattle.fts_top.proofs.Health.{worse_sound, worse_more}
 use Rattle.fts_steps.proofs.Making.{made_keeps, made_append}
 use Rattle.fts_top.proofs.Making.{call_of, one_step}
 
--- two counts that no fault raised
-calm_both : {end : Option Health} (old mid new : ℕ) (first next : Bool) → first ≡ false → next ≡ false → (end ≡ Some Failed → ⊥)
-    → CountsFault (first ≡ true) old mid → CountsFault (next ≡ true) mid new → CountsFault (end ≡ Some Failed) old new
-calm_both old mid new first next one two calm before behind = record {
-  rose = λ is. absurd (calm is);
-  calm = λ is. behind.calm (λ e. false≢true (sym two ∙ e)) ∙ before.calm (λ e. false≢true (sym one ∙ e));
-  never_falls = let a = before.never_falls in let b = behind.never_falls in omega arith;
-}
+-- no fault raised a count, in one step or in two
+calm_one : {end : Option Health} (old new : FaultCounts) (first : Bool) → first ≡ false → (end ≡ Some Failed → ⊥) → CountsFaultOf (first ≡ true) old new
+    → CountsFaultOf (end ≡ Some Failed) old new
+calm_one old new first one calm = counts_told _ _ old new (λ is. absurd (calm is)) (λ e. absurd (false≢true (sym one ∙ e)))
 
-calm_one : {end : Option Health} (old new : ℕ) (first : Bool) → first ≡ false → (end ≡ Some Failed → ⊥) → CountsFault (first ≡ true) old new → CountsFault (end ≡ Some Failed) old new
-calm_one old new first one calm before = record {
-  rose = λ is. absurd (calm is);
-  calm = λ is. before.calm (λ e. false≢true (sym one ∙ e));
-  never_falls = before.never_falls;
-}
+calm_both : {end : Option Health} (old mid new : FaultCounts) (first next : Bool) → first ≡ false → next ≡ false → (end ≡ Some Failed → ⊥)
+    → CountsFaultOf (first ≡ true) old mid → CountsFaultOf (next ≡ true) mid new → CountsFaultOf (end ≡ Some Failed) old new
+calm_both old mid new first next one two calm before behind =
+    counts_behind _ _ old mid new (λ e. false≢true (sym one ∙ e)) before (calm_one mid new next two calm behind)
 
 module _ {S : Type 0} (sight : Sight S) (old mid : S) (size bytes : ℕ) (look : Steps sight to_measure (measured size) old mid)
     (is_limit : bytes ≡ (sight.settings mid).cache_bytes) where
@@ -86,7 +81,7 @@ module _ {S : Type 0} (sight : Sight S) (old mid : S) (size bytes : ℕ) (look :
     -- the last batch, which flushed nothing
     module _ (answer : Answer) (batch : Steps sight to_sync answer mid new) (met : Health) (is_met : health_of_answer answer ≡ met) where
       abbrev as_last : ((most : ℕ) → unless_refused answer (AreBatches (sight.settings old).cache_bytes most) [])
-          → CountsFault (◌≡◌ {A = Option Health} (Some met) (Some Failed)) (sight.faults old) (sight.faults new) → MakesRound sight (Some met) old new
+          → CountsFaultOf (◌≡◌ {A = Option Health} (Some met) (Some Failed)) (sight.faults old) (sight.faults new) → MakesRound sight (Some met) old new
       as_last ended counts = record {
         calls = looked ∷ (made answer batch ∷ []);
         is = (
@@ -126,11 +121,9 @@ module _ {S : Type 0} (sight : Sight S) (old mid : S) (size bytes : ℕ) (look :
 
     -- the index device failed
     pub fails : (faults : ℕ) → Steps sight to_sync (disk_fault faults) mid new → MakesRound sight (Some Failed) old new
-    fails faults batch = as_last (disk_fault faults) batch Failed refl (λ most. refl) (record {
-      rose = λ is. subst (λ (n : ℕ). Rose n (sight.faults new)) (look.keeps.faults.calm (λ e. false≢true e)) (batch.keeps.faults.rose refl);
-      calm = λ no. absurd (no refl);
-      never_falls = let a = look.keeps.faults.never_falls in let b = batch.keeps.faults.never_falls in omega arith;
-    })
+    fails faults batch = as_last (disk_fault faults) batch Failed refl (λ most. refl)
+        (counts_behind _ _ (sight.faults old) (sight.faults mid) (sight.faults new) (λ e. false≢true e) look.keeps.faults
+        (counts_told _ _ (sight.faults mid) (sight.faults new) (λ is. refl) (λ fault. refl) batch.keeps.faults))
 
 -- ---- rounds one after another
 
@@ -179,11 +172,8 @@ module _ {S : Type 0} (sight : Sight S) (most : ℕ) (old : S) where
       are = so_far.leads round.calls (subst (λ (bytes : ℕ). AreBatches bytes (suc left) round.calls) same_limit (round.is.1 left));
       steps = made_append sight so_far.calls round.calls old now new so_far.steps round.steps;
       met_is = met_both met round.calls round.is.0;
-      faults = record {
-        rose = λ is. subst (λ (n : ℕ). Rose n (sight.faults new)) so_far.calm (round.faults.rose (ap Some is));
-        calm = λ no. round.faults.calm (λ is. no (let same : ◌≡◌ {A = Option Health} (Some met) (Some Failed) = is in cc)) ∙ so_far.calm;
-        never_falls = let up = round.faults.never_falls in let same = so_far.calm in omega arith;
-      };
+      faults = subst (λ (counts : FaultCounts). CountsFaultOf (met ≡ Failed) counts (sight.faults new)) so_far.calm
+          (counts_told _ _ (sight.faults now) (sight.faults new) (ap Some) (λ is. let same : ◌≡◌ {A = Option Health} (Some met) (Some Failed) = is in cc) round.faults);
     }
 
   -- there may be no more
@@ -193,7 +183,7 @@ module _ {S : Type 0} (sight : Sight S) (most : ℕ) (old : S) where
     are = subst (AreBatches (sight.settings old).cache_bytes most) (append-nil so_far.calls) (so_far.leads [] refl);
     steps = so_far.steps;
     met_is = so_far.sound;
-    faults = record { rose = λ is. absurd cc; calm = λ no. so_far.calm; never_falls = let same = so_far.calm in omega arith };
+    faults = counts_calm _ _ _ (λ is. cc) so_far.calm;
   }
 
   pub step_more : (left : ℕ) (now new : S) → 0 < left → AreRounds left now → MakesRound sight None now new → AreRounds (left - 1) new

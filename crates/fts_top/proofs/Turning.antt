@@ -1,4 +1,4 @@
-use Rattle.std.proofs.Common.{◌≡◌, ℕ, List, ◌∷◌, [], refl, sym, ◌∙◌, inl, inr, false, append-nil, arith, Some, None}
+use Rattle.std.proofs.Common.{◌≡◌, ℕ, List, ◌∷◌, [], refl, sym, ◌∙◌, inl, inr, false, append-nil, Some, None}
 use Rattle.std.specs.Prelude.{Err}
 use Rattle.fts_io.specs.Text.{Line, whole, too_long}
 use Rattle.fts_sql.specs.Line.{IsBlank}
@@ -6,6 +6,7 @@ use Rattle.fts_schema.specs.declared.reply.Reply.{Reply}
 use Rattle.fts_schema.specs.declared.reply.Reply.TheVariants.{LineTooLong, Nothing, DiskFault}
 use Rattle.fts_schema.specs.Reply.{is_fixed}
 use Rattle.fts_steps.specs.Step.{Sight}
+use Rattle.fts_steps.proofs.FaultCounts.{counts_calm}
 use Rattle.fts_sessions.specs.Transaction.{Transaction}
 use Rattle.fts_sessions.specs.Request.{unread, blank}
 use Rattle.fts_sessions.specs.Execute.{Executes}
@@ -25,7 +26,7 @@ module _ {S : Type 0} (sight : Sight S) where
     calls = [];
     says = says;
     made = refl;
-    faults = record { rose = λ is. absurd (calm is); calm = λ no. refl; never_falls = omega arith };
+    faults = counts_calm _ _ _ calm refl;
   }
 
   -- a line too long has its reply, and counts for session 1
@@ -55,7 +56,7 @@ module _ {S : Type 0} (sight : Sight S) where
     are = refl;
     steps = refl;
     met_is = refl;
-    faults = record { rose = λ is. absurd cc; calm = λ no. refl; never_falls = omega arith };
+    faults = counts_calm _ _ _ (λ is. cc) refl;
   }
 
   -- a line whose reply was not written whole

@@ -1,7 +1,7 @@
 -- Batches that a run makes behind a reply.
 use Rattle.std.specs.Prelude.{◌≡◌, ℕ, suc, List, ◌++◌, Option, Some, None}
-use Rattle.fts_faults.specs.Count.{CountsFault}
 use Rattle.fts_schema.specs.declared.reply.Reply.{Reply}
+use Rattle.fts_steps.specs.FaultCounts.{CountsFaultOf}
 use Rattle.fts_steps.specs.Step.{Call, Sight, AreMade}
 use Rattle.fts_top.specs.declared.ends.Health.{Health}
 use Rattle.fts_top.specs.declared.ends.Health.TheVariants.{Sound, Failed}
@@ -14,7 +14,7 @@ pub record MakesBatches {S : Type 0} (sight : Sight S) (most : ℕ) (met : Healt
   pub are : AreBatches (sight.settings old).cache_bytes most calls
   pub steps : AreMade sight calls old new
   pub met_is : health_of_steps calls ≡ met
-  pub faults : CountsFault (met ≡ Failed) (sight.faults old) (sight.faults new)
+  pub faults : CountsFaultOf (met ≡ Failed) (sight.faults old) (sight.faults new)
 
 -- one batch was made, behind which more may come; or there is no more, and this was met
 abbrev pub IsRound : ℕ → Option Health → List Call → Type 0
@@ -27,7 +27,7 @@ pub record MakesRound {S : Type 0} (sight : Sight S) (end : Option Health) (old 
   pub calls : List Call
   pub is : IsRound (sight.settings old).cache_bytes end calls
   pub steps : AreMade sight calls old new
-  pub faults : CountsFault (end ≡ Some Failed) (sight.faults old) (sight.faults new)
+  pub faults : CountsFaultOf (end ≡ Some Failed) (sight.faults old) (sight.faults new)
 
 -- the batches that follow a reply were made, and this is the worse of what its line met and what they did
 pub record IsMetBehind {S : Type 0} (sight : Sight S) (reply : Reply) (met : Health) (old new : S) : Type 0 where

@@ -1,7 +1,7 @@
 -- What `gen` has done to the sink and the devices.
 use Rattle.std.specs.Prelude.{◌≡◌, ◌⊎◌, ℕ, [], IsTrue, Result, Ok, Err, IsOk}
-use Rattle.fts_faults.specs.Count.{CountsFault}
 use Rattle.fts_types.specs.Limits.{standard_limits}
+use Rattle.fts_steps.specs.FaultCounts.{CountsFaultOf}
 use Rattle.fts_steps.specs.State.{State}
 use Rattle.fts_steps.specs.Running.{opened}
 use Rattle.fts_engine.specs.declared.error.OpenError.{OpenError}
@@ -24,7 +24,7 @@ pub record Generated {D E : Type 0} (disks : Disks D E) (seed statements : ℕ) 
   pub outcome : IsTrue sink.tells → DisksTell disks → (start : State) → DisksHold disks start before
       → Generates (device_sight disks start.settings standard_limits) end statements (opened start)
       (script_of start.settings seed statements) (sides [] sink.held before) (sides [] sink'.held after)
-  pub fault : IsOk end → CountsFault (end ≡ Ok Failed) (disk_faults disks before) (disk_faults disks after)
+  pub fault : IsOk end → CountsFaultOf (end ≡ Ok Failed) (disk_faults disks before) (disk_faults disks after)
 
 -- the status of its end
 abbrev pub status_of_gen : Result Health Unsent → Status

@@ -1,6 +1,7 @@
 use Rattle.std.specs.Prelude.{◌≡◌, ◌⊎◌, ◌≤◌, ◌^◌, Bool, ℕ, List, ◌∷◌, [], ◌++◌, length, take, codes, IsTrue}
 use Rattle.fts_io.specs.Text.{Line, lines_of}
 use Rattle.fts_top.specs.Sessions.{AreOf, IsCrowded}
+use Rattle.fts_steps.specs.FaultCounts.{OneRose, CountsFaultOf}
 use Rattle.fts_steps.specs.State.{State, IsDatabase, IsRight, IsCreated, created_with}
 use Rattle.fts_steps.specs.Running.{opened}
 use Rattle.fts_types.specs.declared.limits.Limits.{Limits}
@@ -85,7 +86,7 @@ pub record Executed {D E : Type 0} (disks : Disks D E) (limits : Limits) (end : 
   pub too_long : (lines bytes : ℕ) → end ≡ run_end.ScriptTooLong lines bytes → IsTrue before.source.tells
       → PassesLimit bytes before.source.left after.source.left
   pub fault : IsRead end
-      → CountsFault (end ≡ run_end.DiskFault) (disk_faults disks before.devices) (disk_faults disks after.devices)
+      → CountsFaultOf (end ≡ run_end.DiskFault) (disk_faults disks before.devices) (disk_faults disks after.devices)
 
 -- why no database was opened
 abbrev pub IsWhy : OpenError → List ℕ → List ℕ → Type 0
@@ -103,7 +104,7 @@ pub record Unopened {D E : Type 0} (disks : Disks D E) (error : OpenError) (unus
   pub rows : IsTrue disks.rows.tells → Looks disks.rows before.rows after.rows
   pub index : IsTrue disks.index.tells → Looks disks.index before.index after.index
   pub why : DisksTell disks → IsWhy error (file_of disks.rows before.rows) (file_of disks.index before.index)
-  pub fault : CountsFault (error ≡ opening.DiskFault) (disk_faults disks before) (disk_faults disks after)
+  pub fault : CountsFaultOf (error ≡ opening.DiskFault) (disk_faults disks before) (disk_faults disks after)
 
 -- how `run` ended
 abbrev pub RunEnds : {D E : Type 0} → Disks D E → Limits → Status → Type 0 → Outside D E → Outside D E → Type 0
@@ -150,7 +151,7 @@ pub record CreateEnds {D E : Type 0} (disks : Disks D E) (result : Status) (sett
   pub end : CreateEnd
   pub told : result ≡ status_of_create end
   pub creates : Creates disks end settings unwritten before.sink after.sink before.devices after.devices
-  pub fault : CountsFault (end ≡ create_end.DiskFault) (disk_faults disks before.devices)
+  pub fault : CountsFaultOf (end ≡ create_end.DiskFault) (disk_faults disks before.devices)
       (disk_faults disks after.devices)
 
 -- a fault of the source and of the sink was counted exactly where it is the status
@@ -162,7 +163,7 @@ pub record CountsFaults {D E : Type 0} (result : Status) (before after : Outside
 pub record NoneRose {D E : Type 0} (disks : Disks D E) (before after : Outside D E) : Type 0 where
   pub read : Rose before.source.faults after.source.faults → ⊥
   pub write : Rose before.sink.faults after.sink.faults → ⊥
-  pub disk : Rose (disk_faults disks before.devices) (disk_faults disks after.devices) → ⊥
+  pub disk : OneRose (disk_faults disks before.devices) (disk_faults disks after.devices) → ⊥
 
 -- all was done, but for want of memory
 abbrev pub Finishes : Status → Type 0

@@ -1,8 +1,9 @@
 //! The lines of a script that is made from a number, and what they come to.
-ghost use Rattle.std.specs.Prelude.{◌≡◌, ◌≤◌, [], length, None, IsTrue, IfOk, IfErr, Ok, Err};
+ghost use Rattle.std.specs.Prelude.{◌≡◌, [], length, None, IsTrue, IfOk, IfErr, Ok, Err};
 ghost use Rattle.fts_faults.specs.Count.{CountsFault};
 ghost use Rattle.fts_gen.specs.Script.{lines_left};
 ghost use Rattle.fts_io.specs.Text.{whole};
+ghost use Rattle.fts_steps.specs.FaultCounts.{NoneFell, CountsFaultOf};
 ghost use Rattle.fts_steps.specs.Running.{Running};
 ghost use Rattle.fts_sessions.specs.Transaction.{FitsTable};
 ghost use Rattle.fts_sessions.specs.Direct.{direct_sight};
@@ -44,9 +45,9 @@ pub fn play<S: EngineSteps, G: Gate>(
 ) -> Result<Played, AllocError>
     ensures plays { (start : Running) → S.sight.stands start steps.old
         → IsPlayed S.sight result start (as_lines (lines_left script.old)) steps.old steps.new }
-    ensures disk { IfOk result (λ played. CountsFault (played.met ≡ Health.Failed)
+    ensures disk { IfOk result (λ played. CountsFaultOf (played.met ≡ Health.Failed)
         (S.sight.faults steps.old) (S.sight.faults steps.new)) }
-    ensures never_falls { S.sight.faults steps.old ≤ S.sight.faults steps.new }
+    ensures never_fall { NoneFell (S.sight.faults steps.old) (S.sight.faults steps.new) }
 {
     let mut session = Session::new(alloc, 1);
     play_in(script, &mut session, steps, gate)
@@ -62,9 +63,9 @@ fn play_in<S: EngineSteps, G: Gate>(
     requires { session.old.transaction ≡ None }
     ensures plays { (start : Running) → S.sight.stands start steps.old
         → IsPlayed S.sight result start (as_lines (lines_left script.old)) steps.old steps.new }
-    ensures disk { IfOk result (λ played. CountsFault (played.met ≡ Health.Failed)
+    ensures disk { IfOk result (λ played. CountsFaultOf (played.met ≡ Health.Failed)
         (S.sight.faults steps.old) (S.sight.faults steps.new)) }
-    ensures never_falls { S.sight.faults steps.old ≤ S.sight.faults steps.new }
+    ensures never_fall { NoneFell (S.sight.faults steps.old) (S.sight.faults steps.new) }
 {
     let mut played = Played {
         met: Health::Sound,
@@ -147,9 +148,9 @@ fn generate<O: Sink, D: Disk, E: Disk, G: Gate>(
         (sides [] (O.holds out.old) steps.old) (sides [] (O.holds out.new) steps.new) }
     ensures write { CountsFault (result ≡ Err Unsent.WriteFault)
         (O.faults out.old) (O.faults out.new) }
-    ensures disk { IfOk result (λ met. CountsFault (met ≡ Health.Failed)
+    ensures disk { IfOk result (λ met. CountsFaultOf (met ≡ Health.Failed)
         (direct_sight.faults steps.old) (direct_sight.faults steps.new)) }
-    ensures never_falls { direct_sight.faults steps.old ≤ direct_sight.faults steps.new }
+    ensures never_fall { NoneFell (direct_sight.faults steps.old) (direct_sight.faults steps.new) }
 {
     let mut lines = match script(alloc, steps.settings(), seed, count) {
         Ok(lines) => lines,

@@ -1,9 +1,10 @@
-ghost use Rattle.std.specs.Prelude.{◌≡◌, ◌⊎◌, ◌+◌, ℕ, map, IfOk, IfErr, Ok};
+ghost use Rattle.std.specs.Prelude.{◌≡◌, ◌⊎◌, ℕ, map, IfOk, IfErr, Ok};
 ghost use Rattle.std.specs.String.{string_bytes};
 ghost use Rattle.fts_faults.specs.Count.{CountsFault};
 ghost use Rattle.fts_types.specs.declared.settings.Settings.{Settings};
 ghost use Rattle.fts_types.specs.Settings.{AreSettings};
 ghost use Rattle.fts_types.specs.Limits.{standard_limits};
+ghost use Rattle.fts_steps.specs.FaultCounts.{CountsFaultOf};
 ghost use Rattle.fts_args.specs.Asked.{AskNothing, Asks};
 ghost use Rattle.fts_args.specs.declared.command.Command.{Command};
 ghost use Rattle.fts_engine.specs.Bounds.{AreWithin};
@@ -75,8 +76,8 @@ fn create<O: Sink, D: Disk, E: Disk>(
         (devices_of rows index) (devices_of result.1 result.2) }
     ensures write { CountsFault (result.0 ≡ CreateEnd.WriteFault)
         (O.faults out.old) (O.faults out.new) }
-    ensures disk { CountsFault (result.0 ≡ CreateEnd.DiskFault)
-        (D.faults rows + E.faults index) (D.faults result.1 + E.faults result.2) }
+    ensures disk { CountsFaultOf (result.0 ≡ CreateEnd.DiskFault)
+        (D.faults rows, E.faults index) (D.faults result.1, E.faults result.2) }
 {
     match create_engine(alloc, settings, rows, index) {
         Ok((rows, index)) => match write_whole(out, created_text().as_bytes()) {

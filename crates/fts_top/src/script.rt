@@ -5,6 +5,7 @@ ghost use Rattle.fts_faults.specs.Count.{CountsFault};
 ghost use Rattle.fts_io.specs.Text.{lines_of};
 ghost use Rattle.fts_io.specs.Reading.{ahead, ended_ahead, given_by, taken_by, work_left};
 ghost use Rattle.fts_schema.specs.Reply.{is_fixed};
+ghost use Rattle.fts_steps.specs.FaultCounts.{NoneFell, CountsFaultOf};
 ghost use Rattle.fts_steps.specs.Running.{Running};
 ghost use Rattle.fts_top.specs.Health.{IsRead};
 ghost use Rattle.fts_top.specs.Kept.{mets, AreKept, AllFit, NextSession};
@@ -40,9 +41,9 @@ pub fn run<I: Source, O: Sink, S: EngineSteps, G: Gate>(
     ensures read { CountsFault (result ≡ RunEnd.ReadFault) (I.faults input.old)
         (I.faults input.new) }
     ensures write { CountsFault (result ≡ RunEnd.WriteFault) (O.faults out.old) (O.faults out.new) }
-    ensures disk { IsRead result → CountsFault (result ≡ RunEnd.DiskFault)
+    ensures disk { IsRead result → CountsFaultOf (result ≡ RunEnd.DiskFault)
         (S.sight.faults steps.old) (S.sight.faults steps.new) }
-    ensures never_falls { S.sight.faults steps.old ≤ S.sight.faults steps.new }
+    ensures never_fall { NoneFell (S.sight.faults steps.old) (S.sight.faults steps.new) }
     ensures too_long { (lines bytes : ℕ) → result ≡ RunEnd.ScriptTooLong lines bytes
         → IsTrue I.tells
         → PassesLimit bytes (I.left input.old) (I.left input.new) }
@@ -109,9 +110,10 @@ fn one_line<I: Source, O: Sink, S: EngineSteps, G: Gate>(
         (I.faults input.old) (I.faults input.new) }
     ensures write { CountsFault (result ≡ Err Halt.WriteFault)
         (O.faults out.old) (O.faults out.new) }
-    ensures disk { (result ≡ Err Halt.WriteFault → ⊥) → CountsFault (result ≡ Ok Health.Failed)
+    ensures disk { (result ≡ Err Halt.WriteFault → ⊥)
+        → CountsFaultOf (result ≡ Ok Health.Failed)
         (S.sight.faults steps.old) (S.sight.faults steps.new) }
-    ensures never_falls { S.sight.faults steps.old ≤ S.sight.faults steps.new }
+    ensures never_fall { NoneFell (S.sight.faults steps.old) (S.sight.faults steps.new) }
     ensures given { IsOk result → given_by lines.new ≡ given_by lines.old + 1 }
     ensures too_long { (number bytes : ℕ) → result ≡ Err (Halt.TooLong number bytes)
         → (number ≡ given_by lines.old) × (bytes ≡ taken_by lines.new) × (2 ^ 40 < bytes) }

@@ -1,4 +1,4 @@
-use Rattle.std.proofs.Common.{◌≡◌, ℕ, ◌+◌, List, refl, inl, inr, ap, sym, subst, ◌∙◌, arith, length}
+use Rattle.std.proofs.Common.{◌≡◌, ℕ, List, refl, inl, inr, ap, sym, subst, ◌∙◌, arith, length}
 use Rattle.std.specs.Prelude.{Ok, Err, IsErrOf}
 use Rattle.fts_log.specs.Log.{StandsFor}
 use Rattle.fts_log.specs.Records.{records_device}
@@ -150,8 +150,8 @@ returns-in-Ok-into_log-2-clause-opened g c told told_index =
 pub returns-in-Err-into_log-clause-faults : goal.returns-in-Err-into_log-clause-faults
 returns-in-Err-into_log-clause-faults g c =
     counts_none (IsErrOf {E = LoadError} (Ok c.in-Ok.kept) DiskFault) (Damaged Rows c.in-Err-into_log.at ≡ DiskFault)
-    (g.D.Disk.faults (records_device c.args.rows) + g.E.Disk.faults (records_device c.args.entries))
-    (g.D.Disk.faults (records_device c.load.new.rows)) (g.E.Disk.faults (records_device c.load.new.entries))
+    (g.D.Disk.faults (records_device c.args.rows)) (g.D.Disk.faults (records_device c.load.new.rows))
+    (g.E.Disk.faults (records_device c.args.entries)) (g.E.Disk.faults (records_device c.load.new.entries))
     (g.D.Disk.faults c.in-Err-into_log.rows) (g.E.Disk.faults c.close-in-Err-into_log.result)
     (ok_no_err {E = LoadError} c.in-Ok.kept DiskFault) (damage_no_fault Rows c.in-Err-into_log.at)
     (ap g.D.Disk.faults c.in-Err-into_log.ensures.device) (ap g.E.Disk.faults c.close-in-Err-into_log.ensures) c.in-Ok.ensures.reads.faults
@@ -159,8 +159,8 @@ returns-in-Err-into_log-clause-faults g c =
 pub returns-in-Err-into_log-2-clause-faults : goal.returns-in-Err-into_log-2-clause-faults
 returns-in-Err-into_log-2-clause-faults g c =
     counts_none (IsErrOf {E = LoadError} (Ok c.in-Ok.kept) DiskFault) (Damaged Index c.in-Err-into_log-2.at ≡ DiskFault)
-    (g.D.Disk.faults (records_device c.args.rows) + g.E.Disk.faults (records_device c.args.entries))
-    (g.D.Disk.faults (records_device c.load.new.rows)) (g.E.Disk.faults (records_device c.load.new.entries))
+    (g.D.Disk.faults (records_device c.args.rows)) (g.D.Disk.faults (records_device c.load.new.rows))
+    (g.E.Disk.faults (records_device c.args.entries)) (g.E.Disk.faults (records_device c.load.new.entries))
     (g.D.Disk.faults c.close-in-Err-into_log-2.result) (g.E.Disk.faults c.in-Err-into_log-2.index)
     (ok_no_err {E = LoadError} c.in-Ok.kept DiskFault) (damage_no_fault Index c.in-Err-into_log-2.at)
     (ap g.D.Disk.faults (c.close-in-Err-into_log-2.ensures ∙ c.in-Ok-into_log.ensures.device)) (ap g.E.Disk.faults c.in-Err-into_log-2.ensures.device) c.in-Ok.ensures.reads.faults

@@ -1,7 +1,7 @@
-use Rattle.std.proofs.Common.{◌≡◌, ◌+◌, [], ℕ, refl, ap, subst, sym, ◌∙◌}
+use Rattle.std.proofs.Common.{◌≡◌, [], refl, ap, subst, sym, ◌∙◌}
 use Rattle.std.specs.Prelude.{Ok}
-use Rattle.fts_faults.specs.Count.{CountsFault}
 use Rattle.fts_types.specs.Limits.{standard_limits}
+use Rattle.fts_steps.specs.FaultCounts.{FaultCounts, CountsFaultOf}
 use Rattle.fts_steps.specs.State.{State}
 use Rattle.fts_steps.specs.Running.{opened}
 use Rattle.fts_engine.specs.Stands.{engine_faults, rows_device, index_device}
@@ -53,10 +53,10 @@ returns-in-Ok-clause-generated g c =
           (sides [] held first) (sides [] held' last)) (sym same) closed';
       fault = λ is.
           let same : disk_faults both last ≡ engine_faults c.generate-end.new.steps.engine =
-          ap (λ (d : _). g.D.Disk.faults d + g.E.Disk.faults c.close-rows.result.1) c.close-rows.ensures.rows
-          ∙ ap (λ (e : _). g.D.Disk.faults (rows_device c.generate-end.new.steps.engine) + g.E.Disk.faults e) c.close-rows.ensures.index in
-          subst (λ (before : ℕ). CountsFault (c.generate-end.result ≡ Ok Failed) before (disk_faults both last)) (c.in-Ok.ensures.faults.calm (λ no. no))
-          (subst (λ (after : ℕ). CountsFault (c.generate-end.result ≡ Ok Failed) (engine_faults c.in-Ok.engine) after) (sym same)
+          ap (λ (d : _). disk_faults both (devices_of d c.close-rows.result.1)) c.close-rows.ensures.rows
+          ∙ ap (λ (e : _). disk_faults both (devices_of (rows_device c.generate-end.new.steps.engine) e)) c.close-rows.ensures.index in
+          subst (λ (before : FaultCounts). CountsFaultOf (c.generate-end.result ≡ Ok Failed) before (disk_faults both last)) (c.in-Ok.ensures.faults.calm (λ no. no))
+          (subst (λ (after : FaultCounts). CountsFaultOf (c.generate-end.result ≡ Ok Failed) (engine_faults c.in-Ok.engine) after) (sym same)
           (counted_end c.generate-end.result _ _ c.generate-end.ensures.disk is));
     }
 

@@ -1,7 +1,8 @@
-use Rattle.std.proofs.Common.{length, List, ℕ, arith, refl, sym, subst}
+use Rattle.std.proofs.Common.{length, List, ℕ, refl, sym, subst}
 use Rattle.fts_io.specs.Text.{whole}
 use Rattle.fts_gen.specs.Script.{lines_left, names_of}
 use Rattle.fts_sessions.specs.Transaction.{Transaction, FitsTable}
+use Rattle.fts_steps.proofs.FaultCounts.{counts_calm}
 use Rattle.fts_top.specs.Generate.{as_lines}
 use Rattle.fts_top.proofs.Playing.{PlayedFar, first_one, starts, plays_on, line_counts}
 use Rattle.fts_top.proofs.generate.play_in.Goals as goal
@@ -10,7 +11,7 @@ pub lines-init : goal.lines-init
 lines-init g c = record {
   far = λ start stands. starts g.S.EngineSteps.sight start (as_lines (lines_left c.args.script.now)) _ c.args.session.now.transaction c.args.steps.now stands refl c.new.ensures c.requires;
   fits = subst (λ (t : Transaction). FitsTable (length (g.S.EngineSteps.sight.settings c.args.steps.now).columns) t) (sym c.requires) tt;
-  counted = record { rose = λ is. absurd cc; calm = λ no. refl; never_falls = omega arith };
+  counted = counts_calm _ _ _ (λ is. cc) refl;
 }
 
 pub lines-preserved : goal.lines-preserved
@@ -42,13 +43,13 @@ returns-in-Ok-None-clause-plays g c = λ start stands.
 pub returns-in-Ok-None-clause-disk : goal.returns-in-Ok-None-clause-disk
 returns-in-Ok-None-clause-disk g c = c.lines.invariant.counted
 
-pub returns-in-Ok-None-clause-never_falls : goal.returns-in-Ok-None-clause-never_falls
-returns-in-Ok-None-clause-never_falls g c = c.lines.invariant.counted.never_falls
+pub returns-in-Ok-None-clause-never_fall : goal.returns-in-Ok-None-clause-never_fall
+returns-in-Ok-None-clause-never_fall g c = c.lines.invariant.counted.never_fall
 
 pub returns-in-Err-clause-plays : goal.returns-in-Err-clause-plays
 returns-in-Err-clause-plays g c = λ start stands.
     let far = c.lines.invariant.far start stands in
     (as_lines (lines_left c.lines.script), record { front = far.front; silent = far.silent })
 
-pub returns-in-Err-clause-never_falls : goal.returns-in-Err-clause-never_falls
-returns-in-Err-clause-never_falls g c = c.lines.invariant.counted.never_falls
+pub returns-in-Err-clause-never_fall : goal.returns-in-Err-clause-never_fall
+returns-in-Err-clause-never_fall g c = c.lines.invariant.counted.never_fall

@@ -10,6 +10,7 @@ use Rattle.fts_engine.specs.Devices.{devices_of, disks_of}
 use Rattle.fts_top.specs.Once.{Creates, Finishes, sink_seen}
 use Rattle.fts_top.specs.Health.{IsRead}
 use Rattle.fts_io.specs.Text.{lines_of}
+use Rattle.fts_steps.proofs.FaultCounts.{counts_calm}
 use Rattle.fts_top.proofs.Counting.{not_crowded}
 use Rattle.fts_top.proofs.Opening.{can_open, run_finishes}
 use Rattle.fts_top.proofs.Asking.{not_asked, is_asked, one_settings}
@@ -65,7 +66,7 @@ returns-in-Err-clause-creates g c settings asks = (
     end = NoMemory;
     told = refl;
     creates = (refl, refl);
-    fault = record { rose = λ is. absurd cc; calm = λ no. refl; never_falls = omega arith };
+    fault = counts_calm _ _ _ (λ is. cc) refl;
   },
 )
 

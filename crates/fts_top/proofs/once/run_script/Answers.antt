@@ -1,6 +1,6 @@
-use Rattle.std.proofs.Common.{◌≡◌, ◌+◌, ℕ, refl, ap, subst, sym, ◌∙◌}
-use Rattle.fts_faults.specs.Count.{CountsFault}
+use Rattle.std.proofs.Common.{◌≡◌, refl, ap, subst, sym, ◌∙◌}
 use Rattle.fts_io.specs.Text.{lines_of}
+use Rattle.fts_steps.specs.FaultCounts.{FaultCounts, CountsFaultOf}
 use Rattle.fts_steps.specs.State.{State}
 use Rattle.fts_steps.specs.Running.{opened}
 use Rattle.fts_engine.specs.Stands.{engine_faults, rows_device, index_device}
@@ -52,10 +52,10 @@ returns-in-Ok-clause-executed g c =
       too_long = c.run-end.ensures.too_long;
       fault = λ read.
           let same : disk_faults both last ≡ engine_faults c.run-end.new.steps.engine =
-          ap (λ (d : _). g.D.Disk.faults d + g.E.Disk.faults c.close-rows.result.1) c.close-rows.ensures.rows
-          ∙ ap (λ (e : _). g.D.Disk.faults (rows_device c.run-end.new.steps.engine) + g.E.Disk.faults e) c.close-rows.ensures.index in
-          subst (λ (before : ℕ). CountsFault (c.run-end.result ≡ DiskFault) before (disk_faults both last)) (c.in-Ok.ensures.faults.calm (λ no. no))
-          (subst (λ (after : ℕ). CountsFault (c.run-end.result ≡ DiskFault) (engine_faults c.in-Ok.engine) after) (sym same) (c.run-end.ensures.disk read));
+          ap (λ (d : _). disk_faults both (devices_of d c.close-rows.result.1)) c.close-rows.ensures.rows
+          ∙ ap (λ (e : _). disk_faults both (devices_of (rows_device c.run-end.new.steps.engine) e)) c.close-rows.ensures.index in
+          subst (λ (before : FaultCounts). CountsFaultOf (c.run-end.result ≡ DiskFault) before (disk_faults both last)) (c.in-Ok.ensures.faults.calm (λ no. no))
+          (subst (λ (after : FaultCounts). CountsFaultOf (c.run-end.result ≡ DiskFault) (engine_faults c.in-Ok.engine) after) (sym same) (c.run-end.ensures.disk read));
     }
 
 pub returns-in-Err-clause-unopened : goal.returns-in-Err-clause-unopened

@@ -9,7 +9,8 @@ use Rattle.fts_top.specs.Sessions.{numbers_of}
 use Rattle.fts_top.proofs.Meeting.{met_more, crowded_at}
 use Rattle.fts_top.proofs.Keeping.{kept_few}
 use Rattle.fts_top.proofs.Fronts.{nothing_yet, again, goes_on, ends}
-use Rattle.fts_faults.specs.Count.{CountsFault}
+use Rattle.fts_steps.specs.FaultCounts.{CountsFaultOf}
+use Rattle.fts_steps.proofs.FaultCounts.{counts_calm}
 use Rattle.fts_top.specs.declared.ends.Health.{Health}
 use Rattle.fts_top.specs.declared.ends.Health.TheVariants.{Failed}
 use Rattle.fts_top.proofs.Health.{counted_more, counted_line}
@@ -60,7 +61,7 @@ lines-init g c = record {
   counts = λ tells. omega (arith, c.in-Ok.ensures.taken);
   input_calm = refl;
   out_calm = refl;
-  steps_counted = record { rose = λ is. absurd cc; calm = λ no. refl; never_falls = omega arith };
+  steps_counted = counts_calm _ _ _ (λ is. cc) refl;
 }
 
 pub lines-preserved : goal.lines-preserved
@@ -88,7 +89,7 @@ lines-preserved g c = record {
       let old = sight.faults c.args.steps.now in
       let mid = sight.faults c.lines.steps in
       let new = sight.faults c.one_line.new.steps in
-      subst (λ (h : Health). CountsFault (h ≡ Failed) old new) (sym c.worse-met.ensures)
+      subst (λ (h : Health). CountsFaultOf (h ≡ Failed) old new) (sym c.worse-met.ensures)
       (counted_more c.lines.met c.in-Ok-one_line.now old mid new c.lines.invariant.steps_counted
       (counted_line c.in-Ok-one_line.now mid new (c.in-Ok-one_line.ensures.disk (λ e. cc))));
 }

@@ -1,5 +1,5 @@
 use Rattle.std.proofs.Common.{◌≡◌, ◌+◌, IsTrue, length}
-use Rattle.fts_faults.specs.Count.{CountsFault}
+use Rattle.fts_steps.specs.FaultCounts.{CountsFaultOf}
 use Rattle.fts_io.specs.Text.{lines_of}
 use Rattle.fts_io.specs.Reading.{ahead, ended_ahead, given_by, taken_by, work_left}
 use Rattle.fts_steps.specs.Running.{Running}
@@ -23,7 +23,7 @@ invariant-lines g l = record {
   counts : IsTrue g.I.Source.tells → taken_by l.lines + length (g.I.Source.left l.input) ≡ length (g.I.Source.left l.initial.input);
   input_calm : g.I.Source.faults l.input ≡ g.I.Source.faults l.initial.input;
   out_calm : g.O.Sink.faults l.out ≡ g.O.Sink.faults l.initial.out;
-  steps_counted : CountsFault (l.met ≡ Failed) (g.S.EngineSteps.sight.faults l.initial.steps) (g.S.EngineSteps.sight.faults l.steps);
+  steps_counted : CountsFaultOf (l.met ≡ Failed) (g.S.EngineSteps.sight.faults l.initial.steps) (g.S.EngineSteps.sight.faults l.steps);
 }
 
 abbrev pub decreases-lines : goal.decreases-lines
