@@ -20,6 +20,7 @@ use Rattle.fts_log.specs.Crash.{IsBeforeOrAfter}
 use Rattle.fts_log.specs.Log as log
 use Rattle.fts_log.specs.Log.{StandsFor, device_of, magic_of, limit_of, count_of, end_of}
 use Rattle.fts_log.specs.Frame.{payload_of}
+use Rattle.fts_engine.specs.Unframed.{end_behind}
 use Rattle.fts_log.specs.declared.frame.Framed.{Framed}
 use Rattle.fts_log.specs.declared.log.Log.{Log}
 use Rattle.fts_log.proofs.Bytes.{length-front-push}
@@ -98,6 +99,10 @@ module _ {D : Type 0} {disk : Ghosts D} (magic : List ℕ) (entries : List (List
       begins = begins ∙ keeps.begins;
       limited = limited ∙ keeps.limited;
     }
+
+  -- the end behind a payload that was not framed is that of the entries and one more
+  pub same_behind : (payload : List ℕ) → end_behind old (length payload) ≡ log_end magic (entries ++ payload ∷ [])
+  same_behind payload = let ended = keeps.«end» in let pushed = length-front-push magic entries payload in omega (arith, ended, pushed)
 
   -- it has the entries that it had
   pub as_before : (new : Log D disk) → magic_of new ≡ magic_of old → limit_of new ≡ limit_of old → count_of new ≡ count_of old → end_of new ≡ end_of old

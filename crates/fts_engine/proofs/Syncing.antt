@@ -22,7 +22,7 @@ use Rattle.fts_entries.specs.Rows.{CanIndex}
 use Rattle.fts_entries.proofs.Next.{one_next}
 use Rattle.fts_entries.proofs.Alive.{alive_ascend}
 use Rattle.fts_entries.proofs.BatchRows.{alive_rows}
-use Rattle.fts_ixcodec.specs.Payload.{entry_payload, IsEntry, HasSize}
+use Rattle.fts_ixcodec.specs.Payload.{entry_payload, IsEntry, HasSize, HasNoSize}
 use Rattle.fts_index.specs.declared.sync.SyncPlan.{SyncPlan}
 use Rattle.fts_steps.specs.State.{State, turns_of, index_state, index_magic, index_payloads, index_end_after, with_entries, HasEntries}
 use Rattle.fts_steps.specs.Running.{Running, batched, with_what, next_index, next_flushed, next_batch}
@@ -82,6 +82,9 @@ same_entry plan through synced nodes is is' is'' =
 
 pub own_size : (plan : SyncPlan) (nodes : Batch) (size : ℕ) → nodes ≡ plan.nodes.items → HasSize (sealed plan.through plan.synced nodes) size → HasSize (batch_of plan) size
 own_size plan nodes size same has = subst (λ (b : Batch). HasSize (sealed plan.through plan.synced b) size) same has
+
+pub own_no_size : (plan : SyncPlan) (nodes : Batch) → nodes ≡ plan.nodes.items → HasNoSize (sealed plan.through plan.synced nodes) → HasNoSize (batch_of plan)
+own_no_size plan nodes same none = subst (λ (b : Batch). HasNoSize (sealed plan.through plan.synced b)) same none
 
 -- ---- what it leaves
 

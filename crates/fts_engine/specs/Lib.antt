@@ -3,6 +3,7 @@ pub mod Indexed
 pub mod Next
 pub mod Kept
 pub mod Batch
+pub mod Unframed
 pub mod Bounds
 pub mod Refusing
 pub mod Stands

@@ -12,17 +12,19 @@ ghost use Rattle.fts_steps.specs.Step.{to_commit, to_sync, to_view, to_list};
 ghost use Rattle.fts_steps.specs.Step.{to_measure, measured, writes};
 ghost use Rattle.fts_ixcodec.specs.Payload.{entry_payload, FitsRecord};
 ghost use Rattle.fts_engine.specs.Batch.{batch_of, IsFramed};
+ghost use Rattle.fts_engine.specs.Unframed.{IsUnframed, IsUnframedEntry};
 ghost use Rattle.fts_steps.specs.Step.{is_disk_fault, Steps};
 ghost use Rattle.fts_steps.specs.Answers.{commit_answer_of, sync_answer_of, view_answer_of};
 ghost use Rattle.fts_steps.specs.Answers.{listing_answer_of};
 
 use crate::kept::Kept;
+use crate::room::{FrameError, room_for};
 use fts_commits::Change;
 use fts_disk::Disk;
 use fts_index::SyncPlan;
 use fts_ixcodec::{encode_sealed_into, sealed_size};
 use fts_listing::{ListingKind, NumberedListing};
-use fts_log::{AROUND_PAYLOAD, AppendError, BEFORE_PAYLOAD, Framed, Log};
+use fts_log::{AppendError, BEFORE_PAYLOAD, Framed, Log};
 use fts_query::{Leaf, View};
 use fts_rowcodec::{commit_size, encode_commit_into};
 use fts_rows::PlanError;
@@ -84,9 +86,10 @@ impl<D: Disk, E: Disk> Engine<D, E> {
             Ok(next) => next,
             Err(error) => return Err(refusal_of(error)),
         };
-        let framed = match framed_commit(self.alloc, changes) {
+        let framed = match framed_commit(self.alloc, &self.rows, changes) {
             Ok(framed) => framed,
-            Err(AllocError) => return Err(CommitError::NoMemory),
+            Err(FrameError::NoMemory) => return Err(CommitError::NoMemory),
+            Err(FrameError::TooLong { end }) => return Err(CommitError::LogFull { end }),
         };
         match self.rows.append(&framed) {
             Ok(number) => {
@@ -135,7 +138,7 @@ impl<D: Disk, E: Disk> Engine<D, E> {
     ///
     /// After each of them the engine keeps what it kept.
     ///
-    /// - `NoMemory` if memory ran out, for a batch of 4 GiB too. The logs are untouched.
+    /// - `NoMemory` if memory ran out. The logs are untouched.
     /// - `Stopped` exactly where an earlier step answered `DiskFault`, with the sum of the counts
     ///   of faults at that answer. The logs are untouched.
     /// - `LogFull` exactly where the index log would end above its limit. The logs are untouched.
@@ -160,9 +163,10 @@ impl<D: Disk, E: Disk> Engine<D, E> {
             Ok(None) => return Ok(SyncBatch::Nothing { commits }),
             Err(AllocError) => return Err(IndexError::NoMemory),
         };
-        let framed = match framed_batch(self.alloc, &plan) {
+        let framed = match framed_batch(self.alloc, &self.index, &plan) {
             Ok(framed) => framed,
-            Err(AllocError) => return Err(IndexError::NoMemory),
+            Err(FrameError::NoMemory) => return Err(IndexError::NoMemory),
+            Err(FrameError::TooLong { end }) => return Err(IndexError::LogFull { end }),
         };
         match self.index.append(&framed) {
             Ok(_) => {
@@ -278,24 +282,36 @@ fn refusal_of(error: PlanError) -> CommitError
 }
 
 // A commit, framed for the log.
-fn framed_commit(alloc: Global, changes: &[Change]) -> Result<Framed, AllocError>
+fn framed_commit<D: Disk>(
+    alloc: Global,
+    log: &Log<D>,
+    changes: &[Change],
+) -> Result<Framed, FrameError>
     requires { (columns : ℕ) × (columns ≤ 8) × IsWritten columns changes.now }
-    ensures { IfOk result (λ framed. payload_of framed ≡ commit_payload changes.now) }
+    ensures framed { IfOk result (λ framed. payload_of framed ≡ commit_payload changes.now) }
+    ensures unframed { IfErr result (IsUnframed log.now (length (commit_payload changes.now))) }
 {
-    let mut bytes = vec![in alloc; 0; commit_size(changes) + AROUND_PAYLOAD]?;
+    let mut bytes = match room_for(alloc, log, commit_size(changes) as u64) {
+        Ok(bytes) => bytes,
+        Err(error) => return Err(error),
+    };
     put_commit(&mut bytes, changes);
     Ok(Framed::around(bytes))
 }
 
 // A batch, framed for the log.
-fn framed_batch(alloc: Global, plan: &SyncPlan) -> Result<Framed, AllocError>
-    ensures { IfOk result (λ framed. IsFramed plan.now (payload_of framed)) }
+fn framed_batch<D: Disk>(alloc: Global, log: &Log<D>, plan: &SyncPlan) -> Result<Framed, FrameError>
+    ensures framed { IfOk result (λ framed. IsFramed plan.now (payload_of framed)) }
+    ensures unframed { IfErr result (IsUnframedEntry log.now (batch_of plan.now)) }
 {
     let size = match sealed_size(plan.nodes()) {
         Some(size) => size,
-        None => return Err(AllocError),
+        None => return Err(FrameError::NoMemory),
     };
-    let mut bytes = vec![in alloc; 0; size + AROUND_PAYLOAD]?;
+    let mut bytes = match room_for(alloc, log, size) {
+        Ok(bytes) => bytes,
+        Err(error) => return Err(error),
+    };
     put_batch(&mut bytes, plan);
     Ok(Framed::around(bytes))
 }

@@ -25,6 +25,7 @@ mod looking;
 mod open;
 mod optimize;
 mod restoring;
+mod room;
 
 pub use create::{CreateError, INDEX_MAGIC, LARGEST_LOG, ROWS_MAGIC, create_engine};
 pub use engine::Engine;

@@ -1,20 +1,23 @@
 //! The steps of OPTIMIZE.
-ghost use Rattle.std.specs.Prelude.{◌≡◌, ◌≤◌, false, length, Ok, IfOk, IfSome, IsTrue};
+ghost use Rattle.std.specs.Prelude.{◌≡◌, ◌≤◌, false, length, Ok, IsTrue};
+ghost use Rattle.std.specs.Prelude.{IfOk, IfErr, IfSome, IfNone};
 ghost use Rattle.fts_codec.specs.Writing.{Puts};
 ghost use Rattle.fts_log.specs.Frame.{payload_of};
 ghost use Rattle.fts_log.specs.Framing.{inner};
 ghost use Rattle.fts_log.specs.Log.{framed_size};
-ghost use Rattle.fts_ixcodec.specs.Payload.{entry_payload, FitsRecord, HasSize};
+ghost use Rattle.fts_ixcodec.specs.Payload.{entry_payload, FitsRecord, HasSize, HasNoSize};
 ghost use Rattle.fts_index.specs.Passing.{step_entry};
 ghost use Rattle.fts_steps.specs.Step.{step_of, to_optimize, is_disk_fault, writes, Steps};
 ghost use Rattle.fts_steps.specs.Answers.{optimize_answer_of};
 ghost use Rattle.fts_engine.specs.Batch.{IsFramedStep};
+ghost use Rattle.fts_engine.specs.Unframed.{IsUnframedEntry};
 
 use crate::Engine;
+use crate::room::{FrameError, room_for};
 use fts_disk::Disk;
 use fts_index::PassPlan;
 use fts_ixcodec::{encode_begun_into, encode_finished_into, encode_worked_into, worked_size};
-use fts_log::{AROUND_PAYLOAD, AppendError, BEFORE_PAYLOAD, Framed};
+use fts_log::{AppendError, BEFORE_PAYLOAD, Framed, Log};
 use fts_steps::{IndexError, OptimizeStep};
 use std::alloc::{AllocError, Global};
 
@@ -29,9 +32,11 @@ fn step_of(plan: &PassPlan) -> OptimizeStep
     }
 }
 
-// How many bytes the payload of a step has, where a record of the log can hold it.
-fn step_size(plan: &PassPlan) -> Option<usize>
-    ensures { IfSome result (HasSize (step_entry plan.now)) }
+// How many bytes the payload of a step has. `None` exactly where its word has more than 255 bytes,
+// or where a `u64` can't hold the count.
+fn step_size(plan: &PassPlan) -> Option<u64>
+    ensures some { IfSome result (HasSize (step_entry plan.now)) }
+    ensures none { IfNone result (HasNoSize (step_entry plan.now)) }
 {
     match plan {
         PassPlan::Begin => Some(1),
@@ -66,14 +71,18 @@ fn put_step(frame: &mut [u8], plan: &PassPlan)
 }
 
 // A step of OPTIMIZE, framed for the log.
-fn framed_step(alloc: Global, plan: &PassPlan) -> Result<Framed, AllocError>
-    ensures { IfOk result (λ framed. IsFramedStep plan.now (payload_of framed)) }
+fn framed_step<D: Disk>(alloc: Global, log: &Log<D>, plan: &PassPlan) -> Result<Framed, FrameError>
+    ensures framed { IfOk result (λ framed. IsFramedStep plan.now (payload_of framed)) }
+    ensures unframed { IfErr result (IsUnframedEntry log.now (step_entry plan.now)) }
 {
     let size = match step_size(plan) {
         Some(size) => size,
-        None => return Err(AllocError),
+        None => return Err(FrameError::NoMemory),
     };
-    let mut bytes = vec![in alloc; 0; size + AROUND_PAYLOAD]?;
+    let mut bytes = match room_for(alloc, log, size) {
+        Ok(bytes) => bytes,
+        Err(error) => return Err(error),
+    };
     put_step(&mut bytes, plan);
     Ok(Framed::around(bytes))
 }
@@ -113,9 +122,10 @@ impl<D: Disk, E: Disk> Engine<D, E> {
             Ok(None) => return Ok(OptimizeStep::Nothing),
             Err(AllocError) => return Err(IndexError::NoMemory),
         };
-        let framed = match framed_step(self.alloc, &plan) {
+        let framed = match framed_step(self.alloc, &self.index, &plan) {
             Ok(framed) => framed,
-            Err(AllocError) => return Err(IndexError::NoMemory),
+            Err(FrameError::NoMemory) => return Err(IndexError::NoMemory),
+            Err(FrameError::TooLong { end }) => return Err(IndexError::LogFull { end }),
         };
         match self.index.append(&framed) {
             Ok(_) => {

@@ -15,7 +15,7 @@ use Rattle.fts_ilist.specs.Spelling.{list_bytes}
 use Rattle.fts_ilist.specs.Node.{Docs}
 use Rattle.std.proofs.lemmas.List.Sums.{sum_by-cons, sum_by-append}
 use Rattle.fts_codec.proofs.Puts.{pieces_within, front_within}
-use Rattle.fts_ixcodec.specs.Payload.{word_payload, list_payload, node_payload, nodes_payload, node_count, HasShortWord, FitsRecord, HasSize}
+use Rattle.fts_ixcodec.specs.Payload.{word_payload, list_payload, node_payload, nodes_payload, node_count, HasShortWord, HasSize, HasNoSize}
 use Rattle.fts_ixcodec.specs.Measure.{IsSum}
 
 -- how long a list with its length is
@@ -85,14 +85,14 @@ pub record IsSumming (all rest : List Docs) (start size : ℕ) : Type 0 where
   pub sum : IsSum start (flat passes.done) size
 
 module _ (all rest next : List Docs) (docs : Docs) (step : rest ≡ docs ∷ next) (start size : ℕ) (s : IsSumming all rest start size) where
-  pub summed_on : (sum : ℕ) → sum ≡ size + (4 + length (list_bytes docs)) → sum < 2 ^ 32 → IsSumming all next start sum
-  summed_on sum is short = record {
+  pub summed_on : (sum : ℕ) → sum ≡ size + (4 + length (list_bytes docs)) → IsSumming all next start sum
+  summed_on sum is = record {
     passes = passes_on all rest next docs step s.passes;
-    sum = (omega (arith, is, s.sum.0, list_length docs, ap length (one_more all rest next docs step s.passes), length-append (flat s.passes.done) (list_payload docs)), short);
+    sum = omega (arith, is, s.sum, list_length docs, ap length (one_more all rest next docs step s.passes), length-append (flat s.passes.done) (list_payload docs));
   }
 
-  pub sum_too_long : 2 ^ 32 ≤ size + (4 + length (list_bytes docs)) → 2 ^ 32 ≤ start + length (flat all)
-  sum_too_long long = omega (arith, long, s.sum.0, list_length docs, within all rest next docs step s.passes)
+  pub sum_too_long : 2 ^ 64 ≤ size + (4 + length (list_bytes docs)) → 2 ^ 64 ≤ start + length (flat all)
+  sum_too_long long = omega (arith, long, s.sum, list_length docs, within all rest next docs step s.passes)
 
 -- ---- sums of the pieces of a list
 
@@ -100,8 +100,8 @@ module _ {X : Type 0} (f : X → List ℕ) (xs : List X) (i : ℕ) (d : X) (less
   pub flat_more : flat_map f (take (i + 1) xs) ≡ flat_map f (take i xs) ++ f (get_or xs i d)
   flat_more = ap (flat_map f) (take_more xs i d less) ∙ flat_map-append f (take i xs) (get_or xs i d ∷ []) ∙ ap (λ (y : List ℕ). flat_map f (take i xs) ++ y) (append-nil (f (get_or xs i d)))
 
-  pub sum_more : (start size sum : ℕ) → IsSum start (flat_map f (take i xs)) size → sum ≡ size + length (f (get_or xs i d)) → sum < 2 ^ 32 → IsSum start (flat_map f (take (i + 1) xs)) sum
-  sum_more start size sum so_far is short = (omega (arith, so_far.0, is, ap length flat_more, length-append (flat_map f (take i xs)) (f (get_or xs i d))), short)
+  pub sum_more : (start size sum : ℕ) → IsSum start (flat_map f (take i xs)) size → sum ≡ size + length (f (get_or xs i d)) → IsSum start (flat_map f (take (i + 1) xs)) sum
+  sum_more start size sum so_far is = omega (arith, so_far, is, ap length flat_more, length-append (flat_map f (take i xs)) (f (get_or xs i d)))
 
 -- how long a node with its word is
 pub node_length : (word : List ℕ) (docs : Docs) → length (node_payload word docs) ≡ 5 + length word + length (list_bytes docs)
@@ -119,11 +119,11 @@ module _ (word : List ℕ) (nodes items : List Docs) (i : ℕ) (node d : Docs) (
   long_is : beside + length list ≡ length (node_payload word (get_or nodes i d))
   long_is = omega (arith, beside_is, ap length spelled, ap (λ (n : Docs). length (list_bytes n)) node_is, node_length word (get_or nodes i d))
 
-  pub nodes_too_long : 2 ^ 32 ≤ size + (beside + length list) → 2 ^ 32 ≤ start + length (flat_map (node_payload word) nodes)
-  nodes_too_long long = omega (arith, long, long_is, so_far.0, pieces_within (node_payload word) nodes i d less_here)
+  pub nodes_too_long : 2 ^ 64 ≤ size + (beside + length list) → 2 ^ 64 ≤ start + length (flat_map (node_payload word) nodes)
+  nodes_too_long long = omega (arith, long, long_is, so_far, pieces_within (node_payload word) nodes i d less_here)
 
-  pub nodes_summed : (sum : ℕ) → sum ≡ size + (beside + length list) → sum < 2 ^ 32 → IsSum start (flat_map (node_payload word) (take (i + 1) nodes)) sum
-  nodes_summed sum is short = sum_more (node_payload word) nodes i d less_here start size sum so_far (is ∙ ap (λ (n : ℕ). size + n) long_is) short
+  pub nodes_summed : (sum : ℕ) → sum ≡ size + (beside + length list) → IsSum start (flat_map (node_payload word) (take (i + 1) nodes)) sum
+  nodes_summed sum is = sum_more (node_payload word) nodes i d less_here start size sum so_far (is ∙ ap (λ (n : ℕ). size + n) long_is)
 
 -- ---- how many nodes
 
@@ -180,12 +180,12 @@ pub record AreSized (batch : List Group) (i size : ℕ) : Type 0 where
 module _ (batch : List Group) (i size : ℕ) (d g : Group) (less : i < length batch) (at : g ≡ get_or batch i d) where
   pub sized_on : (sum : ℕ) → AreSized batch i size → HasShortWord g → IsSum size (nodes_payload g) sum → AreSized batch (i + 1) sum
   sized_on sum so_far word more = record {
-    sum = sum_more nodes_payload batch i d less 21 size sum so_far.sum (more.0 ∙ ap (λ (x : Group). size + length (nodes_payload x)) at) more.1;
+    sum = sum_more nodes_payload batch i d less 21 size sum so_far.sum (more ∙ ap (λ (x : Group). size + length (nodes_payload x)) at);
     words = words_on batch i d g less at so_far.words word;
   }
 
-  pub batch_too_long : IsSum 21 (flat_map nodes_payload (take i batch)) size → 2 ^ 32 ≤ size + length (nodes_payload g) → 2 ^ 32 ≤ 21 + length (flat_map nodes_payload batch)
-  batch_too_long so_far long = omega (arith, long, ap (λ (x : Group). length (nodes_payload x)) at, so_far.0, pieces_within nodes_payload batch i d less)
+  pub batch_too_long : IsSum 21 (flat_map nodes_payload (take i batch)) size → 2 ^ 64 ≤ size + length (nodes_payload g) → 2 ^ 64 ≤ 21 + length (flat_map nodes_payload batch)
+  batch_too_long so_far long = omega (arith, long, ap (λ (x : Group). length (nodes_payload x)) at, so_far, pieces_within nodes_payload batch i d less)
 
   pub word_is_short : All HasShortWord batch → HasShortWord g
   word_is_short words = subst HasShortWord (sym at) (words i d less)
@@ -207,9 +207,9 @@ module _ (o : Option ℕ) (batch : List Group) (through synced : ℕ) (entry : I
       here (Some size) h = h through synced
       here None h = tt
 
-  pub size_none : IfNone o ((t : ℕ) → (s : ℕ) → FitsRecord (sealed t s batch) → ⊥) → IfNone o (FitsRecord entry → ⊥)
-  size_none h = subst (λ (e : IndexEntry). IfNone o (FitsRecord e → ⊥)) (sym is) (here o h)
+  pub size_none : IfNone o ((t : ℕ) → (s : ℕ) → HasNoSize (sealed t s batch)) → IfNone o (HasNoSize entry)
+  size_none h = subst (λ (e : IndexEntry). IfNone o (HasNoSize e)) (sym is) (here o h)
     where
-      here : (o : Option ℕ) → IfNone o ((t : ℕ) → (s : ℕ) → FitsRecord (sealed t s batch) → ⊥) → IfNone o (FitsRecord (sealed through synced batch) → ⊥)
+      here : (o : Option ℕ) → IfNone o ((t : ℕ) → (s : ℕ) → HasNoSize (sealed t s batch)) → IfNone o (HasNoSize (sealed through synced batch))
       here (Some size) h = tt
       here None h = h through synced

@@ -121,7 +121,11 @@ pub record FitsRecord (entry : IndexEntry) : Type 0 where
   pub words : HaveShortWords entry
   pub short : length (entry_payload entry) < 2 ^ 32
 
--- such an entry, and how many bytes its payload has
+-- the payload of an entry has so many bytes, and those of its words fit one byte each
 pub record HasSize (entry : IndexEntry) (size : ℕ) : Type 0 where
-  pub fits : FitsRecord entry
+  pub words : HaveShortWords entry
   pub is : size ≡ length (entry_payload entry)
+
+-- an entry without a payload, or one with more bytes than eight bytes can count
+abbrev pub HasNoSize : IndexEntry → Type 0
+HasNoSize entry = HaveShortWords entry → 2 ^ 64 ≤ length (entry_payload entry)

@@ -27,8 +27,7 @@ fn put_marks(buf: &mut [u8], through: u64, synced: DocId, count: u32) -> usize
 
 /// Writes the payload of a batch at the head of a buffer: through which commit and up to which id
 /// it flushes, and its nodes. It returns how many bytes that are, and takes no memory. The batch
-/// can be written, and needs so many bytes, where `sealed_size(nodes)` gives their count: that is
-/// `None` where the payload has 2^32 bytes or more, or one of the words has more than 255.
+/// can be written, and needs so many bytes, where `sealed_size(nodes)` gives a count below 2^32.
 pub fn encode_sealed_into(through: u64, synced: DocId, nodes: &[WordNodes], buf: &mut [u8]) -> usize
     requires fits { FitsRecord (sealed through synced nodes.now) }
     requires room { length (entry_payload (sealed through synced nodes.now)) ≤ length buf.old }
@@ -99,7 +98,7 @@ fn put_entry(buf: &mut [u8], entry: &Entry) -> usize
     }
 }
 
-/// The payload of an entry that a record of the log can hold, as `entry_size` tells.
+/// The payload of an entry that a record of the log can hold: `entry_size` is below 2^32.
 pub fn encode(alloc: Global, entry: &Entry) -> Result<Vec<u8>, AllocError>
     requires { FitsRecord (seen entry.now) }
     ensures { IfOk result (λ bytes. bytes.items ≡ entry_payload (seen entry.now)) }
@@ -108,7 +107,7 @@ pub fn encode(alloc: Global, entry: &Entry) -> Result<Vec<u8>, AllocError>
         Some(size) => size,
         None => unreachable!(),
     };
-    let mut bytes = vec![in alloc; 0; size]?;
+    let mut bytes = vec![in alloc; 0; size as usize]?;
     put_entry(&mut bytes, entry);
     Ok(bytes)
 }

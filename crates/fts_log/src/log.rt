@@ -138,6 +138,14 @@ impl<D: Disk> Log<D> {
         self.end
     }
 
+    /// The largest end that the log may have, in bytes.
+    pub fn limit(&self) -> u64
+        ensures limit { result ≡ limit_of self.now }
+        ensures most { result ≤ 2 ^ 32 }
+    {
+        self.limit
+    }
+
     /// The device's count of faults.
     pub fn faults(&self) -> u64
         ensures { result ≡ D.faults (device_of self.now) }

@@ -44,7 +44,7 @@ fn settings(alloc: Global, min: u8, max: u8) -> Settings {
 
 // Whether an entry is encoded as these bytes.
 fn is_spelled(alloc: Global, entry: &Entry, bytes: &[u8]) -> Result<bool, AllocError> {
-    if entry_size(entry) != Some(bytes.len()) {
+    if entry_size(entry) != Some(bytes.len() as u64) {
         return Ok(false);
     }
     Ok(encode(alloc, entry)?.as_slice() == bytes)
@@ -415,7 +415,7 @@ fn a_batch_is_written_at_the_head_of_a_buffer(rt: HostRuntime) -> Result<(), Fai
 }
 
 // Whether a batch of one word has this size.
-fn has_size(alloc: Global, word: &[u8], size: Option<usize>) -> Result<bool, AllocError> {
+fn has_size(alloc: Global, word: &[u8], size: Option<u64>) -> Result<bool, AllocError> {
     let nodes = one_word(alloc, word)?;
     Ok(sealed_size(&nodes) == size)
 }

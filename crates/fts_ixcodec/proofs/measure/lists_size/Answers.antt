@@ -6,7 +6,7 @@ pub loop-node-init : goal.loop-node-init
 loop-node-init c = record {
   can_next = tt;
   is_finite = tt;
-  summing = record { passes = record { done = []; parts = c.into_iter-node-iterator.ensures.into_iter_gives }; sum = (omega arith, c.requires) };
+  summing = record { passes = record { done = []; parts = c.into_iter-node-iterator.ensures.into_iter_gives }; sum = omega arith };
 }
 
 pub loop-node-preserved : goal.loop-node-preserved
@@ -16,7 +16,7 @@ loop-node-preserved c =
       can_next = tt;
       is_finite = tt;
       summing = summed_on c.args.nodes c.loop-node.node-iterator c.next.new.self c.in-Some.node c.in-Some.ensures.steps c.args.start c.loop-node.size c.loop-node.invariant.summing
-          c.in-Some-add_size.sum (omega (arith, c.in-Some-add_size.ensures.some.0, long)) c.in-Some-add_size.ensures.some.1;
+          c.in-Some-add_size.sum (omega (arith, c.in-Some-add_size.ensures.some, long));
     }
 
 pub returns-in-None-add_size-clause-none : goal.returns-in-None-add_size-clause-none

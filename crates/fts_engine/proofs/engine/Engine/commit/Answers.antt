@@ -1,4 +1,4 @@
-use Rattle.std.proofs.Common.{ℕ, List, [], ◌∷◌, ◌++◌, sym, ap, subst, ◌∙◌, refl, arith}
+use Rattle.std.proofs.Common.{ℕ, length, List, [], ◌∷◌, ◌++◌, sym, ap, subst, ◌∙◌, refl, arith}
 use Rattle.std.specs.Prelude.{Err, Ok, Some}
 use Rattle.fts_disk.specs.Moments.{LeavesOnly}
 use Rattle.fts_disk.proofs.Runs.{leaves_weaker}
@@ -15,7 +15,8 @@ use Rattle.fts_steps.specs.Crash.{MayHold}
 use Rattle.fts_engine.specs.Stands.{engine_limits}
 use Rattle.fts_engine.specs.Kept.{kept_rows}
 use Rattle.fts_engine.proofs.Fitting.{accepted_fits}
-use Rattle.fts_engine.proofs.Committing.{is_full, is_committed, numbered, same_end, not_past, as_before, same_rows, keeps_after, keeps_with, logged_after, holds_either, refusal_adds, refusal_calm, refusal_answers}
+use Rattle.fts_engine.proofs.Committing.{is_full, is_committed, numbered, same_end, same_behind, not_past, as_before, same_rows, keeps_after, keeps_with, logged_after, holds_either, refusal_adds, refusal_calm, refusal_answers}
+use Rattle.fts_engine.proofs.Framing.{too_long}
 use Rattle.fts_engine.proofs.Steps.{refuses, commits, fails, is_stopped, can_still}
 use Rattle.fts_engine.proofs.engine.Engine.commit.Goals as goal
 
@@ -41,9 +42,23 @@ framed_commit-requires g c = (
       c.requires c.in-Ok.ensures.planned.1,
 )
 
-pub returns-in-Err-framed_commit-clause-steps : goal.returns-in-Err-framed_commit-clause-steps
-returns-in-Err-framed_commit-clause-steps g c =
+pub returns-in-Err-NoMemory-clause-steps : goal.returns-in-Err-NoMemory-clause-steps
+returns-in-Err-NoMemory-clause-steps g c =
     refuses c.args.self.now _ c.in-Ok.ensures.settings c.in-Ok.ensures.rows c.in-Ok.ensures.limits refl refl refl c.in-Ok.ensures.index _ no_memory refl refl (λ running stands. tt)
+
+pub returns-in-Err-TooLong-clause-steps : goal.returns-in-Err-TooLong-clause-steps
+returns-in-Err-TooLong-clause-steps g c =
+    let old = c.args.self.now in
+    let changes = c.args.changes.now in
+    let past = too_long old.rows (length (commit_payload changes)) c.in-Err-TooLong.end _ c.in-Err-TooLong.field-0-is c.in-Err-TooLong.ensures.unframed in
+    refuses old _ c.in-Ok.ensures.settings c.in-Ok.ensures.rows c.in-Ok.ensures.limits refl refl refl c.in-Ok.ensures.index _ (full c.in-Err-TooLong.end) refl refl
+    (λ running stands.
+    let same = same_behind rows_magic (payloads running.state) (engine_limits old).log_bytes old.rows stands.has.keeps.log (commit_payload changes) in
+    let limit = stands.has.keeps.log.limited in
+    is_full running changes (engine_limits old) c.in-Ok.ensures.planned.0 (sym stands.has.stopped ∙ c.in-None.is)
+    (same_rows running.state old stands.has.keeps changes (Ok c.in-Ok.ensures.planned.0) c.in-Ok.ensures.planned.1)
+    (omega (arith, past.0, past.1, same, limit))
+    ∙ ap (λ (n : ℕ). Some (full n)) (sym same ∙ sym past.0))
 
 pub returns-in-Ok-append-clause-steps : goal.returns-in-Ok-append-clause-steps
 returns-in-Ok-append-clause-steps g c =
@@ -59,19 +74,19 @@ returns-in-Ok-append-clause-steps g c =
     commits old _ changes same_settings same_limits refl c.in-None.is c.in-Ok-append.number refl (c.in-Ok-append.ensures.faults.calm (λ is. cc))
     (λ running stands going.
     is_committed running changes (engine_limits old) after going (same_rows running.state old stands.has.keeps changes (Ok after) ok)
-    (not_past rows_magic (payloads running.state) (engine_limits old).log_bytes old.rows stands.has.keeps.log c.in-Ok-framed_commit.framed (commit_payload changes) c.in-Ok-framed_commit.ensures
+    (not_past rows_magic (payloads running.state) (engine_limits old).log_bytes old.rows stands.has.keeps.log c.in-Ok-framed_commit.framed (commit_payload changes) c.in-Ok-framed_commit.ensures.framed
     (λ past. let no = (c.in-Ok-append.ensures.full (log.end_after old.rows c.in-Ok-framed_commit.framed)).1 (past, refl) in cc))
     ∙ ap (λ (n : ℕ). Some (committed n)) (sym (numbers.number ∙ numbered running stands.has.keeps.log.count)))
     (λ running stands. keeps_after running.state old stands.has.keeps changes (can_still running old stands changes c.requires) after ok _
     same_settings (c.install.ensures.rows changes after c.in-Ok.ensures.planned.2) same_limits
-    numbers.making.magic numbers.making.limit numbers.counted c.in-Ok-framed_commit.framed c.in-Ok-framed_commit.ensures numbers.grown refl)
+    numbers.making.magic numbers.making.limit numbers.counted c.in-Ok-framed_commit.framed c.in-Ok-framed_commit.ensures.framed numbers.grown refl)
     (λ running stands told going. logged_after running.state old stands.has.keeps changes (can_still running old stands changes c.requires) after ok c.append.new.self
-    (subst (λ (payload : List ℕ). log.StandsFor (payloads running.state ++ payload ∷ []) c.append.new.self) c.in-Ok-framed_commit.ensures
+    (subst (λ (payload : List ℕ). log.StandsFor (payloads running.state ++ payload ∷ []) c.append.new.self) c.in-Ok-framed_commit.ensures.framed
     (c.in-Ok-append.ensures.acknowledged told (payloads running.state) (stands.logs told going).entries)))
     (λ running stands told going. leaves_weaker g.D.Disk device device' _ (MayHold running.state (changes ∷ []))
     (holds_either running.state old stands.has.keeps changes (can_still running old stands changes c.requires) c.in-Ok.ensures.planned.0 c.in-Ok.ensures.planned.1 (g.D.Disk.images device) (g.D.Disk.seen device))
     (subst (λ (payload : List ℕ). LeavesOnly g.D.Disk device device' (IsBeforeOrAfter (log.magic_of old.rows) (payloads running.state) payload (g.D.Disk.images device) (g.D.Disk.seen device)))
-    c.in-Ok-framed_commit.ensures (c.in-Ok-append.ensures.any_moment told (payloads running.state) (stands.logs told going).entries)))
+    c.in-Ok-framed_commit.ensures.framed (c.in-Ok-append.ensures.any_moment told (payloads running.state) (stands.logs told going).entries)))
     (λ running stands. c.install.ensures.index changes after c.in-Ok.ensures.planned.2 running.state.commits running.index
     (c.in-Ok.ensures.index running.state.commits running.index stands.has.indexed))
 
@@ -82,7 +97,7 @@ returns-in-Err-LogFull-clause-steps g c =
     let past = (c.in-Err-LogFull.ensures.full c.in-Err-LogFull.end).0 (ap Err c.in-Err-LogFull.field-0-is) in
     refuses old _ c.in-Ok.ensures.settings c.in-Ok.ensures.rows c.in-Ok.ensures.limits (c.in-Err-LogFull.ensures.unchanged past.0) refl refl c.in-Ok.ensures.index _ (full c.in-Err-LogFull.end) refl refl
     (λ running stands.
-    let same = same_end rows_magic (payloads running.state) (engine_limits old).log_bytes old.rows stands.has.keeps.log c.in-Ok-framed_commit.framed (commit_payload changes) c.in-Ok-framed_commit.ensures in
+    let same = same_end rows_magic (payloads running.state) (engine_limits old).log_bytes old.rows stands.has.keeps.log c.in-Ok-framed_commit.framed (commit_payload changes) c.in-Ok-framed_commit.ensures.framed in
     let limit = stands.has.keeps.log.limited in
     is_full running changes (engine_limits old) c.in-Ok.ensures.planned.0 (sym stands.has.stopped ∙ c.in-None.is)
     (same_rows running.state old stands.has.keeps changes (Ok c.in-Ok.ensures.planned.0) c.in-Ok.ensures.planned.1)
@@ -106,7 +121,7 @@ returns-clause-steps g c =
     (λ running stands going.
     is_committed running changes (engine_limits old) c.in-Ok.ensures.planned.0 going
     (same_rows running.state old stands.has.keeps changes (Ok c.in-Ok.ensures.planned.0) c.in-Ok.ensures.planned.1)
-    (not_past rows_magic (payloads running.state) (engine_limits old).log_bytes old.rows stands.has.keeps.log c.in-Ok-framed_commit.framed (commit_payload changes) c.in-Ok-framed_commit.ensures
+    (not_past rows_magic (payloads running.state) (engine_limits old).log_bytes old.rows stands.has.keeps.log c.in-Ok-framed_commit.framed (commit_payload changes) c.in-Ok-framed_commit.ensures.framed
     (λ past. let no = (c.in-Err-DiskFault.ensures.full (log.end_after old.rows c.in-Ok-framed_commit.framed)).1 (past, refl) in cc)))
     (λ running stands.
     let keeps = stands.has.keeps in
@@ -117,5 +132,5 @@ returns-clause-steps g c =
     (λ running stands told going. leaves_weaker g.D.Disk device device' _ (MayHold running.state (changes ∷ []))
     (holds_either running.state old stands.has.keeps changes (can_still running old stands changes c.requires) c.in-Ok.ensures.planned.0 c.in-Ok.ensures.planned.1 (g.D.Disk.images device) (g.D.Disk.seen device))
     (subst (λ (payload : List ℕ). LeavesOnly g.D.Disk device device' (IsBeforeOrAfter (log.magic_of old.rows) (payloads running.state) payload (g.D.Disk.images device) (g.D.Disk.seen device)))
-    c.in-Ok-framed_commit.ensures (c.in-Err-DiskFault.ensures.any_moment told (payloads running.state) (stands.logs told going).entries)))
+    c.in-Ok-framed_commit.ensures.framed (c.in-Err-DiskFault.ensures.any_moment told (payloads running.state) (stands.logs told going).entries)))
     c.in-Ok.ensures.index

@@ -19,7 +19,9 @@ use Rattle.fts_steps.specs.declared.optimize.OptimizeStep.TheVariants.{Nothing}
 use Rattle.fts_engine.specs.declared.engine.Engine.{Engine}
 use Rattle.fts_engine.specs.Kept.{IsIndexed}
 use Rattle.fts_engine.specs.Stands.{Holds, engine_limits}
-use Rattle.fts_engine.proofs.Committing.{keeps_with, as_before, one_more, same_end, not_past}
+use Rattle.fts_engine.proofs.Committing.{keeps_with, as_before, one_more, same_end, same_behind, not_past}
+use Rattle.fts_ixcodec.specs.Payload.{entry_payload}
+use Rattle.fts_engine.proofs.Framing.{entry_too_long}
 use Rattle.fts_engine.proofs.Steps.{refuses, optimizes, writes_entry, loosens, is_stopped}
 use Rattle.fts_engine.proofs.Optimizing.{is_idle, is_full, is_passed, none_next, one_next, payloads_after, leaves_after, indexed_after, entries_after, leaves_either}
 use Rattle.fts_engine.proofs.engine.Engine.optimize_step.Goals as goal
@@ -48,9 +50,24 @@ pub returns-in-Err-clause-steps : goal.returns-in-Err-clause-steps
 returns-in-Err-clause-steps g c =
     refuses c.args.self.now _ c.in-Err.ensures.settings c.in-Err.ensures.rows c.in-Err.ensures.limits refl refl refl c.in-Err.ensures.index to_optimize no_memory refl refl (λ running stands. tt)
 
-pub returns-in-Err-framed_step-clause-steps : goal.returns-in-Err-framed_step-clause-steps
-returns-in-Err-framed_step-clause-steps g c =
+pub returns-in-Err-NoMemory-clause-steps : goal.returns-in-Err-NoMemory-clause-steps
+returns-in-Err-NoMemory-clause-steps g c =
     refuses c.args.self.now _ c.in-Ok-Some.ensures.settings c.in-Ok-Some.ensures.rows c.in-Ok-Some.ensures.limits refl refl refl c.in-Ok-Some.ensures.index to_optimize no_memory refl refl (λ running stands. tt)
+
+pub returns-in-Err-TooLong-clause-steps : goal.returns-in-Err-TooLong-clause-steps
+returns-in-Err-TooLong-clause-steps g c =
+    let old = c.args.self.now in
+    let plan = c.in-Ok-Some.plan in
+    let past = entry_too_long old.index (step_entry plan) c.in-Err-TooLong.end _ c.in-Err-TooLong.field-0-is c.in-Err-TooLong.ensures.unframed in
+    let next = next_of old _ c.in-Ok-Some.ensures.planned (Some plan) c.in-Ok-Some.field-0-is in
+    refuses old _ c.in-Ok-Some.ensures.settings c.in-Ok-Some.ensures.rows c.in-Ok-Some.ensures.limits refl refl refl c.in-Ok-Some.ensures.index to_optimize (full c.in-Err-TooLong.end) refl refl
+    (λ running stands.
+    let has = stands.has in
+    let same = same_behind index_magic (index_payloads running.state) (engine_limits old).log_bytes old.index has.keeps.index (entry_payload (step_entry plan)) in
+    let limited = has.keeps.index.limited in
+    is_full (engine_limits old) running (sym has.stopped ∙ c.in-None.is) (step_entry plan) (one_next running old has plan (next running stands))
+    (omega (arith, past.0, past.1, same, limited))
+    ∙ ap (λ (n : ℕ). Some (full n)) (sym same ∙ sym past.0))
 
 -- a planned step writes its entry
 step_writes : (plan : PassPlan) (step : OptimizeStep) → step ≡ step_of (step_entry plan) → IsTrue (writes (passed step))
@@ -88,9 +105,9 @@ returns-in-Ok-append-clause-steps g c =
     let can = c.in-Ok-Some.ensures.room plan (let is = c.in-Ok-Some.field-0-is in cc) in
     let packed : HasPackedNodes plan = subst ArePacked c.in-Ok-Some.field-0-is c.in-Ok-Some.ensures.packed in
     let grown = λ (running : Running) (stands : Holds running old).
-    payloads_after running old stands.has plan (next running stands) ∙ ap (λ (p : List ℕ). index_payloads running.state ++ p ∷ []) (sym c.in-Ok.ensures.same) in
+    payloads_after running old stands.has plan (next running stands) ∙ ap (λ (p : List ℕ). index_payloads running.state ++ p ∷ []) (sym c.in-Ok.ensures.framed.same) in
     let entries = λ (running : Running) (stands : Holds running old).
-    entries_after running old stands.has plan (next running stands) kept (payload_of framed) c.in-Ok.ensures can.fits packed in
+    entries_after running old stands.has plan (next running stands) kept (payload_of framed) c.in-Ok.ensures.framed can.fits packed in
     writes_entry old _ (c.install_optimize.ensures.settings ∙ settings) (c.install_optimize.ensures.limits ∙ c.in-Ok-Some.ensures.limits) refl c.in-None.is
     to_optimize optimized optimize_failed next_optimized behind optimizes (passed c.step_of-step.result) (step_changes plan c.step_of-step.result c.step_of-step.ensures) refl refl
     (ensured.faults.calm (λ is. cc))
@@ -100,7 +117,7 @@ returns-in-Ok-append-clause-steps g c =
     (λ past. not_past index_magic (index_payloads running.state) limit old.index has.keeps.index framed (payload_of framed) refl
     (λ over. let no = (ensured.full (log.end_after old.index framed)).1 (over, refl) in cc)
     (subst (λ (n : ℕ). limit < n)
-    (ap (λ (p : List ℕ). log_end index_magic (index_payloads running.state ++ p ∷ [])) (sym c.in-Ok.ensures.same)) past))
+    (ap (λ (p : List ℕ). log_end index_magic (index_payloads running.state ++ p ∷ [])) (sym c.in-Ok.ensures.framed.same)) past))
     ∙ ap (λ (s : OptimizeStep). Some (passed s)) (sym c.step_of-step.ensures))
     (λ running stands.
     let has = stands.has in
@@ -111,7 +128,7 @@ returns-in-Ok-append-clause-steps g c =
     (λ running stands told going. subst (λ (all : List (List ℕ)). log.StandsFor all log') (sym (grown running stands))
     (ensured.acknowledged told (index_payloads running.state) (stands.index_logs told going).entries))
     (λ running stands told going. leaves_weaker g.E.Disk (device_of old.index) (device_of log') _ (MayHoldIndex running.state (next_optimized running))
-    (leaves_either running old stands.has plan (next running stands) kept (payload_of framed) c.in-Ok.ensures can.fits packed
+    (leaves_either running old stands.has plan (next running stands) kept (payload_of framed) c.in-Ok.ensures.framed can.fits packed
     (g.E.Disk.images (device_of old.index)) (g.E.Disk.seen (device_of old.index)))
     (ensured.any_moment told (index_payloads running.state) (stands.index_logs told going).entries))
     (λ running stands. indexed_after running old stands.has plan (next running stands) c.install_optimize.new.self
@@ -137,7 +154,7 @@ returns-in-Err-LogFull-clause-steps g c =
     let has = stands.has in
     let same = same_end index_magic (index_payloads running.state) limit old.index has.keeps.index framed (payload_of framed) refl in
     let limited = has.keeps.index.limited in
-    let ends = ap (λ (p : List ℕ). log_end index_magic (index_payloads running.state ++ p ∷ [])) (sym c.in-Ok.ensures.same) in
+    let ends = ap (λ (p : List ℕ). log_end index_magic (index_payloads running.state ++ p ∷ [])) (sym c.in-Ok.ensures.framed.same) in
     is_full (engine_limits old) running (sym has.stopped ∙ c.in-None.is) (step_entry plan) (one_next running old has plan (next running stands))
     (omega (arith, past.0, same, limited, ends))
     ∙ ap (λ (n : ℕ). Some (full n)) (ends ∙ sym same ∙ sym past.1 ∙ sym c.in-Err-LogFull.end-is))
@@ -172,7 +189,7 @@ returns-clause-steps g c =
     (λ past. not_past index_magic (index_payloads running.state) limit old.index has.keeps.index framed (payload_of framed) refl
     (λ over. let no = (ensured.full (log.end_after old.index framed)).1 (over, refl) in cc)
     (subst (λ (n : ℕ). limit < n)
-    (ap (λ (p : List ℕ). log_end index_magic (index_payloads running.state ++ p ∷ [])) (sym c.in-Ok.ensures.same)) past))))
+    (ap (λ (p : List ℕ). log_end index_magic (index_payloads running.state ++ p ∷ [])) (sym c.in-Ok.ensures.framed.same)) past))))
     (step_writes plan _ refl))
     (λ running stands.
     let keeps = stands.has.keeps in
@@ -180,7 +197,7 @@ returns-clause-steps g c =
     (as_before index_magic (index_payloads running.state) limit old.index keeps.index log' numbers.making.magic numbers.making.limit numbers.uncounted numbers.ungrown))
     (λ t files told le may. g.met.E.Disk.counts_now (device_of log') t files told le may) (λ told. g.met.E.Disk.seen_may_stay (device_of log') told)
     (λ running stands told going. leaves_weaker g.E.Disk (device_of old.index) (device_of log') _ (MayHoldIndex running.state (next_optimized running))
-    (leaves_either running old stands.has plan (next running stands) kept (payload_of framed) c.in-Ok.ensures can.fits packed
+    (leaves_either running old stands.has plan (next running stands) kept (payload_of framed) c.in-Ok.ensures.framed can.fits packed
     (g.E.Disk.images (device_of old.index)) (g.E.Disk.seen (device_of old.index)))
     (ensured.any_moment told (index_payloads running.state) (stands.index_logs told going).entries))
     c.in-Ok-Some.ensures.index
