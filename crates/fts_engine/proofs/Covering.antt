@@ -1,6 +1,6 @@
 -- What is known of the two logs when some commits and some entries were read.
 use Rattle.std.proofs.Common.{◌≡◌, ◌≢◌, true, ℕ, ◌+◌, ◌<◌, ◌≤◌, List, [], ◌∷◌, ◌++◌, refl, ap, subst, sym, ◌∙◌, length, arith, map, take, drop, get_or, length-append}
-use Rattle.std.proofs.lemmas.List.{take_all, take_more, length-map, map-append}
+use Rattle.std.proofs.lemmas.List.{take_all, take_at, take_more, length-map, map-append}
 use Rattle.std.proofs.lemmas.List.Elements.{All-head, All-tail, All-push}
 use Rattle.std.specs.Prelude.{All, Ok}
 use Rattle.fts_words.specs.Indexed.{Rules}
@@ -35,7 +35,7 @@ use Rattle.fts_engine.specs.Kept.{kept_settings, kept_rows, kept_limits, IsIndex
 use Rattle.fts_engine.specs.Restoring.{restoring_settings, restoring_rows, restoring_commits, IsCovering}
 use Rattle.fts_engine.specs.Reading.{IsWrongPayload}
 use Rattle.fts_engine.specs.Loading.{BeginsWith, IsRestored, StillRestored, IsLoaded, NoneCanCome, AreSound}
-use Rattle.fts_engine.proofs.Loading.{one_more, front_of, same_settings}
+use Rattle.fts_engine.proofs.Loading.{one_more, front_of, same_settings, loaded_all}
 use Rattle.fts_engine.proofs.Indexing.{turns_count}
 
 -- a list whose payloads are some and one more is a list and one more
@@ -145,6 +145,39 @@ module _ (all read : List (List ℕ)) (j : ℕ) (old new : Restoring) (was : IsR
     taken = was.taken;
     covers = covers state.commits (index_state state) was.covers;
   }
+
+module _ (all read : List (List ℕ)) (j : ℕ) (r : Restoring) (was : IsRestored all read j r) where
+  -- the entries that were read are all of a log that has no more
+  pub restored_front : IsRestored all (take j read) (length (take j read)) r
+  restored_front = record {
+    of_rows = was.of_rows;
+    entries = was.entries;
+    taken = was.taken ∙ sym (take_all (length (take j read)) (take j read) (omega arith));
+    covers = was.covers;
+  }
+
+  -- and they are the first of a log that has one more
+  pub restored_before : (payload : List ℕ) → IsRestored all (take j read ++ payload ∷ []) (length (take j read)) r
+  restored_before payload = record {
+    of_rows = was.of_rows;
+    entries = was.entries;
+    taken = was.taken ∙ sym (take_at (take j read) (payload ∷ []) (length (take j read)) refl);
+    covers = was.covers;
+  }
+
+-- the last of a list that has one more
+pub taken_last : {X : Type 0} (xs : List X) (x : X) → take (length xs + 1) (xs ++ x ∷ []) ≡ take (length xs) (xs ++ x ∷ []) ++ x ∷ []
+taken_last xs x =
+    take_all (length xs + 1) (xs ++ x ∷ []) (omega (arith, length-append xs (x ∷ [])))
+    ∙ ap (λ front. front ++ x ∷ []) (sym (take_at xs (x ∷ []) (length xs) refl))
+
+-- what was loaded are payloads of a sound database
+pub sound_loaded : (all read : List (List ℕ)) (kept : Kept) → IsLoaded all (length all) read kept → AreSound all
+sound_loaded all read kept loaded = record {
+  state = loaded.of_rows.state;
+  sound = loaded.of_rows.sound;
+  same = loaded_all all (kept_settings kept) (kept_rows kept) loaded.of_rows;
+}
 
 -- a step that can come is the next one
 pub next_comes : (turns : List Turn) (s : IndexState) (plan : PassPlan) → CanCome turns s (step_entry plan) → IsStep s (step_entry plan)

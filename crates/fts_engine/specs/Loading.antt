@@ -42,6 +42,15 @@ pub record IsRestored (all read : List (List ℕ)) (j : ℕ) (r : Restoring) : T
   pub taken : index_payloads of_rows.state ≡ take j read
   pub covers : IsCovering r of_rows.state.commits (index_state of_rows.state)
 
+-- so it is of the rows log alone, whatever the index log has
+abbrev pub IsRestoredOver : List (List ℕ) → Restoring → Type 0
+IsRestoredOver all r = (read : List (List ℕ)) × (j : ℕ) × IsRestored all read j r
+
+-- and it is so still
+abbrev pub StaysRestored : {D : Type 0} {disk : Ghosts D} → Records D disk → Restoring → Restoring → Type 0
+StaysRestored {D} {disk} rows old new = IsTrue disk.tells → (all : List (List ℕ)) → Hold all rows
+    → IsRestoredOver all old → IsRestoredOver all new
+
 -- the same entries were read, and perhaps more commits
 pub record StillRestored (all read : List (List ℕ)) (j : ℕ) {old : Restoring} (was : IsRestored all read j old)
     (r : Restoring) : Type 0 where

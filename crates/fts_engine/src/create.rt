@@ -1,4 +1,4 @@
-ghost use Rattle.std.specs.Prelude.{◌≡◌, ◌≤◌, [], length, IsTrue, IsErr, IsErrAnd};
+ghost use Rattle.std.specs.Prelude.{◌≡◌, ◌⊎◌, ◌≤◌, [], length, IsTrue, IsErr, IsErrAnd};
 ghost use Rattle.std.specs.Prelude.{IfOk, IfErr};
 ghost use Rattle.fts_faults.specs.Count.{CountsFault};
 ghost use Rattle.fts_disk.specs.Crash.{Only};
@@ -83,8 +83,9 @@ pub fn create_engine<D: Disk, E: Disk>(
         → IsCreated (D.seen rows 0)) }
     ensures stays_rows { IfErr result (λ e. IsTrue D.tells → IsCreated (D.seen rows 0)
         → Looks D.Disk rows e.1) }
-    ensures stays_index { IfErr result (λ e. IsTrue D.tells → IsTrue E.tells
-        → IsCreated (D.seen rows 0) → Looks E.Disk index e.2) }
+    ensures stays_index { IfErr result (λ e. IsTrue E.tells
+        → (e.0 ≡ CreateError.AlreadyCreated) ⊎ (IsTrue D.tells × IsCreated (D.seen rows 0))
+        → Looks E.Disk index e.2) }
     ensures untouched { IfErr result (λ e. e.0 ≡ CreateError.NoMemory
         → (e.1 ≡ rows) × (e.2 ≡ index)) }
     ensures faults { CountsFaultOf (IsErrAnd result (λ e. e.0 ≡ CreateError.DiskFault))

@@ -15,6 +15,7 @@ ghost use Rattle.fts_steps.specs.State.{index_state};
 ghost use Rattle.fts_engine.specs.Loading.{BeginsWith, IsRestored, CoversMore, IsLoaded};
 ghost use Rattle.fts_engine.specs.Loading.{IsWrongEntry, IsWrongOver, AreSound, IsNoCommit};
 ghost use Rattle.fts_engine.specs.Loading.{NoneCanCome, IsWrongAmong, InstallsEntry, RefusesEntry};
+ghost use Rattle.fts_engine.specs.Loading.{IsRestoredOver, StaysRestored};
 ghost use Rattle.fts_engine.specs.declared.error.ReadError.{ReadError};
 ghost use Rattle.fts_ixcodec.specs.Seen.{seen};
 ghost use Rattle.fts_index.specs.Passing.{step_entry};
@@ -54,17 +55,16 @@ pub fn load<D: Disk, E: Disk>(
     entries: &mut Records<E>,
 ) -> Result<Kept, LoadError>
     requires { 0 < record_count rows.old }
-    ensures loaded { IfOk result (λ kept. IsTrue D.tells → IsTrue E.tells
-        → (all read : List (List ℕ)) → Hold all rows.old → Hold read entries.old
-        → IsLoaded all (length all) read kept) }
+    ensures loaded { IfOk result (λ kept. IsTrue D.tells → (all : List (List ℕ))
+        → Hold all rows.old → AreSound all × (IsTrue E.tells → (read : List (List ℕ))
+        → Hold read entries.old → IsLoaded all (length all) read kept)) }
     ensures damaged_rows { (at : ℕ) → IsErrOf result (LoadError.Damaged Device.Rows at)
-        → IsTrue D.tells → IsTrue E.tells → (all read : List (List ℕ))
-        → Hold all rows.old → Hold read entries.old
+        → IsTrue D.tells → (all : List (List ℕ)) → Hold all rows.old
         → IsWrongEntry (records_magic rows.old) all at }
     ensures damaged_index { (at : ℕ) → IsErrOf result (LoadError.Damaged Device.Index at)
-        → IsTrue D.tells → IsTrue E.tells → (all read : List (List ℕ))
-        → Hold all rows.old → Hold read entries.old
-        → AreSound all × IsWrongAmong (records_magic entries.old) all read at }
+        → IsTrue D.tells → (all : List (List ℕ)) → Hold all rows.old
+        → AreSound all × (IsTrue E.tells → (read : List (List ℕ)) → Hold read entries.old
+        → IsWrongAmong (records_magic entries.old) all read at) }
     ensures reads { ReadsBoth (IsErrOf result LoadError.DiskFault)
         rows.old entries.old rows.new entries.new }
 {
@@ -152,12 +152,10 @@ fn restore_entries<D: Disk, E: Disk>(
     ensures refused { (at : ℕ) → result ≡ Ok (Some at) → IsTrue D.tells → IsTrue E.tells
         → (all read : List (List ℕ)) → Hold all rows.old → Hold read entries.old
         → IsRestored all read 0 restoring.old
-        → ((j : ℕ) × IsRestored all read j restoring.new)
-        × IsWrongAmong (records_magic entries.old) all read at }
-    ensures damaged { (at : ℕ) → IsErrOf result (ReadError.Damaged at)
-        → IsTrue D.tells → IsTrue E.tells
-        → (all read : List (List ℕ)) → Hold all rows.old → Hold read entries.old
-        → IsRestored all read 0 restoring.old
+        → IsWrongAmong (records_magic entries.old) all read at }
+    ensures stays { OnOk result (StaysRestored rows.old restoring.old restoring.new) }
+    ensures damaged { (at : ℕ) → IsErrOf result (ReadError.Damaged at) → IsTrue D.tells
+        → (all : List (List ℕ)) → Hold all rows.old → IsRestoredOver all restoring.old
         → IsWrongEntry (records_magic rows.old) all at }
     ensures reads { ReadsBoth (IsErrOf result ReadError.DiskFault)
         rows.old entries.old rows.new entries.new }
@@ -192,8 +190,9 @@ fn restore_entry<D: Disk, E: Disk>(
         → (all read : List (List ℕ)) → Hold all rows.old → Hold read entries.old
         → IsRestored all read j restoring.old
         → IsRestored all read j restoring.new × IsWrongPayload all read j }
+    ensures stays { OnOk result (StaysRestored rows.old restoring.old restoring.new) }
     ensures damaged { (at : ℕ) → IsErrOf result (ReadError.Damaged at) → IsTrue D.tells
-        → (all read : List (List ℕ)) → Hold all rows.old → IsRestored all read j restoring.old
+        → (all : List (List ℕ)) → Hold all rows.old → IsRestoredOver all restoring.old
         → IsWrongEntry (records_magic rows.old) all at }
     ensures reads { ReadsBoth (IsErrOf result ReadError.DiskFault)
         rows.old entries.old rows.new entries.new }

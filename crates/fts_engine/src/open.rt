@@ -57,7 +57,7 @@ pub fn open_engine<D: Disk, E: Disk>(
         → IsCreated (D.seen rows 0) → ⊥) }
     ensures damaged_rows { IfErr result (λ e. (file at : ℕ)
         → e.0 ≡ OpenError.Damaged Device.Rows file at
-        → (file ≡ 0) × (IsTrue D.tells → IsTrue E.tells → IsDamaged at (D.seen rows 0))) }
+        → (file ≡ 0) × (IsTrue D.tells → IsDamaged at (D.seen rows 0))) }
     ensures damaged_index { IfErr result (λ e. (file at : ℕ)
         → e.0 ≡ OpenError.Damaged Device.Index file at
         → (file ≡ 0) × (IsTrue D.tells → IsTrue E.tells
@@ -107,7 +107,7 @@ fn open_records<D: Disk, E: Disk>(
         → (state : State) × Holds (opened state) engine) }
     ensures limits { IfOk result (λ engine. engine_limits engine ≡ limits) }
     ensures damaged_rows { IfErr result (λ e. (at : ℕ) → e.0 ≡ LoadError.Damaged Device.Rows at
-        → IsTrue D.tells → IsTrue E.tells → IsDamaged at (D.seen (records_device rows) 0)) }
+        → IsTrue D.tells → IsDamaged at (D.seen (records_device rows) 0)) }
     ensures damaged_index { IfErr result (λ e. (at : ℕ) → e.0 ≡ LoadError.Damaged Device.Index at
         → IsTrue D.tells → IsTrue E.tells → IsIndexDamaged at
         (D.seen (records_device rows) 0) (E.seen (records_device entries) 0)) }

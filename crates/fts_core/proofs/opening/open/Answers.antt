@@ -30,7 +30,7 @@ returns g c told told' core fits can =
     (record { told = told'; stay = λ d. g.met.E.Disk.seen_may_stay d told'; only = λ d files. g.met.E.Disk.only_now d files told' })
     core c.args.world fits c.args.limits c.close-rows.result.0 c.close-rows.result.1 c.close-rows.ensures.rows c.close-rows.ensures.index
     (c.are_within_standard.ensures.0 c.if-not-are_within_standard.false)
-    c.in-Err-open_engine.error (λ is. c.in-Err-open_engine.ensures.not_created is told) (λ file at is. (c.in-Err-open_engine.ensures.damaged_rows file at is).1 told told')
+    c.in-Err-open_engine.error (λ is. c.in-Err-open_engine.ensures.not_created is told) (λ file at is. (c.in-Err-open_engine.ensures.damaged_rows file at is).1 told)
     (λ file at is. (c.in-Err-open_engine.ensures.damaged_index file at is).1 told told'))
     c.in-Err-open_engine.rows c.in-Err-open_engine.index (c.in-Err-open_engine.ensures.looks_rows told).crash (c.in-Err-open_engine.ensures.looks_index told').crash
     c.reserve.new.self c.reserve.ensures.items c.behind-in-Err-open_engine.result c.behind-in-Err-open_engine.ensures

@@ -1,7 +1,7 @@
-use Rattle.std.proofs.Common.{[], sym, ◌∙◌, ap, length, arith}
+use Rattle.std.proofs.Common.{[], sym, ◌∙◌, ap, length, ⊎_elim, arith}
 use Rattle.std.specs.Prelude.{IsTrue}
 use Rattle.std.proofs.lemmas.Bool.{false≢true}
-use Rattle.std.proofs.lemmas.Result.{IfOk-weaker}
+use Rattle.std.proofs.lemmas.Result.{IfOk-weaker, IfErr-weaker}
 use Rattle.fts_disk.specs.Moments.{Looks}
 use Rattle.fts_rowcodec.proofs.Sizes.{settings_size}
 use Rattle.fts_steps.specs.State.{IsCreated}
@@ -33,5 +33,9 @@ returns-in-Ok-false-clause-stays_rows g c =
 
 pub returns-in-Ok-false-clause-stays_index : goal.returns-in-Ok-false-clause-stays_index
 returns-in-Ok-false-clause-stays_index g c =
-    always_err (λ e. IsTrue g.D.Disk.tells → IsTrue g.E.Disk.tells → IsCreated (g.D.Disk.seen c.args.rows 0) → Looks g.E.Disk c.args.index e.2) c.make.result
-    (λ e told told_index created. absurd (false≢true (sym c.in-Ok-false.field-0-test ∙ (c.in-Ok-false.ensures.begun told).1 created)))
+    IfErr-weaker c.make.result _ _
+    (λ e failed told_index stood. ⊎_elim
+    (λ already. absurd (let no = failed in cc))
+    (λ created. absurd (false≢true (sym c.in-Ok-false.field-0-test ∙ (c.in-Ok-false.ensures.begun created.0).1 created.1)))
+    stood)
+    c.make.ensures.failed

@@ -1,4 +1,4 @@
-use Rattle.std.proofs.Common.{◌≡◌, ℕ, ap, subst, sym, ◌∙◌}
+use Rattle.std.proofs.Common.{◌≡◌, ℕ, List, [], take, ap, subst, sym, ◌∙◌}
 use Rattle.std.specs.Prelude.{Err}
 use Rattle.fts_log.specs.Records.{records_magic}
 use Rattle.fts_log.proofs.Reading.{read_none}
@@ -6,19 +6,25 @@ use Rattle.fts_engine.specs.Loading.{IsWrongEntry, IsWrongAmong}
 use Rattle.fts_engine.specs.Opening.{load_error_of}
 use Rattle.fts_engine.specs.declared.error.Device.TheVariants.{Rows, Index}
 use Rattle.fts_engine.specs.declared.error.ReadError.TheVariants.{DiskFault}
-use Rattle.fts_engine.proofs.Covering.{first_restored}
+use Rattle.fts_engine.proofs.Covering.{first_restored, restored_front, sound_loaded}
 use Rattle.fts_engine.proofs.Causes.{of_damage, of_fault}
 use Rattle.fts_engine.proofs.OneLog.{reads_told}
 use Rattle.fts_engine.proofs.BothLogs.{both_more, both_told, rows_alone}
 use Rattle.fts_engine.proofs.load.load.Goals as goal
 
 pub returns-in-Ok-load_rest-clause-loaded : goal.returns-in-Ok-load_rest-clause-loaded
-returns-in-Ok-load_rest-clause-loaded g c told told' all read holds holds' =
+returns-in-Ok-load_rest-clause-loaded g c told all holds =
     let new = c.new-restoring.ensures in
     let behind = (c.in-Ok.ensures.reads.read told).stays all holds in
-    let begun = first_restored all read c.in-Ok.settings c.new-restoring.result (c.in-Ok.ensures.loaded told all holds) new.settings new.rows new.commits new.covers in
-    let restored = c.in-Ok-None.ensures.restored (let none = c.in-Ok-None.field-0-is in cc) told told' all read behind holds' begun in
-    c.in-Ok-load_rest.ensures.loaded told all read ((c.in-Ok-None.ensures.reads.of_rows told).stays all behind) restored
+    let begun = λ (read : List (List ℕ)). first_restored all read c.in-Ok.settings c.new-restoring.result (c.in-Ok.ensures.loaded told all holds) new.settings new.rows new.commits new.covers in
+    let is = c.in-Ok-None.ensures.stays told all behind ([], 0, begun []) in
+    let left = (c.in-Ok-None.ensures.reads.of_rows told).stays all behind in (
+      sound_loaded all (take is.1 is.0) c.in-Ok-load_rest.kept
+          (c.in-Ok-load_rest.ensures.loaded told all (take is.1 is.0) left (restored_front all is.0 is.1 c.restore_entries.new.restoring is.2)),
+      λ told' read holds'.
+          c.in-Ok-load_rest.ensures.loaded told all read left
+          (c.in-Ok-None.ensures.restored (let none = c.in-Ok-None.field-0-is in cc) told told' all read behind holds' (begun read)),
+    )
 
 pub returns-in-Ok-load_rest-clause-reads : goal.returns-in-Ok-load_rest-clause-reads
 returns-in-Ok-load_rest-clause-reads g c =
@@ -32,15 +38,16 @@ returns-in-Ok-load_rest-clause-reads g c =
     (λ told. read_none c.restore_entries.new.entries (λ files left. g.met.E.Disk.only_now _ files told left))))
 
 pub returns-in-Err-load_rest-clause-damaged_rows : goal.returns-in-Err-load_rest-clause-damaged_rows
-returns-in-Err-load_rest-clause-damaged_rows g c at e told told' all read holds holds' =
+returns-in-Err-load_rest-clause-damaged_rows g c at e told all holds =
     let new = c.new-restoring.ensures in
     let behind = (c.in-Ok.ensures.reads.read told).stays all holds in
-    let begun = first_restored all read c.in-Ok.settings c.new-restoring.result (c.in-Ok.ensures.loaded told all holds) new.settings new.rows new.commits new.covers in
+    let begun = first_restored all [] c.in-Ok.settings c.new-restoring.result (c.in-Ok.ensures.loaded told all holds) new.settings new.rows new.commits new.covers in
     let reads = c.in-Ok-None.ensures.reads in
-    let restored = c.in-Ok-None.ensures.restored (let none = c.in-Ok-None.field-0-is in cc) told told' all read behind holds' begun in
+    let is = c.in-Ok-None.ensures.stays told all behind ([], 0, begun) in
     let damage = of_damage Rows Rows c.in-Err-load_rest.error at (sym c.on-in-Err-load_rest.ensures ∙ (let same = e in cc)) in
     subst (λ magic. IsWrongEntry magic all at) (reads.many_rows.magic ∙ c.in-Ok.ensures.reads.same.magic)
-    (c.in-Err-load_rest.ensures.damaged at (ap Err damage.1) told all read ((reads.of_rows told).stays all behind) restored)
+    (c.in-Err-load_rest.ensures.damaged at (ap Err damage.1) told all (take is.1 is.0) ((reads.of_rows told).stays all behind)
+    (restored_front all is.0 is.1 c.restore_entries.new.restoring is.2))
 
 pub returns-in-Err-load_rest-clause-damaged_index : goal.returns-in-Err-load_rest-clause-damaged_index
 returns-in-Err-load_rest-clause-damaged_index g c at e =
@@ -60,25 +67,27 @@ returns-in-Err-load_rest-clause-reads g c =
     (λ told. read_none c.restore_entries.new.entries (λ files left. g.met.E.Disk.only_now _ files told left))))
 
 pub returns-in-Ok-Some-clause-damaged_rows : goal.returns-in-Ok-Some-clause-damaged_rows
-returns-in-Ok-Some-clause-damaged_rows g c at e told told' all read holds holds' =
+returns-in-Ok-Some-clause-damaged_rows g c at e told all holds =
     let new = c.new-restoring.ensures in
     let behind = (c.in-Ok.ensures.reads.read told).stays all holds in
-    let begun = first_restored all read c.in-Ok.settings c.new-restoring.result (c.in-Ok.ensures.loaded told all holds) new.settings new.rows new.commits new.covers in
+    let begun = first_restored all [] c.in-Ok.settings c.new-restoring.result (c.in-Ok.ensures.loaded told all holds) new.settings new.rows new.commits new.covers in
     let ensured = c.in-Ok-Some.ensures in
-    let refused = ensured.refused c.in-Ok-Some.at (let is = c.in-Ok-Some.at-is in cc) told told' all read behind holds' begun in
+    let is = ensured.stays told all behind ([], 0, begun) in
     subst (λ magic. IsWrongEntry magic all at) (ensured.reads.many_rows.magic ∙ c.in-Ok.ensures.reads.same.magic)
-    (c.held_back.ensures.rows at (let same = e in cc) told all read refused.0.0 ((ensured.reads.of_rows told).stays all behind) refused.0.1)
+    (c.held_back.ensures.rows at (let same = e in cc) told all is.0 is.1 ((ensured.reads.of_rows told).stays all behind) is.2)
 
 pub returns-in-Ok-Some-clause-damaged_index : goal.returns-in-Ok-Some-clause-damaged_index
-returns-in-Ok-Some-clause-damaged_index g c at e told told' all read holds holds' =
+returns-in-Ok-Some-clause-damaged_index g c at e told all holds =
     let new = c.new-restoring.ensures in
     let behind = (c.in-Ok.ensures.reads.read told).stays all holds in
-    let begun = first_restored all read c.in-Ok.settings c.new-restoring.result (c.in-Ok.ensures.loaded told all holds) new.settings new.rows new.commits new.covers in
+    let begun = λ (read : List (List ℕ)). first_restored all read c.in-Ok.settings c.new-restoring.result (c.in-Ok.ensures.loaded told all holds) new.settings new.rows new.commits new.covers in
     let ensured = c.in-Ok-Some.ensures in
-    let refused = ensured.refused c.in-Ok-Some.at (let is = c.in-Ok-Some.at-is in cc) told told' all read behind holds' begun in
+    let is = ensured.stays told all behind ([], 0, begun []) in
     let damage = c.held_back.ensures.index at (let same = e in cc) in (
-      damage.1 told all read refused.0.0 ((ensured.reads.of_rows told).stays all behind) refused.0.1,
-      subst (λ (place : ℕ). IsWrongAmong (records_magic c.args.entries.now) all read place) (sym damage.0) refused.1,
+      damage.1 told all is.0 is.1 ((ensured.reads.of_rows told).stays all behind) is.2,
+      λ told' read holds'.
+          subst (λ (place : ℕ). IsWrongAmong (records_magic c.args.entries.now) all read place) (sym damage.0)
+          (ensured.refused c.in-Ok-Some.at (let is = c.in-Ok-Some.at-is in cc) told told' all read behind holds' (begun read)),
     )
 
 pub returns-in-Ok-Some-clause-reads : goal.returns-in-Ok-Some-clause-reads
@@ -93,13 +102,13 @@ returns-in-Ok-Some-clause-reads g c =
     (λ told. read_none c.restore_entries.new.entries (λ files left. g.met.E.Disk.only_now _ files told left))))
 
 pub returns-in-Err-restore_entries-clause-damaged_rows : goal.returns-in-Err-restore_entries-clause-damaged_rows
-returns-in-Err-restore_entries-clause-damaged_rows g c at e told told' all read holds holds' =
+returns-in-Err-restore_entries-clause-damaged_rows g c at e told all holds =
     let new = c.new-restoring.ensures in
     let behind = (c.in-Ok.ensures.reads.read told).stays all holds in
-    let begun = first_restored all read c.in-Ok.settings c.new-restoring.result (c.in-Ok.ensures.loaded told all holds) new.settings new.rows new.commits new.covers in
+    let begun = first_restored all [] c.in-Ok.settings c.new-restoring.result (c.in-Ok.ensures.loaded told all holds) new.settings new.rows new.commits new.covers in
     let damage = of_damage Rows Rows c.in-Err-restore_entries.error at (sym c.on-in-Err-restore_entries.ensures ∙ (let same = e in cc)) in
     subst (λ magic. IsWrongEntry magic all at) c.in-Ok.ensures.reads.same.magic
-    (c.in-Err-restore_entries.ensures.damaged at (ap Err damage.1) told told' all read behind holds' begun)
+    (c.in-Err-restore_entries.ensures.damaged at (ap Err damage.1) told all behind ([], 0, begun))
 
 pub returns-in-Err-restore_entries-clause-damaged_index : goal.returns-in-Err-restore_entries-clause-damaged_index
 returns-in-Err-restore_entries-clause-damaged_index g c at e =

@@ -10,7 +10,7 @@ use Rattle.fts_engine.proofs.open.open_engine.Goals as goal
 pub returns-in-Err-clause-damaged_rows : goal.returns-in-Err-clause-damaged_rows
 returns-in-Err-clause-damaged_rows g c file at e =
     let damage = of_rows_damage Rows c.in-Err.error file at (sym c.from.ensures ∙ e) in
-    (damage.1, λ told told_index. c.in-Err.ensures.damaged at damage.2 told)
+    (damage.1, λ told. c.in-Err.ensures.damaged at damage.2 told)
 
 pub returns-in-Ok-open_records-clause-looks_rows : goal.returns-in-Ok-open_records-clause-looks_rows
 returns-in-Ok-open_records-clause-looks_rows g c told =
@@ -24,7 +24,7 @@ pub returns-in-Err-open_records-clause-damaged_rows : goal.returns-in-Err-open_r
 returns-in-Err-open_records-clause-damaged_rows g c file at e =
     let damage = of_read_damage Rows c.in-Err-open_records.error file at (sym c.from-in-Err-open_records.ensures ∙ e) in (
       damage.0,
-      λ told told_index. subst (λ (files : Files). IsDamaged at (files 0)) (c.in-Ok.ensures.looks told).seen (c.in-Err-open_records.ensures.damaged_rows at damage.1 told told_index),
+      λ told. subst (λ (files : Files). IsDamaged at (files 0)) (c.in-Ok.ensures.looks told).seen (c.in-Err-open_records.ensures.damaged_rows at damage.1 told),
     )
 
 pub returns-in-Err-open_records-clause-damaged_index : goal.returns-in-Err-open_records-clause-damaged_index
@@ -40,4 +40,4 @@ returns-in-Err-open_records-clause-damaged_index g c file at e =
 pub returns-in-Err-Damaged-default-clause-damaged_rows : goal.returns-in-Err-Damaged-default-clause-damaged_rows
 returns-in-Err-Damaged-default-clause-damaged_rows g c file at e =
     let damage = of_read_damage Rows c.refuse_index-error.result.0 file at (sym c.from-in-Err-Damaged-default.ensures ∙ e) in
-    (damage.0, λ told told_index. subst (λ (files : Files). IsDamaged at (files 0)) (c.in-Ok.ensures.looks told).seen (c.refuse_index-error.ensures.damaged_rows at damage.1 told))
+    (damage.0, λ told. subst (λ (files : Files). IsDamaged at (files 0)) (c.in-Ok.ensures.looks told).seen (c.refuse_index-error.ensures.damaged_rows at damage.1 told))

@@ -22,21 +22,19 @@ use Rattle.fts_engine.proofs.Opened.{keeps_log, whole_rows, of_index, found_here
 use Rattle.fts_engine.proofs.open.open_records.Goals as goal
 
 pub returns-in-Err-clause-damaged_rows : goal.returns-in-Err-clause-damaged_rows
-returns-in-Err-clause-damaged_rows g c at e told told_index =
+returns-in-Err-clause-damaged_rows g c at e told =
     let rows = c.args.rows in
     let bytes = g.D.Disk.seen (records_device rows) 0 in
     let all = (c.requires.ready told).0 in
     let holds = (c.requires.ready told).1 in
-    let read = (c.requires.index_ready told_index).0 in
-    let holds_index = (c.requires.index_ready told_index).1 in
     elim (c.told_first-error.ensures.damaged_rows at e) [
       | inl same ↦
           wrong_damaged all at bytes rows.found (found_here rows_magic all rows rows c.requires.magic holds)
           (subst (λ (magic : List ℕ). IsWrongEntry magic all at) c.requires.magic
-          (c.in-Err.ensures.damaged_rows at (ap Err same) told told_index all read holds holds_index))
+          (c.in-Err.ensures.damaged_rows at (ap Err same) told all holds))
       | inr torn ↦
           (let is_read = c.in-Err.ensures.reads.of_rows told in
-          let sound = (c.in-Err.ensures.damaged_index torn.0.0 (ap Err torn.0.1) told told_index all read holds holds_index).0 in
+          let sound = (c.in-Err.ensures.damaged_index torn.0.0 (ap Err torn.0.1) told all holds).0 in
           torn_damaged all at bytes (omega (arith, as_many all rows holds, c.requires.some)) (inr (sound.state, sound.sound, sound.same))
           (broken_here rows_magic all rows c.load.new.rows c.requires.magic is_read at (torn.1 told all (is_read.stays all holds))))
     ]
@@ -53,27 +51,25 @@ returns-in-Err-clause-damaged_index g c at e told told_index =
     let read = (c.requires.index_ready told_index).0 in
     let holds_index = (c.requires.index_ready told_index).1 in
     let is_read = c.in-Err.ensures.reads.of_rows told in
-    let wrong = c.in-Err.ensures.damaged_index at (ap Err first.0) told told_index all read holds holds_index in
+    let wrong = c.in-Err.ensures.damaged_index at (ap Err first.0) told all holds in
     record {
       state = wrong.0.state;
       of_rows = whole_rows all bytes wrong.0 (log_here rows_magic all rows c.load.new.rows c.requires.magic is_read (first.1 told all (is_read.stays all holds)));
       place = wrong_index wrong.0.state wrong.0.sound all read at index entries.found wrong.0.same
           (found_here index_magic read entries entries c.requires.index_magic holds_index)
-          (subst (λ (magic : List ℕ). IsWrongAmong magic all read at) c.requires.index_magic wrong.1);
+          (subst (λ (magic : List ℕ). IsWrongAmong magic all read at) c.requires.index_magic (wrong.1 told_index read holds_index));
     }
 
 pub returns-in-Err-into_log-clause-damaged_rows : goal.returns-in-Err-into_log-clause-damaged_rows
-returns-in-Err-into_log-clause-damaged_rows g c at e told told_index =
+returns-in-Err-into_log-clause-damaged_rows g c at e told =
     let rows = c.args.rows in
     let bytes = g.D.Disk.seen (records_device rows) 0 in
     let all = (c.requires.ready told).0 in
     let holds = (c.requires.ready told).1 in
-    let read = (c.requires.index_ready told_index).0 in
     let is_read = c.in-Ok.ensures.reads.of_rows told in
-    let loaded = c.in-Ok.ensures.loaded told told_index all read holds (c.requires.index_ready told_index).1 in
-    let whole = loaded_all all (kept_settings c.in-Ok.kept) (kept_rows c.in-Ok.kept) loaded.of_rows in
+    let sound = (c.in-Ok.ensures.loaded told all holds).0 in
     subst (λ (at : ℕ). IsDamaged at bytes) (same_damage Rows Rows c.in-Err-into_log.at at e).1
-    (torn_damaged all c.in-Err-into_log.at bytes (omega (arith, as_many all rows holds, c.requires.some)) (inr (loaded.of_rows.state, loaded.of_rows.sound, whole))
+    (torn_damaged all c.in-Err-into_log.at bytes (omega (arith, as_many all rows holds, c.requires.some)) (inr (sound.state, sound.sound, sound.same))
     (broken_first rows_magic all rows c.load.new.rows c.requires.magic is_read c.in-Ok.ensures.reads.many_rows c.in-Err-into_log.at
     (c.in-Err-into_log.ensures.broken told all (is_read.stays all holds))))
 
@@ -89,7 +85,7 @@ returns-in-Err-into_log-2-clause-damaged_index g c at e told told_index =
     let holds_index = (c.requires.index_ready told_index).1 in
     let is_read = c.in-Ok.ensures.reads.of_rows told in
     let index_read = c.in-Ok.ensures.reads.of_index told_index in
-    let loaded = c.in-Ok.ensures.loaded told told_index all read holds holds_index in
+    let loaded = (c.in-Ok.ensures.loaded told all holds).1 told_index read holds_index in
     let whole = loaded_all all (kept_settings c.in-Ok.kept) (kept_rows c.in-Ok.kept) loaded.of_rows in
     let log = c.in-Ok-into_log.rows in
     subst (λ (at : ℕ). IsIndexDamaged at bytes index) (same_damage Index Index c.in-Err-into_log-2.at at e).1
@@ -110,7 +106,7 @@ returns-in-Ok-into_log-2-clause-opened g c told told_index =
     let read = (c.requires.index_ready told_index).0 in
     let holds_index = (c.requires.index_ready told_index).1 in
     let reads = c.in-Ok.ensures.reads in
-    let loaded = c.in-Ok.ensures.loaded told told_index all read holds holds_index in
+    let loaded = (c.in-Ok.ensures.loaded told all holds).1 told_index read holds_index in
     let state = loaded.of_rows.state in
     let whole = loaded_all all (kept_settings c.in-Ok.kept) (kept_rows c.in-Ok.kept) loaded.of_rows in
     let rows = c.in-Ok-into_log.rows in
