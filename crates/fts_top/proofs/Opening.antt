@@ -1,5 +1,5 @@
 -- Why no database was opened, and what is made.
-use Rattle.std.proofs.Common.{◌≡◌, ℕ, List, [], refl, inl, inr, subst}
+use Rattle.std.proofs.Common.{◌≡◌, ℕ, List, [], IsTrue, refl, inl, inr, subst}
 use Rattle.fts_types.specs.declared.settings.Settings.{Settings}
 use Rattle.fts_steps.specs.State.{State, IsCreated, IsDatabase, IsRight, IsRows, IsIndex, created_with}
 use Rattle.fts_steps.proofs.Growing.{none_right}
@@ -12,31 +12,34 @@ use Rattle.fts_engine.proofs.Single.{one_rows}
 use Rattle.fts_top.specs.declared.ends.RunEnd.{RunEnd}
 use Rattle.fts_top.specs.declared.ends.RunEnd.TheVariants as end
 use Rattle.fts_top.specs.Ends.{status_of_opening, status_of_run}
-use Rattle.fts_top.specs.Once.{IsWhy, Finishes}
+use Rattle.fts_engine.specs.Devices.{Devices, Disks, DisksTell}
+use Rattle.fts_top.specs.Once.{DisksHold, IsWhy, Finishes}
 
 -- why no database was opened, by its cases
-pub is_why : (error : OpenError) (rows index : List ℕ) → (error ≡ opening.NotCreated → IsCreated rows → ⊥)
-    → ((file at : ℕ) → error ≡ opening.Damaged Rows file at → (file ≡ 0) × IsDamaged at rows)
-    → ((file at : ℕ) → error ≡ opening.Damaged Index file at → (file ≡ 0) × IsIndexDamaged at rows index) → IsWhy error rows index
-is_why opening.NotCreated rows index not_created of_rows of_index = not_created refl
-is_why (opening.Damaged Rows file at) rows index not_created of_rows of_index = of_rows file at refl
-is_why (opening.Damaged Index file at) rows index not_created of_rows of_index = of_index file at refl
-is_why opening.NoMemory rows index not_created of_rows of_index = tt
-is_why opening.DiskFault rows index not_created of_rows of_index = tt
+module _ {D E : Type 0} (disks : Disks D E) (here : Devices D E) where
+  pub is_why : (error : OpenError) → (error ≡ opening.NotCreated → IsTrue disks.rows.tells → IsCreated (disks.rows.seen here.rows 0) → ⊥)
+      → ((file at : ℕ) → error ≡ opening.Damaged Rows file at → (file ≡ 0) × (IsTrue disks.rows.tells → IsDamaged at (disks.rows.seen here.rows 0)))
+      → ((file at : ℕ) → error ≡ opening.Damaged Index file at
+      → (file ≡ 0) × (IsTrue disks.rows.tells → IsTrue disks.index.tells → IsIndexDamaged at (disks.rows.seen here.rows 0) (disks.index.seen here.index 0)))
+      → IsWhy disks error here
+  is_why opening.NotCreated not_created of_rows of_index = not_created refl
+  is_why (opening.Damaged Rows file at) not_created of_rows of_index = of_rows file at refl
+  is_why (opening.Damaged Index file at) not_created of_rows of_index =
+      let damaged = of_index file at refl in (damaged.0, λ tells. damaged.1 tells.0 tells.1)
+  is_why opening.NoMemory not_created of_rows of_index = tt
+  is_why opening.DiskFault not_created of_rows of_index = tt
 
--- ---- what stands in the way of an opening
-
--- a database is opened, unless memory runs out or a device fails
-pub can_open : (error : OpenError) (rows index : List ℕ) (state : State) → IsDatabase state rows index → IsWhy error rows index → (error ≡ opening.DiskFault → ⊥)
-    → Finishes (status_of_opening error)
-can_open opening.NotCreated rows index state database why calm = absurd (why (is_created state rows database.of_rows))
-can_open (opening.Damaged Rows file place) rows index state database why calm = absurd (why.1.none state database.of_rows)
-can_open (opening.Damaged Index file place) rows index state database why calm =
-    let damaged = why.1 in
-    let same = one_rows state damaged.state rows database.of_rows damaged.of_rows in
-    absurd (not_at_fault damaged.state state place index same.0 same.1 database.of_index damaged.place)
-can_open opening.NoMemory rows index state database why calm = inr refl
-can_open opening.DiskFault rows index state database why calm = absurd (calm refl)
+  -- what stands in the way of an opening: a database is opened, unless memory runs out or a device fails
+  pub can_open : (error : OpenError) → DisksTell disks → (state : State) → DisksHold disks state here → IsWhy disks error here → (error ≡ opening.DiskFault → ⊥)
+      → Finishes (status_of_opening error)
+  can_open opening.NotCreated tells state database why calm = absurd (why tells.0 (is_created state (disks.rows.seen here.rows 0) database.of_rows))
+  can_open (opening.Damaged Rows file place) tells state database why calm = absurd ((why.1 tells.0).none state database.of_rows)
+  can_open (opening.Damaged Index file place) tells state database why calm =
+      let damaged = why.1 tells in
+      let same = one_rows state damaged.state (disks.rows.seen here.rows 0) database.of_rows damaged.of_rows in
+      absurd (not_at_fault damaged.state state place (disks.index.seen here.index 0) same.0 same.1 database.of_index damaged.place)
+  can_open opening.NoMemory tells state database why calm = inr refl
+  can_open opening.DiskFault tells state database why calm = absurd (calm refl)
 
 -- a script is executed to its end, unless a fault, its length or its sessions end it
 pub run_finishes : (ended : RunEnd) → (ended ≡ end.ReadFault → ⊥) → (ended ≡ end.WriteFault → ⊥) → (ended ≡ end.DiskFault → ⊥)

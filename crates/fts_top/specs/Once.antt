@@ -2,7 +2,7 @@ use Rattle.std.specs.Prelude.{◌≡◌, ◌⊎◌, ◌≤◌, ◌^◌, Bool, �
 use Rattle.fts_io.specs.Text.{Line, lines_of}
 use Rattle.fts_top.specs.Sessions.{AreOf, IsCrowded}
 use Rattle.fts_steps.specs.FaultCounts.{OneRose, CountsFaultOf}
-use Rattle.fts_steps.specs.State.{State, IsDatabase, IsRight, IsCreated, created_with}
+use Rattle.fts_steps.specs.State.{State, IsRows, IsIndex, IsDatabase, IsRight, IsCreated, created_with}
 use Rattle.fts_steps.specs.Running.{opened}
 use Rattle.fts_types.specs.declared.limits.Limits.{Limits}
 use Rattle.fts_types.specs.declared.settings.Settings.{Settings}
@@ -88,22 +88,27 @@ pub record Executed {D E : Type 0} (disks : Disks D E) (limits : Limits) (end : 
   pub fault : IsRead end
       → CountsFaultOf (end ≡ run_end.DiskFault) (disk_faults disks before.devices) (disk_faults disks after.devices)
 
--- why no database was opened
-abbrev pub IsWhy : OpenError → List ℕ → List ℕ → Type 0
-IsWhy opening.NotCreated rows index = IsCreated rows → ⊥
-IsWhy (opening.Damaged Rows file at) rows index = (file ≡ 0) × IsDamaged at rows
-IsWhy (opening.Damaged Index file at) rows index = (file ≡ 0) × IsIndexDamaged at rows index
-IsWhy opening.NoMemory rows index = Unit {0}
-IsWhy opening.DiskFault rows index = Unit {0}
+-- why no database was opened; what is said of the rows log alone needs a rows device that tells, and no more
+abbrev pub IsWhy : {D E : Type 0} → Disks D E → OpenError → Devices D E → Type 0
+IsWhy disks opening.NotCreated here = IsTrue disks.rows.tells → IsCreated (file_of disks.rows here.rows) → ⊥
+IsWhy disks (opening.Damaged Rows file at) here =
+    (file ≡ 0) × (IsTrue disks.rows.tells → IsDamaged at (file_of disks.rows here.rows))
+IsWhy disks (opening.Damaged Index file at) here = (file ≡ 0)
+    × (DisksTell disks → IsIndexDamaged at (file_of disks.rows here.rows) (file_of disks.index here.index))
+IsWhy disks opening.NoMemory here = Unit {0}
+IsWhy disks opening.DiskFault here = Unit {0}
 
--- no database was opened, for this cause; `unused` says that the source and the sink are as they were. The devices were
--- only looked at
+-- each device reads as before, and a crash leaves what it could leave
+pub record OnlyLooked {D E : Type 0} (disks : Disks D E) (before after : Devices D E) : Type 0 where
+  pub rows : IsTrue disks.rows.tells → Looks disks.rows before.rows after.rows
+  pub index : IsTrue disks.index.tells → Looks disks.index before.index after.index
+
+-- no database was opened, for this cause; `unused` says that the source and the sink are as they were
 pub record Unopened {D E : Type 0} (disks : Disks D E) (error : OpenError) (unused : Type 0)
     (before after : Devices D E) : Type 0 where
   pub untouched : unused
-  pub rows : IsTrue disks.rows.tells → Looks disks.rows before.rows after.rows
-  pub index : IsTrue disks.index.tells → Looks disks.index before.index after.index
-  pub why : DisksTell disks → IsWhy error (file_of disks.rows before.rows) (file_of disks.index before.index)
+  pub looked : OnlyLooked disks before after
+  pub why : IsWhy disks error before
   pub fault : CountsFaultOf (error ≡ opening.DiskFault) (disk_faults disks before) (disk_faults disks after)
 
 -- how `run` ended
@@ -117,33 +122,29 @@ RunEnds disks limits result unused before after =
 abbrev pub created_text : List ℕ
 created_text = codes "OK created" ++ 10 ∷ []
 
--- a database without commits was made where none was created, and a crash leaves it. Its index is right
+-- the two logs of a database without commits were made where none was created, and a crash leaves each. The index is
+-- right
 pub record Made {D E : Type 0} (disks : Disks D E) (settings : Settings) (before after : Devices D E) : Type 0 where
-  pub fresh : IsCreated (file_of disks.rows before.rows) → ⊥
-  pub database : DisksHold disks (created_with settings) after
+  pub fresh : IsTrue disks.rows.tells → IsCreated (file_of disks.rows before.rows) → ⊥
+  pub rows : IsTrue disks.rows.tells → IsRows (created_with settings) (file_of disks.rows after.rows)
+      × Only (disks.rows.seen after.rows) (disks.rows.images after.rows)
+  pub index : IsTrue disks.index.tells → IsIndex (created_with settings) (file_of disks.index after.index)
+      × Only (disks.index.seen after.index) (disks.index.images after.index)
   pub right : IsRight (created_with settings)
-  pub rows : Only (disks.rows.seen after.rows) (disks.rows.images after.rows)
-  pub index : Only (disks.index.seen after.index) (disks.index.images after.index)
-
--- the devices read as before, and a crash leaves what it could leave
-abbrev pub OnlyLooked : {D E : Type 0} → Disks D E → Devices D E → Devices D E → Type 0
-OnlyLooked disks before after = Looks disks.rows before.rows after.rows × Looks disks.index before.index after.index
 
 -- what `create` has done to the sink and the devices; `unwritten` says that the sink is as it was
 abbrev pub Creates : {D E : Type 0} → Disks D E → CreateEnd → Settings → Type 0 → SinkSeen → SinkSeen → Devices D E
     → Devices D E → Type 0
-Creates disks create_end.Done settings unwritten sink sink' before after =
-    (DisksTell disks → Made disks settings before after)
+Creates disks create_end.Done settings unwritten sink sink' before after = Made disks settings before after
     × (IsTrue sink.tells → sink'.held ≡ sink.held ++ created_text)
-Creates disks create_end.WriteFault settings unwritten sink sink' before after =
-    (DisksTell disks → Made disks settings before after)
+Creates disks create_end.WriteFault settings unwritten sink sink' before after = Made disks settings before after
     × (IsTrue sink.tells → (n : ℕ) × (sink'.held ≡ sink.held ++ take n created_text))
 Creates disks create_end.AlreadyCreated settings unwritten sink sink' before after = unwritten
     × (IsTrue disks.rows.tells → IsCreated (file_of disks.rows before.rows))
-    × (DisksTell disks → OnlyLooked disks before after)
+    × OnlyLooked disks before after
 Creates disks create_end.NoMemory settings unwritten sink sink' before after = unwritten × (after ≡ before)
 Creates disks create_end.DiskFault settings unwritten sink sink' before after = unwritten
-    × (DisksTell disks → IsCreated (file_of disks.rows before.rows) → OnlyLooked disks before after)
+    × (IsTrue disks.rows.tells → IsCreated (file_of disks.rows before.rows) → OnlyLooked disks before after)
 
 -- how `create` ended
 pub record CreateEnds {D E : Type 0} (disks : Disks D E) (result : Status) (settings : Settings) (unwritten : Type 0)

@@ -63,10 +63,8 @@ returns-in-Ok-clause-generated g c =
 pub returns-in-Err-clause-unopened : goal.returns-in-Err-clause-unopened
 returns-in-Err-clause-unopened g c = record {
   untouched = refl;
-  rows = c.in-Err.ensures.looks_rows;
-  index = c.in-Err.ensures.looks_index;
-  why = λ tells. is_why c.in-Err.error (g.D.Disk.seen c.args.rows 0) (g.E.Disk.seen c.args.index 0) (λ e. c.in-Err.ensures.not_created e tells.0)
-      (λ file at_ e. let damaged = c.in-Err.ensures.damaged_rows file at_ e in (damaged.0, damaged.1 tells.0 tells.1))
-      (λ file at_ e. let damaged = c.in-Err.ensures.damaged_index file at_ e in (damaged.0, damaged.1 tells.0 tells.1));
+  looked = record { rows = c.in-Err.ensures.looks_rows; index = c.in-Err.ensures.looks_index };
+  why = is_why (disks_of g.D.Disk g.E.Disk) (devices_of c.args.rows c.args.index) c.in-Err.error
+      c.in-Err.ensures.not_created c.in-Err.ensures.damaged_rows c.in-Err.ensures.damaged_index;
   fault = c.in-Err.ensures.faults;
 }

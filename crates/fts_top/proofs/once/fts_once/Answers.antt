@@ -80,7 +80,7 @@ returns-in-Err-end-clause-complete g c can calm =
     (⊎_elim
     (λ run.
     subst (λ (status : Status). Finishes status) (sym c.from-in-Err-end.ensures)
-    (can_open c.in-Err-end.error (g.D.Disk.seen c.args.rows 0) (g.E.Disk.seen c.args.index 0) run.3.0 run.3.1 (unopened.why run.2)
+    (can_open (disks_of g.D.Disk g.E.Disk) (devices_of c.args.rows c.args.index) c.in-Err-end.error run.2 run.3.0 run.3.1 unopened.why
     (λ fault. calm.disk (unopened.fault.rose fault))))
     (λ made. absurd (let same : Gen made.0.0 made.0.1 ≡ Run = asks_one words (Gen made.0.0 made.0.1) Run made.0.2 asked in cc)))
     can
@@ -125,6 +125,6 @@ returns-in-Err-end-2-clause-complete g c can calm =
     (λ run. absurd (let same : Run ≡ made = asks_one words Run made run.0 asked in cc))
     (λ can_open_it.
     subst (λ (status : Status). Finishes status) (sym c.from-in-Err-end-2.ensures)
-    (can_open c.in-Err-end-2.error (g.D.Disk.seen c.args.rows 0) (g.E.Disk.seen c.args.index 0) can_open_it.2.0 can_open_it.2.1 (unopened.why can_open_it.1)
+    (can_open (disks_of g.D.Disk g.E.Disk) (devices_of c.args.rows c.args.index) c.in-Err-end-2.error can_open_it.1 can_open_it.2.0 can_open_it.2.1 unopened.why
     (λ fault. calm.disk (unopened.fault.rose fault)))))
     can
