@@ -7,6 +7,7 @@ pub mod Unframed
 pub mod Bounds
 pub mod Refusing
 pub mod Stands
+pub mod Tally
 pub mod Devices
 pub mod Opening
 pub mod Covered

@@ -49,6 +49,7 @@ impl<D: Disk, E: Disk> Engine<D, E> {
     ghost use Rattle.fts_query.specs.Seen.{leaves_seen};
     ghost use Rattle.fts_steps.specs.Running.{Running};
     ghost use Rattle.fts_engine.specs.Stands.{Keeps, Holds, engine_sight, engine_settings};
+    ghost use Rattle.fts_engine.specs.Tally.{Counts, tally};
     ghost use Rattle.fts_engine.specs.Stands.{rows_log, index_log, rows_device, index_device};
 
     /// Makes a commit of these changes, and returns its number, from 1. The changes fit the table:
@@ -71,6 +72,8 @@ impl<D: Disk, E: Disk> Engine<D, E> {
     pub fn commit(&mut self, changes: &[Change]) -> Result<u64, CommitError>
         requires { CanCommit (length (engine_settings self.old).columns) changes.now }
         ensures steps { Steps engine_sight (to_commit changes.now) (commit_answer_of result)
+            self.old self.new }
+        ensures counts { Counts (to_commit changes.now) (commit_answer_of result)
             self.old self.new }
         ensures durable { OnOk result (IsTrue D.tells
             → Only (D.seen (rows_device self.new)) (D.images (rows_device self.new))) }
@@ -146,6 +149,7 @@ impl<D: Disk, E: Disk> Engine<D, E> {
     ///   Whether the batch is in the log is known from a new opening alone.
     pub fn sync_batch(&mut self) -> Result<SyncBatch, IndexError>
         ensures steps { Steps engine_sight to_sync (sync_answer_of result) self.old self.new }
+        ensures counts { Counts to_sync (sync_answer_of result) self.old self.new }
         ensures durable { IsTrue (writes (sync_answer_of result)) → IsTrue E.tells
             → Only (E.seen (index_device self.new)) (E.images (index_device self.new)) }
         ensures untouched { writes (sync_answer_of result) ≡ false
@@ -242,6 +246,18 @@ impl<D: Disk, E: Disk> Engine<D, E> {
         ensures state { (state : State) → Keeps state self.now → result ≡ length state.entries }
     {
         self.index.count()
+    }
+
+    /// How many commits and entries of the index log there are, and one more where a fault stopped
+    /// the engine.
+    pub fn tally(&self) -> u64
+        ensures { result ≡ tally self.now }
+    {
+        let stops = match self.stopped {
+            None => 0,
+            Some(_) => 1,
+        };
+        self.rows.count() + self.index.count() + stops
     }
 
     /// The settings with which the database was created.

@@ -90,6 +90,7 @@ fn framed_step<D: Disk>(alloc: Global, log: &Log<D>, plan: &PassPlan) -> Result<
 impl<D: Disk, E: Disk> Engine<D, E> {
     ghost use Rattle.fts_disk.specs.Crash.{Only};
     ghost use Rattle.fts_engine.specs.Stands.{engine_sight, rows_log, index_log, index_device};
+    ghost use Rattle.fts_engine.specs.Tally.{Counts};
 
     /// Makes the next step of OPTIMIZE. Where no pass is open, one begins, over the ids of DELETED;
     /// else the next word of the tables, in byte order, gets its nodes anew: its documents without
@@ -106,6 +107,7 @@ impl<D: Disk, E: Disk> Engine<D, E> {
     pub fn optimize_step(&mut self) -> Result<OptimizeStep, IndexError>
         ensures steps { Steps engine_sight to_optimize (optimize_answer_of result)
             self.old self.new }
+        ensures counts { Counts to_optimize (optimize_answer_of result) self.old self.new }
         ensures durable { IsTrue (writes (optimize_answer_of result)) → IsTrue E.tells
             → Only (E.seen (index_device self.new)) (E.images (index_device self.new)) }
         ensures untouched { writes (optimize_answer_of result) ≡ false

@@ -1,5 +1,6 @@
 -- What a log stands for.
-use Rattle.std.specs.Prelude.{◌≡◌, ℕ, ◌+◌, List, length, take, Result, Ok, Err, IfOk, OnOk, OnErr}
+use Rattle.std.specs.Prelude.{◌≡◌, ◌≤◌, ℕ, ◌+◌, ◌*◌, ◌^◌, List, length, take, Result, Ok, Err, IfOk, OnOk, OnErr}
+use Rattle.std.proofs.Common.{arith}
 use Rattle.fts_disk.specs.Crash.{OnlyIn}
 use Rattle.fts_disk.specs.declared.disk.Disk.{Ghosts}
 use Rattle.fts_log.specs.declared.log.Log.{Log}
@@ -83,3 +84,7 @@ pub record StandsFor {D : Type 0} {disk : Ghosts D} (entries : List (List ℕ)) 
   pub count : count_of log ≡ length entries
   pub durable : OnlyIn 0 (disk.seen (device_of log)) (disk.images (device_of log))
   pub ends : found_ends log ≡ take (found_count log) (ends_from (length (magic_of log)) entries)
+
+-- a log has few entries, since each takes five bytes
+pub few_entries : {D : Type 0} {disk : Ghosts D} (log : Log D disk) → 5 * count_of log ≤ 2 ^ 63
+few_entries log = omega (arith, log.spaced, log.ends_within)

@@ -1,5 +1,5 @@
 //! What an opening found.
-ghost use Rattle.std.specs.Prelude.{◌≡◌, ◌+◌, ◌-◌, ◌^◌, ◌<◌, ◌≤◌, length, slice_index};
+ghost use Rattle.std.specs.Prelude.{◌≡◌, ◌+◌, ◌*◌, ◌-◌, ◌^◌, ◌<◌, ◌≤◌, length, slice_index};
 ghost use Rattle.fts_log.specs.Place.{start_of, AreWithin, IsSpaced};
 
 use std::alloc::Global;
@@ -16,7 +16,7 @@ pub(crate) struct Found {
     pub(crate) gate: u64,
     pub(crate) is_whole: bool,
     ghost spaced: { IsSpaced ends.items },
-    ghost few: { length ends.items ≤ gate },
+    ghost few: { 5 * length ends.items ≤ gate },
     ghost within: { gate < 2 ^ 63 },
     ghost before: { AreWithin (gate + 1) ends.items },
 }

@@ -1,5 +1,5 @@
 //! The log and its calls.
-ghost use Rattle.std.specs.Prelude.{◌≡◌, ℕ, List, ◌+◌, ◌^◌, ◌<◌, ◌≤◌, ◌++◌, [], ◌∷◌, ◌↔◌};
+ghost use Rattle.std.specs.Prelude.{◌≡◌, ℕ, List, ◌+◌, ◌*◌, ◌^◌, ◌<◌, ◌≤◌, ◌++◌, [], ◌∷◌, ◌↔◌};
 ghost use Rattle.std.specs.Prelude.{length, IsTrue, IfOk, OnOk, IsErrOf, slice_index_or};
 ghost use Rattle.fts_faults.specs.Count.{CountsFault};
 ghost use Rattle.fts_log.specs.Place.{AreWithin};
@@ -25,7 +25,7 @@ pub struct Log<D: Disk> {
     ghost whole_magic: { length magic ≡ 8 },
     ghost limited: { limit ≤ 2 ^ 32 },
     ghost ends_within: { end ≤ 2 ^ 63 },
-    ghost counted: { count ≤ end },
+    ghost spaced: { 5 * count ≤ end },
     ghost closed: { 0 < end },
     ghost reaches: { IsTrue D.tells → end ≤ length (D.seen device 0) },
     ghost found_within: { AreWithin end (ends_in found) },

@@ -1,4 +1,4 @@
-use Rattle.std.proofs.Common.{◌≡◌, ℕ, List, ◌-◌, ◌≤◌, length, IsTrue}
+use Rattle.std.proofs.Common.{◌≡◌, ℕ, List, ◌*◌, ◌-◌, ◌≤◌, length, IsTrue}
 use Rattle.fts_disk.specs.Moments.{Looks}
 use Rattle.fts_log.specs.Place.{start_of, IsSpaced}
 use Rattle.fts_log.specs.Scan.{Shows}
@@ -10,7 +10,7 @@ invariant-records g l = record {
   within : l.at ≤ l.file_length;
   spaced : IsSpaced l.ends.items;
   last : l.at ≡ start_of l.ends.items (length l.ends.items);
-  few : length l.ends.items ≤ l.at;
+  few : 5 * length l.ends.items ≤ l.at;
   shown : IsTrue g.D.Disk.tells → Shows l.window (g.D.Disk.seen l.fn.device 0);
   scanned : IsTrue g.D.Disk.tells → (entries : List (List ℕ)) × IsScanned (g.D.Disk.seen l.fn.device 0) l.at l.ends.items entries;
   looks : IsTrue g.D.Disk.tells → Looks g.D.Disk l.fn.device l.device;
