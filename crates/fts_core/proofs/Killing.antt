@@ -10,7 +10,7 @@ use Rattle.fts_disk.specs.declared.disk.Disk.{Ghosts}
 use Rattle.fts_entries.specs.Entry.{IndexEntry}
 use Rattle.fts_steps.specs.State.{State, with_commits, with_entries, HasEntries, IsRight, IsRows, IsIndex}
 use Rattle.fts_steps.specs.Right.{HasRightIndex, IsWithOrWithout}
-use Rattle.fts_steps.specs.Running.{Running, What, made, batched, optimized, failed, batch_failed, optimize_failed, Entry, with_what, grown, next_batch, next_optimized, opened}
+use Rattle.fts_steps.specs.Running.{Running, What, made, batched, optimized, failed, batch_failed, optimize_failed, read_failed, Entry, with_what, grown, next_batch, next_optimized, opened}
 use Rattle.fts_steps.specs.Crash.{MayHold, MayHoldIndex, IsBetween, IsIndexBetween}
 use Rattle.fts_steps.specs.Step.{Ask, Answer, Call, StepOf, Traced, Runs, changes_of, after, after_call}
 use Rattle.fts_steps.proofs.Adding.{Adds, with_both, rows_stay, index_stay, adds_call, grown_call, earlier, earlier_index}
@@ -128,6 +128,17 @@ module _ (known : AllKnown) (limits : Limits) (running : Running) (real : IsReal
     one = real.one;
     one' = (next_is_step running.state.entries running.index).one;
     right = right_undone known limits running real (optimize_failed faults) going entries;
+    over = λ front more rest file added index. index_stay (with_entries running.state more) front file index;
+  }
+  one_undone (read_failed faults) may = record {
+    settings = refl;
+    commits = refl;
+    entries = refl;
+    rows = refl;
+    index = refl;
+    one = real.one;
+    one' = real.one';
+    right = real.right;
     over = λ front more rest file added index. index_stay (with_entries running.state more) front file index;
   }
 

@@ -10,9 +10,9 @@ use Rattle.fts_entries.specs.Batch.{after_batch, next_entry}
 use Rattle.fts_entries.proofs.Next.{is_next}
 use Rattle.fts_steps.specs.State.{State, with_entries, turns_of, index_state, HasEntries}
 use Rattle.fts_steps.specs.Right.{HasRightIndex}
-use Rattle.fts_steps.specs.Running.{Running, What, made, batched, optimized, failed, batch_failed, optimize_failed, with_what, next_batch, next_optimized, IsSure}
+use Rattle.fts_steps.specs.Running.{Running, What, made, batched, optimized, failed, batch_failed, optimize_failed, read_failed, with_what, next_batch, next_optimized, IsSure}
 use Rattle.fts_steps.specs.declared.optimize.OptimizeStep.TheVariants.{Began, Word, Finished, Nothing}
-use Rattle.fts_steps.specs.Step.{Ask, to_commit, to_sync, to_optimize, to_view, to_find, to_list, to_measure, Answer, committed, refused, full, flushed, all_flushed, passed, viewed, found, listed, measured}
+use Rattle.fts_steps.specs.Step.{Ask, to_commit, to_sync, to_optimize, to_view, to_find, to_list, to_measure, Answer, committed, refused, full, flushed, all_flushed, passed, viewed, found, listed, measured, read_changes}
 use Rattle.fts_steps.specs.Step.{disk_fault, stopped, no_memory, MayAnswer, plain_answer, would_write, changes_of}
 use Rattle.fts_steps.proofs.Adding.{one_answer}
 use Rattle.fts_steps.proofs.Growing.{batch_leaves, index_stays, right_stays}
@@ -37,6 +37,7 @@ MayAdd limits running optimized = running.stopped ≡ None
 MayAdd limits running (failed faults doubt) = (running.stopped ≡ None) × ((commit : Commit) × (doubt ≡ commit ∷ []))
 MayAdd limits running (batch_failed faults) = (running.stopped ≡ None) × IsTrue (would_write (plain_answer limits running to_sync))
 MayAdd limits running (optimize_failed faults) = running.stopped ≡ None
+MayAdd limits running (read_failed faults) = Unit {0}
 
 abbrev pub AddsOne : Limits → Running → Ask → Answer → Type 0
 AddsOne limits running ask answer = (changes_of ask answer ≡ []) ⊎ ((what : What) × (changes_of ask answer ≡ what ∷ []) × MayAdd limits running what)
@@ -44,6 +45,22 @@ AddsOne limits running ask answer = (changes_of ask answer ≡ []) ⊎ ((what : 
 wrote : (limits : Limits) (running : Running) (answer : Answer) → plain_answer limits running to_sync ≡ Some answer → IsTrue (would_write (Some answer))
     → IsTrue (would_write (plain_answer limits running to_sync))
 wrote limits running answer is writes_ = subst (λ (a : Option Answer). IsTrue (would_write a)) (sym is) writes_
+
+-- a step that reads adds nothing, or the fault of its read
+adds_read : (limits : Limits) (running : Running) (answer : Answer) → (read_changes answer ≡ []) ⊎ ((what : What) × (read_changes answer ≡ what ∷ []) × MayAdd limits running what)
+adds_read limits running (disk_fault faults) = inr (read_failed faults, refl, tt)
+adds_read limits running (committed number) = inl refl
+adds_read limits running (refused why) = inl refl
+adds_read limits running (full end_) = inl refl
+adds_read limits running (flushed through commits) = inl refl
+adds_read limits running (all_flushed commits) = inl refl
+adds_read limits running (passed step) = inl refl
+adds_read limits running (viewed view) = inl refl
+adds_read limits running (found number docs) = inl refl
+adds_read limits running (listed number listing) = inl refl
+adds_read limits running (measured size) = inl refl
+adds_read limits running (stopped faults) = inl refl
+adds_read limits running no_memory = inl refl
 
 pub adds_one : (limits : Limits) (running : Running) (ask : Ask) (answer : Answer) → MayAnswer limits running ask answer → AddsOne limits running ask answer
 adds_one limits running (to_commit commit) (committed number) may = inr (made commit, refl, told_goes running.stopped _ (committed number) (one_answer _ _ may) refl)
@@ -89,9 +106,9 @@ adds_one limits running to_optimize (listed number listing) may = inl refl
 adds_one limits running to_optimize (measured size) may = inl refl
 adds_one limits running to_optimize (stopped faults) may = inl refl
 adds_one limits running to_optimize no_memory may = inl refl
-adds_one limits running (to_view asked) answer may = inl refl
-adds_one limits running (to_find terms) answer may = inl refl
-adds_one limits running (to_list kind) answer may = inl refl
+adds_one limits running (to_view asked) answer may = adds_read limits running answer
+adds_one limits running (to_find terms) answer may = adds_read limits running answer
+adds_one limits running (to_list kind) answer may = adds_read limits running answer
 adds_one limits running to_measure answer may = inl refl
 
 -- ---- what is real behind it
@@ -158,6 +175,7 @@ module _ (known : AllKnown) (limits : Limits) (running : Running) (real : IsReal
     right = loose_right (with_what running (optimize_failed faults)) (next_optimized running) (real.sure going).0 refl real.right.right
         (λ has. step_more known running (entries going) real.right.right has);
   }
+  real_behind (read_failed faults) may entries entries' = real
 
   -- what stands if the answer counts as not given is right too
   pub right_undone : (what : What) → MayAdd limits running what → (running.stopped ≡ None → HasEntries running.state) → HasRightIndex (doubting running what)
@@ -171,3 +189,4 @@ module _ (known : AllKnown) (limits : Limits) (running : Running) (real : IsReal
       (λ has. batch_more known limits running real.left wrote_ (entries going) real.right.right)
   right_undone (optimize_failed faults) going entries = loose_right (with_what running (optimize_failed faults)) (next_optimized running) (real.sure going).0 refl real.right.right
       (λ has. step_more known running (entries going) real.right.right has)
+  right_undone (read_failed faults) may entries = real.right

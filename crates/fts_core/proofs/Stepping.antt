@@ -25,7 +25,7 @@ use Rattle.fts_steps.specs.declared.optimize.OptimizeStep.{OptimizeStep}
 use Rattle.fts_steps.specs.declared.optimize.OptimizeStep.TheVariants as optimize
 use Rattle.fts_steps.specs.Running.{made, failed, optimized, with_what, next_batch, next_optimized, next_index}
 use Rattle.fts_steps.specs.Step.{Ask, to_commit, to_sync, to_optimize, to_view, to_list, Answer, MayAnswer, committed, disk_fault, flushed, passed, after, changes_of, is_disk_fault, writes, would_write}
-use Rattle.fts_steps.proofs.Adding.{one_answer}
+use Rattle.fts_steps.proofs.Adding.{one_answer, no_read_fault}
 use Rattle.fts_steps.specs.Step as step
 use Rattle.fts_steps.specs.Answers.{commit_answer_of, sync_answer_of, optimize_answer_of, view_answer_of, listing_answer_of}
 use Rattle.fts_engine.specs.declared.engine.Engine.{Engine}
@@ -247,16 +247,16 @@ module _ {D E : Type 0} {disk : Ghosts D} {disk' : Ghosts E} (h : IsHonest disk)
         (record { next = stepped.next; turns = stepped.turns; fits = stepped.still })
 
     pub turned_view : (asked : Vec Leaf Global) (result : Result View (ViewError × Vec Leaf Global)) → step.Steps engine_sight (to_view (leaves_seen asked.items)) (view_answer_of result) old new
-        → rows_log new ≡ rows_log old → index_log new ≡ index_log old → Turned (event.View asked) (outcome.Viewed result) core old_world world
-    turned_view asked result steps same same' =
-        let stepped = keeps (to_view (leaves_seen asked.items)) (view_answer_of result) steps refl same same' in
+        → is_disk_fault (view_answer_of result) ≡ false → rows_log new ≡ rows_log old → index_log new ≡ index_log old → Turned (event.View asked) (outcome.Viewed result) core old_world world
+    turned_view asked result steps calm same same' =
+        let stepped = keeps (to_view (leaves_seen asked.items)) (view_answer_of result) steps (no_read_fault (view_answer_of result) calm) same same' in
         subst (λ (w : World D E disk disk'). Turned (event.View asked) (outcome.Viewed result) core old_world w) (sym is)
         (record { next = stepped.next; turns = stepped.turns; fits = stepped.still })
 
     pub turned_listing : (kind : ListingKind) (result : Result NumberedListing ViewError) → step.Steps engine_sight (to_list kind) (listing_answer_of result) old new
-        → rows_log new ≡ rows_log old → index_log new ≡ index_log old → Turned (event.Listing kind) (outcome.Listed result) core old_world world
-    turned_listing kind result steps same same' =
-        let stepped = keeps (to_list kind) (listing_answer_of result) steps refl same same' in
+        → is_disk_fault (listing_answer_of result) ≡ false → rows_log new ≡ rows_log old → index_log new ≡ index_log old → Turned (event.Listing kind) (outcome.Listed result) core old_world world
+    turned_listing kind result steps calm same same' =
+        let stepped = keeps (to_list kind) (listing_answer_of result) steps (no_read_fault (listing_answer_of result) calm) same same' in
         subst (λ (w : World D E disk disk'). Turned (event.Listing kind) (outcome.Listed result) core old_world w) (sym is)
         (record { next = stepped.next; turns = stepped.turns; fits = stepped.still })
 

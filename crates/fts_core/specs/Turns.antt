@@ -8,7 +8,7 @@ use Rattle.fts_commits.specs.Fits.{CanCommit}
 use Rattle.fts_query.specs.Seen.{leaves_seen}
 use Rattle.fts_steps.specs.State.{State}
 use Rattle.fts_steps.specs.Running.{Running, What, made, batched, optimized, failed, batch_failed, optimize_failed}
-use Rattle.fts_steps.specs.Running.{with_what, next_batch, next_optimized, opened}
+use Rattle.fts_steps.specs.Running.{read_failed, with_what, next_batch, next_optimized, opened}
 use Rattle.fts_steps.specs.Step.{Ask, to_commit, to_sync, to_optimize, to_view, to_list, Answer, MayAnswer, after}
 use Rattle.fts_steps.specs.Step.{changes_of}
 use Rattle.fts_steps.specs.Answers.{commit_answer_of, sync_answer_of, optimize_answer_of, view_answer_of}
@@ -34,6 +34,7 @@ doubting running optimized = record running { loose = next_optimized running }
 doubting running (failed faults doubt) = with_what running (failed faults doubt)
 doubting running (batch_failed faults) = with_what running (batch_failed faults)
 doubting running (optimize_failed faults) = with_what running (optimize_failed faults)
+doubting running (read_failed faults) = running
 
 -- a step of an engine that is open: it answers as it may on what stands, and that grows by what its answer adds. If the
 -- answer counts as not given, what it added is in doubt

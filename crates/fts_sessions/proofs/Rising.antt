@@ -3,7 +3,7 @@ use Rattle.std.proofs.Common.{◌≡◌, ℕ, ◌+◌, ◌-◌, ◌<◌, ◌≤�
 use Rattle.std.proofs.Math.Nat.{max-le, le-max_left}
 use Rattle.std.proofs.lemmas.Bool.Decides.{nat_tests}
 use Rattle.std.proofs.lemmas.List.{length_push, length-append, length-drop}
-use Rattle.std.specs.Prelude.{◌&&◌, if◌then◌else◌, Result, codes}
+use Rattle.std.specs.Prelude.{◌&&◌, if◌then◌else◌, Result, codes, fold}
 use Rattle.std.specs.Str.{str_eq_ignore_ascii_case}
 use Rattle.fts_types.specs.declared.limits.Limits.{Limits}
 use Rattle.fts_types.specs.declared.settings.Settings.{Settings}
@@ -11,7 +11,8 @@ use Rattle.fts_commits.specs.declared.change.Change.{Change}
 use Rattle.fts_commits.specs.declared.refusal.Refusal.{Refusal}
 use Rattle.fts_commits.specs.Commit.{Commit, Rows, after_commit, replay, no_rows}
 use Rattle.fts_commits.specs.Turn.{Turn}
-use Rattle.fts_entries.specs.Entry.{IndexEntry, unflushed}
+use Rattle.fts_entries.specs.Entry.{IndexEntry, IndexState, begun, after_entry, unflushed}
+use Rattle.fts_entries.specs.Pass.{pass_step, has_work, words_left, words_named}
 use Rattle.fts_entries.specs.Batch.{covers, covered_within}
 use Rattle.fts_engine.proofs.Indexing.{turns_count}
 use Rattle.fts_io.specs.Text.{Line}
@@ -22,9 +23,9 @@ use Rattle.fts_listing.specs.declared.listing.Listing.{Listing}
 use Rattle.fts_steps.specs.State.{turns_of, end_after, index_end_after}
 use Rattle.fts_steps.specs.declared.optimize.OptimizeStep.{OptimizeStep}
 use Rattle.fts_steps.specs.declared.optimize.OptimizeStep.TheVariants as did
-use Rattle.fts_steps.specs.Running.{Running, What, made, batched, optimized, failed, batch_failed, optimize_failed, Entry, with_what, grown, next_flushed, next_batch, next_optimized}
+use Rattle.fts_steps.specs.Running.{Running, What, made, batched, optimized, failed, batch_failed, optimize_failed, read_failed, Entry, with_what, grown, next_flushed, next_batch, next_optimized}
 use Rattle.fts_steps.specs.Step.{Ask, to_commit, to_sync, to_optimize, to_view, to_find, to_list, to_measure, Answer, committed, refused, full, flushed, all_flushed, passed, viewed, found, listed, measured, disk_fault, stopped, no_memory}
-use Rattle.fts_steps.specs.Step.{unless_full, unless_stopped, commit_answer, batch_answer, optimize_answer, plain_answer, step_of, Lists, Finds, MayAnswer, entries_of, after, Call, after_call, after_all, Follows, AreAlone}
+use Rattle.fts_steps.specs.Step.{unless_full, unless_stopped, commit_answer, batch_answer, optimize_answer, plain_answer, step_of, Lists, Finds, MayAnswer, entries_of, after, Call, after_call, after_all, Follows}
 use Rattle.fts_sessions.specs.Query.{Search, looks_for, too_long, syntax_at, too_deep_at}
 use Rattle.fts_sessions.specs.Request.{Request, opens, closes, rolls_back, changes, searches, syncs, optimizes, lists, blank, unknown, unread}
 use Rattle.fts_sessions.specs.Table.{are_names, first_unknown, table_named, columns_named, change_of}
@@ -48,6 +49,7 @@ more_commits running optimized = omega arith
 more_commits running (failed faults doubt) = omega arith
 more_commits running (batch_failed faults) = omega arith
 more_commits running (optimize_failed faults) = omega arith
+more_commits running (read_failed faults) = omega arith
 
 grown_commits : (running : Running) (entries : List Entry) → count_of running ≤ count_of (grown running entries)
 grown_commits running [] = omega arith
@@ -171,6 +173,10 @@ answer_tells limits running ask (measured size) may = tt
 answer_tells limits running ask (disk_fault faults) may = tt
 answer_tells limits running ask (stopped faults) may = tt
 answer_tells limits running ask no_memory may = tt
+
+-- a commit has the next number
+pub commit_counts : (limits : Limits) (running : Running) (commit : Commit) (number : ℕ) → MayAnswer limits running (to_commit commit) (committed number) → number ≡ count_of running + 1
+commit_counts limits running commit number may = (answer_tells limits running (to_commit commit) (committed number) may).0
 
 -- ---- what a reply tells
 
@@ -350,13 +356,13 @@ no_batch : (ask : Ask) → IsPlainAsk ask → ask ≡ to_sync → ⊥
 no_batch ask plain is = subst IsPlainAsk is plain
 
 module _ (limits : Limits) (settings : Settings) (transaction : Transaction) where
-  -- a call with nobody else before it
+  -- a call, whatever others added before it
   call_rises : (tell : Answer → Reply)
       → ((running : Running) (seen : ℕ) (ask : Ask) (answer : Answer) → seen ≤ count_of running → (ask ≡ to_sync → (through commits : ℕ) → answer ≡ flushed through commits → ⊥)
       → Tells running ask answer → Rises seen (count_of (after running ask answer)) (tell answer))
-      → (running : Running) (seen : ℕ) (call : Call) → seen ≤ count_of running → call.more ≡ [] → (call.ask ≡ to_sync → (through commits : ℕ) → call.answer ≡ flushed through commits → ⊥)
+      → (running : Running) (seen : ℕ) (call : Call) → seen ≤ count_of running → (call.ask ≡ to_sync → (through commits : ℕ) → call.answer ≡ flushed through commits → ⊥)
       → MayAnswer limits (grown running call.more) call.ask call.answer → Rises seen (count_of (after_call running call)) (tell call.answer)
-  call_rises tell rises running seen call less alone other may =
+  call_rises tell rises running seen call less other may =
       let before = grown_commits running call.more in
       rises (grown running call.more) seen call.ask call.answer (omega (arith, less, before)) other (answer_tells limits (grown running call.more) call.ask call.answer may)
 
@@ -364,13 +370,13 @@ module _ (limits : Limits) (settings : Settings) (transaction : Transaction) whe
       → ((running : Running) (seen : ℕ) (ask : Ask) (answer : Answer) → seen ≤ count_of running → (ask ≡ to_sync → (through commits : ℕ) → answer ≡ flushed through commits → ⊥)
       → Tells running ask answer → Rises seen (count_of (after running ask answer)) (tell answer))
       → (running : Running) (seen : ℕ) (calls : List Call) (told : Reply) → seen ≤ count_of running → Converses settings transaction request [] calls told
-      → AreAlone calls → Follows limits running calls → Rises seen (count_of (after_all running calls)) told
-  one_step request tell good tells rises running seen [] told less says alone follows =
+      → Follows limits running calls → Rises seen (count_of (after_all running calls)) told
+  one_step request tell good tells rises running seen [] told less says follows =
       quiet_rises seen (count_of running) told (subst IsGood says good)
-  one_step request tell good tells rises running seen (call ∷ []) told less says alone follows =
+  one_step request tell good tells rises running seen (call ∷ []) told less says follows =
       subst (λ (r : Reply). Rises seen (count_of (after_call running call)) r) (one_end (tell call.answer) told (sym (tells call.answer) ∙ says.1))
-      (call_rises tell rises running seen call less alone.0 (λ is through commits flushes. no_batch call.ask (subst IsGood says.0 good) is) follows.0)
-  one_step request tell good tells rises running seen (call ∷ other ∷ calls) told less says alone follows =
+      (call_rises tell rises running seen call less (λ is through commits flushes. no_batch call.ask (subst IsGood says.0 good) is) follows.0)
+  one_step request tell good tells rises running seen (call ∷ other ∷ calls) told less says follows =
       absurd (no_end other.ask (tell call.answer) (sym says.1.0 ∙ tells call.answer))
 
   -- ---- an OPTIMIZE
@@ -411,30 +417,30 @@ module _ (limits : Limits) (settings : Settings) (transaction : Transaction) whe
 
   optimize_from : (table : List ℕ) (running : Running) (seen : ℕ) (first : Answer) (rest : List Answer) (calls : List Call) (told : Reply) → seen ≤ count_of running
       → Rises seen (count_of running) (reply_to (last_answer first rest)) → Converses settings transaction (optimizes table) (first ∷ rest) calls told
-      → AreAlone calls → Follows limits running calls → Rises seen (count_of (after_all running calls)) told
-  optimize_from table running seen first rest [] told less rises says alone follows =
+      → Follows limits running calls → Rises seen (count_of (after_all running calls)) told
+  optimize_from table running seen first rest [] told less rises says follows =
       subst (Ends seen (count_of running)) says
       (optimize_ends seen (count_of running) settings.optimize_words (length (first ∷ rest)) (words_in (first ∷ rest)) (last_answer first rest) rises)
-  optimize_from table running seen first rest (call ∷ calls) told less rises says alone follows =
+  optimize_from table running seen first rest (call ∷ calls) told less rises says follows =
       let asked : call.ask ≡ to_optimize = subst (Ends seen (count_of running)) says.0
       (optimize_ends seen (count_of running) settings.optimize_words (length (first ∷ rest)) (words_in (first ∷ rest)) (last_answer first rest) rises) in
       let more = call_commits running call in
       optimize_from table (after_call running call) seen first (rest ++ call.answer ∷ []) calls told (omega (arith, less, more))
       (subst (λ (a : Answer). Rises seen (count_of (after_call running call)) (reply_to a)) (sym (last_behind first rest call.answer))
-      (call_rises reply_to answer_rises running seen call less alone.0 (λ is. absurd (let no : to_optimize ≡ to_sync = sym asked ∙ is in cc)) follows.0))
-      says.1 alone.1 follows.1
+      (call_rises reply_to answer_rises running seen call less (λ is. absurd (let no : to_optimize ≡ to_sync = sym asked ∙ is in cc)) follows.0))
+      says.1 follows.1
 
   optimize_rises : (table : List ℕ) (running : Running) (seen : ℕ) (calls : List Call) (told : Reply) → seen ≤ count_of running → Converses settings transaction (optimizes table) [] calls told
-      → AreAlone calls → Follows limits running calls → Rises seen (count_of (after_all running calls)) told
-  optimize_rises table running seen [] told less says alone follows =
+      → Follows limits running calls → Rises seen (count_of (after_all running calls)) told
+  optimize_rises table running seen [] told less says follows =
       quiet_rises seen (count_of running) told
       (subst IsGood says (unless_good (unknown_name settings.columns table []) (asks to_optimize) (name_quiet settings.columns table []) tt))
-  optimize_rises table running seen (call ∷ calls) told less says alone follows =
+  optimize_rises table running seen (call ∷ calls) told less says follows =
       let plain : IsPlainAsk call.ask = subst IsGood says.0 (unless_good (unknown_name settings.columns table []) (asks to_optimize) (name_quiet settings.columns table []) tt) in
       let more = call_commits running call in
       optimize_from table (after_call running call) seen call.answer [] calls told (omega (arith, less, more))
-      (call_rises reply_to answer_rises running seen call less alone.0 (λ is through commits flushes. no_batch call.ask plain is) follows.0)
-      says.1 alone.1 follows.1
+      (call_rises reply_to answer_rises running seen call less (λ is through commits flushes. no_batch call.ask plain is) follows.0)
+      says.1 follows.1
 
   -- ---- a SYNC
 
@@ -461,10 +467,34 @@ module _ (limits : Limits) (settings : Settings) (transaction : Transaction) whe
       let few : covers limit left ≤ length left = max-le (omega (arith, less, all, count)) (covered_all limit 0 left) in
       omega (arith, less, all, count, few)
 
+  -- no step of a pass moves how far the index is flushed
+  steps_stay : (turns : List Turn) (s : IndexState) (ws : List (List ℕ)) (opened work : Bool)
+      → (fold (after_entry turns) s (if opened then pass_step s ws ∷ [] else if work then begun ∷ [] else [])).flushed ≡ s.flushed
+  steps_stay turns s [] true work = refl
+  steps_stay turns s (w ∷ ws) true work = refl
+  steps_stay turns s ws false true = refl
+  steps_stay turns s ws false false = refl
+
+  flushed_by : (running : Running) (what : What) → running.index.flushed ≤ (with_what running what).index.flushed
+  flushed_by running (made commit) = omega arith
+  flushed_by running batched = let one = flushes_one running in let more : running.index.flushed ≤ next_flushed running = omega (arith, one) in more
+  flushed_by running optimized =
+      let same = steps_stay (turns_of running.state) running.index (words_left running.index (words_named running.state.entries)) running.index.is_open (has_work running.index (words_named running.state.entries)) in
+      omega (arith, same)
+  flushed_by running (failed faults doubt) = omega arith
+  flushed_by running (batch_failed faults) = omega arith
+  flushed_by running (optimize_failed faults) = omega arith
+  flushed_by running (read_failed faults) = omega arith
+
+  flushed_more : (running : Running) (entries : List Entry) → running.index.flushed ≤ (grown running entries).index.flushed
+  flushed_more running [] = omega arith
+  flushed_more running (entry ∷ entries) =
+      let here = flushed_by running entry.what in let rest = flushed_more (with_what running entry.what) entries in omega (arith, here, rest)
+
   -- behind so many answers, the last of which flushed, as many commits are flushed at least, and all that the last one tells
   record IsFlushed (running : Running) (seen target k through : ℕ) : Type 0 where
     many : k ≤ through
-    flushed_is : running.index.flushed ≡ through
+    flushed_is : through ≤ running.index.flushed
     within : through ≤ count_of running
     goal : seen ≤ target
 
@@ -520,7 +550,7 @@ module _ (limits : Limits) (settings : Settings) (transaction : Transaction) whe
       let through_is = tells.1 in
       record {
         many = omega (arith, many, one, through_is);
-        flushed_is = sym through_is;
+        flushed_is = let done : through ≤ next_flushed running = omega (arith, through_is) in done;
         within = omega (arith, all, through_is);
         goal = goal;
       }
@@ -539,28 +569,28 @@ module _ (limits : Limits) (settings : Settings) (transaction : Transaction) whe
 
   sync_from : (running : Running) (seen : ℕ) (first : Answer) (rest : List Answer) (calls : List Call) (told : Reply) → seen ≤ count_of running
       → Flushes running seen (target_of first) (length (first ∷ rest)) (last_answer first rest) → Converses settings transaction syncs (first ∷ rest) calls told
-      → AreAlone calls → Follows limits running calls → Rises seen (count_of (after_all running calls)) told
-  sync_from running seen first rest [] told less far says alone follows =
+      → Follows limits running calls → Rises seen (count_of (after_all running calls)) told
+  sync_from running seen first rest [] told less far says follows =
       subst (EndsSync seen (count_of running)) says (sync_ends running seen (target_of first) (length (first ∷ rest)) (last_answer first rest) far)
-  sync_from running seen first rest (call ∷ calls) told less far says alone follows =
+  sync_from running seen first rest (call ∷ calls) told less far says follows =
       let more = call_commits running call in
       sync_from (after_call running call) seen first (rest ++ call.answer ∷ []) calls told (omega (arith, less, more))
-      (goes_on (last_answer first rest) far says.0) says.1 alone.1 follows.1
+      (goes_on (last_answer first rest) far says.0) says.1 follows.1
     where
       next_flushes : (through : ℕ) → IsFlushed running seen (target_of first) (length (first ∷ rest)) through → call.ask ≡ to_sync
           → Flushes (after_call running call) seen (target_of first) (length (first ∷ (rest ++ call.answer ∷ []))) (last_answer first (rest ++ call.answer ∷ []))
       next_flushes through is asked =
-          let may : MayAnswer limits running to_sync call.answer =
-          subst (λ (a : Ask). MayAnswer limits running a call.answer) asked
-          (subst (λ (more : List Entry). MayAnswer limits (grown running more) call.ask call.answer) alone.0 follows.0) in
+          let here = grown running call.more in
+          let may : MayAnswer limits (grown running call.more) to_sync call.answer = subst (λ (a : Ask). MayAnswer limits (grown running call.more) a call.answer) asked follows.0 in
           let many = is.many in
           let flushed_is = is.flushed_is in
-          let one = batch_more running seen (target_of first) (length (first ∷ rest)) 0 call.answer less is.goal (omega (arith, many, flushed_is)) may in
+          let further = flushed_more running call.more in
+          let commits = grown_commits running call.more in
+          let one = batch_more here seen (target_of first) (length (first ∷ rest)) 0 call.answer (omega (arith, less, commits)) is.goal (omega (arith, many, flushed_is, further)) may in
           let count : length (first ∷ rest) + 1 ≡ length (first ∷ (rest ++ call.answer ∷ [])) = (let all = length-append rest (call.answer ∷ []) in omega (arith, all)) in
           subst (λ (a : Answer). Flushes (after_call running call) seen (target_of first) (length (first ∷ (rest ++ call.answer ∷ []))) a) (sym (last_behind first rest call.answer))
           (subst (λ (n : ℕ). Flushes (after_call running call) seen (target_of first) n call.answer) count
-          (subst (λ (more : List Entry). Flushes (grown (grown running more) (entries_of 0 call.ask call.answer)) seen (target_of first) (length (first ∷ rest) + 1) call.answer) (sym alone.0)
-          (subst (λ (a : Ask). Flushes (after running a call.answer) seen (target_of first) (length (first ∷ rest) + 1) call.answer) (sym asked) one)))
+          (subst (λ (a : Ask). Flushes (after (grown running call.more) a call.answer) seen (target_of first) (length (first ∷ rest) + 1) call.answer) (sym asked) one))
 
       goes_on : (last : Answer) → Flushes running seen (target_of first) (length (first ∷ rest)) last → sync_next (target_of first) (length (first ∷ rest)) last ≡ asks call.ask
           → Flushes (after_call running call) seen (target_of first) (length (first ∷ (rest ++ call.answer ∷ []))) (last_answer first (rest ++ call.answer ∷ []))
@@ -601,23 +631,22 @@ module _ (limits : Limits) (settings : Settings) (transaction : Transaction) whe
   first_flushes running seen no_memory less may = answer_rises running seen to_sync no_memory less (λ is through commits flushes. cc) (answer_tells limits running to_sync no_memory may)
 
   sync_rises : (running : Running) (seen : ℕ) (calls : List Call) (told : Reply) → seen ≤ count_of running → Converses settings transaction syncs [] calls told
-      → AreAlone calls → Follows limits running calls → Rises seen (count_of (after_all running calls)) told
-  sync_rises running seen [] told less says alone follows = absurd (no_end to_sync told says)
-  sync_rises running seen (call ∷ calls) told less says alone follows =
+      → Follows limits running calls → Rises seen (count_of (after_all running calls)) told
+  sync_rises running seen [] told less says follows = absurd (no_end to_sync told says)
+  sync_rises running seen (call ∷ calls) told less says follows =
       let asked : call.ask ≡ to_sync = one_asked call.ask to_sync (sym says.0) in
-      let may : MayAnswer limits running to_sync call.answer =
-      subst (λ (a : Ask). MayAnswer limits running a call.answer) asked
-      (subst (λ (more : List Entry). MayAnswer limits (grown running more) call.ask call.answer) alone.0 follows.0) in
+      let may : MayAnswer limits (grown running call.more) to_sync call.answer = subst (λ (a : Ask). MayAnswer limits (grown running call.more) a call.answer) asked follows.0 in
+      let commits = grown_commits running call.more in
       let more = call_commits running call in
       sync_from (after_call running call) seen call.answer [] calls told (omega (arith, less, more))
-      (subst (λ (more : List Entry). Flushes (grown (grown running more) (entries_of 0 call.ask call.answer)) seen (target_of call.answer) 1 call.answer) (sym alone.0)
-      (subst (λ (a : Ask). Flushes (after running a call.answer) seen (target_of call.answer) 1 call.answer) (sym asked) (first_flushes running seen call.answer less may)))
-      says.1 alone.1 follows.1
+      (subst (λ (a : Ask). Flushes (after (grown running call.more) a call.answer) seen (target_of call.answer) 1 call.answer) (sym asked)
+      (first_flushes (grown running call.more) seen call.answer (omega (arith, less, commits)) may))
+      says.1 follows.1
 
   -- ---- any request
 
   request_rises : (request : Request) (running : Running) (seen : ℕ) (calls : List Call) (told : Reply) → seen ≤ count_of running → Converses settings transaction request [] calls told
-      → AreAlone calls → Follows limits running calls → Rises seen (count_of (after_all running calls)) told
+      → Follows limits running calls → Rises seen (count_of (after_all running calls)) told
   request_rises opens = one_step opens begun_by (commit_good reply.Begun (changes_in transaction) tt) (λ answer. refl) begun_rises
   request_rises closes = one_step closes reply_to (commit_good reply.NothingToCommit (changes_in transaction) tt) (λ answer. refl) answer_rises
   request_rises rolls_back = one_step rolls_back reply_to tt (λ answer. refl) answer_rises
@@ -636,8 +665,8 @@ module _ (limits : Limits) (settings : Settings) (transaction : Transaction) whe
 
 -- what a line is told is behind what was seen
 pub line_rises : (limits : Limits) (settings : Settings) (line : Line) (transaction left : Transaction) (running : Running) (seen : ℕ) (calls : List Call) (told : Reply)
-    → seen ≤ count_of running → Says settings line transaction calls told left → AreAlone calls → Follows limits running calls → Rises seen (count_of (after_all running calls)) told
-line_rises limits settings line transaction left running seen calls told less (inl (request, is, says, leaves)) alone follows =
-    request_rises limits settings transaction request running seen calls told less says alone follows
-line_rises limits settings line transaction left running seen calls told less (inr (none, want, stays)) alone follows =
+    → seen ≤ count_of running → Says settings line transaction calls told left → Follows limits running calls → Rises seen (count_of (after_all running calls)) told
+line_rises limits settings line transaction left running seen calls told less (inl (request, is, says, leaves)) follows =
+    request_rises limits settings transaction request running seen calls told less says follows
+line_rises limits settings line transaction left running seen calls told less (inr (none, want, stays)) follows =
     quiet_rises seen (count_of (after_all running calls)) told (subst IsQuiet (sym want) tt)

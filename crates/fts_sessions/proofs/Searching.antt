@@ -22,8 +22,10 @@ use Rattle.fts_steps.specs.declared.view_error.ViewError.{ViewError}
 use Rattle.fts_steps.specs.declared.view_error.ViewError.TheVariants.{NoMemory, DiskFault}
 use Rattle.fts_steps.specs.Answers.{view_error_answer_of}
 use Rattle.fts_steps.specs.State.{State}
-use Rattle.fts_steps.specs.Running.{Running, What, made, batched, optimized, failed, batch_failed, optimize_failed, Entry, with_what, grown}
-use Rattle.fts_steps.specs.Step.{Answer, viewed, found, no_memory, disk_fault, is_disk_fault, to_view, to_find, state_view, MayAnswer, Sight, Keeps, Steps}
+use Rattle.fts_steps.specs.Running.{Running, What, made, batched, optimized, failed, batch_failed, optimize_failed, read_failed, Entry, with_what, grown}
+use Rattle.fts_steps.specs.Crash.{IsBetween, IsIndexBetween}
+use Rattle.fts_steps.proofs.Adding.{read_still, no_read_fault}
+use Rattle.fts_steps.specs.Step.{Answer, viewed, found, no_memory, disk_fault, is_disk_fault, to_view, to_find, state_view, MayAnswer, Sight, Leaves, Tells, Keeps, Steps}
 
 -- what was added keeps the settings
 with_settings : (running : Running) (what : What) → (with_what running what).state.settings ≡ running.state.settings
@@ -33,6 +35,7 @@ with_settings running optimized = refl
 with_settings running (failed faults doubt) = refl
 with_settings running (batch_failed faults) = refl
 with_settings running (optimize_failed faults) = refl
+with_settings running (read_failed faults) = refl
 
 grown_settings : (running : Running) (entries : List Entry) → (grown running entries).state.settings ≡ running.state.settings
 grown_settings running [] = refl
@@ -70,15 +73,19 @@ module _ {S : Type 0} (sight : Sight S) (asked : List Leaf) (terms : Terms) (old
   as_search told answer step calm calm' may = record {
     more = step.more;
     each = λ running stands.
-        let each = step.each running stands in record {
+        let each = step.each running stands in
+        let same = read_still (grown running step.more) 0 told ∙ sym (read_still (grown running step.more) 0 answer) in
+        record {
           alone = each.alone;
           may = may running stands;
-          stands = each.stands;
-          rows = each.rows;
-          index = each.index;
+          stands = subst (λ (r : Running). sight.stands r new) same each.stands;
+          rows = λ single tells. subst (λ (r : Running). Leaves sight.rows (IsBetween running r) old new) same (each.rows single tells);
+          index = λ single tells. subst (λ (r : Running). Leaves sight.index (IsIndexBetween running r) old new) same (each.index single tells);
           keeps = kept;
         };
-    tells = λ shared. step.tells shared;
+    tells = λ shared.
+        subst (λ (whats : List What). Tells sight step.more (map (λ (what : What). record { by = (sight.account old).number; what = what }) whats) 1 old new)
+        (no_read_fault told calm ∙ sym (no_read_fault answer calm')) (step.tells shared);
     keeps = kept;
   }
     where

@@ -1,5 +1,5 @@
 -- What a session has seen of the commits, by its replies.
-use Rattle.std.specs.Prelude.{ℕ, ◌<◌, ◌≤◌}
+use Rattle.std.specs.Prelude.{ℕ, ◌<◌, ◌≤◌, max, List, [], ◌∷◌}
 use Rattle.fts_schema.specs.declared.reply.Reply.{Reply}
 use Rattle.fts_schema.specs.declared.reply.Reply.TheVariants.{Committed, CommittedAndBegun, Found, Listed, Synced}
 
@@ -20,3 +20,9 @@ IsBehind seen (Found number docs) = seen ≤ number
 IsBehind seen (Listed number listing) = seen ≤ number
 IsBehind seen (Synced through) = seen ≤ through
 IsBehind seen reply = Unit {0}
+
+-- behind replies that told of so many commits at most, none of these tells of fewer than those before it, and a commit
+-- of more
+abbrev pub Rise : ℕ → List Reply → Type 0
+Rise seen [] = Unit {0}
+Rise seen (told ∷ replies) = IsBehind seen told × Rise (max seen (number_told told)) replies

@@ -1,7 +1,7 @@
 -- What steps add to the commits and to the entries, and what they leave of the two logs.
-use Rattle.std.proofs.Common.{◌≡◌, ℕ, List, [], ◌∷◌, ◌++◌, refl, ap, ap₂, subst, sym, ◌∙◌, append_assoc}
+use Rattle.std.proofs.Common.{◌≡◌, ℕ, List, [], ◌∷◌, ◌++◌, refl, ap, ap₂, subst, sym, ◌∙◌, append_assoc, map}
 use Rattle.std.proofs.lemmas.List.{append-nil}
-use Rattle.std.specs.Prelude.{Option, Some, None}
+use Rattle.std.specs.Prelude.{Bool, true, false, Option, Some, None}
 use Rattle.std.specs.Option.{unwrap_or}
 use Rattle.fts_types.specs.declared.limits.Limits.{Limits}
 use Rattle.fts_types.specs.declared.settings.Settings.{Settings}
@@ -11,10 +11,10 @@ use Rattle.fts_disk.specs.Device.{Files}
 use Rattle.fts_steps.specs.State.{State, with_commits, with_entries, IsRows, IsIndex}
 use Rattle.std.specs.Prelude.{IsTrue}
 use Rattle.fts_steps.specs.declared.optimize.OptimizeStep.TheVariants.{Began, Word, Finished, Nothing}
-use Rattle.fts_steps.specs.Running.{Running, What, made, batched, optimized, failed, batch_failed, optimize_failed, Entry, with_what, grown, next_batch, next_optimized, IsSure}
+use Rattle.fts_steps.specs.Running.{Running, What, made, batched, optimized, failed, batch_failed, optimize_failed, read_failed, Entry, with_what, grown, next_batch, next_optimized, IsSure}
 use Rattle.fts_steps.specs.Crash.{IsBetween, IsIndexBetween}
 use Rattle.fts_steps.specs.Step.{Ask, to_commit, to_sync, to_optimize, to_view, to_find, to_list, to_measure, Answer, committed, refused, full, flushed, all_flushed, passed, viewed, found, listed, measured}
-use Rattle.fts_steps.specs.Step.{disk_fault, stopped, no_memory, unless_stopped, writes, MayAnswer}
+use Rattle.fts_steps.specs.Step.{disk_fault, stopped, no_memory, unless_stopped, writes, is_disk_fault, read_changes, MayAnswer}
 use Rattle.fts_steps.specs.Step.{Call, Sight, Leaves, after, after_call, after_all, entries_of, Follows, AreAlone}
 use Rattle.fts_steps.proofs.Growing.{entries_stay}
 use Rattle.fts_steps.proofs.Leaving.{leaves_more}
@@ -82,8 +82,9 @@ grown_by running optimized = record {
 grown_by running (failed faults doubt) = grown_none running.state
 grown_by running (batch_failed faults) = grown_none running.state
 grown_by running (optimize_failed faults) = grown_none running.state
+grown_by running (read_failed faults) = grown_none running.state
 
-grown_all : (running : Running) (entries : List Entry) → Grown running.state (grown running entries).state
+pub grown_all : (running : Running) (entries : List Entry) → Grown running.state (grown running entries).state
 grown_all running [] = grown_none running.state
 grown_all running (entry ∷ entries) =
     grown_more running.state (with_what running entry.what).state (grown running (entry ∷ entries)).state (grown_by running entry.what) (grown_all (with_what running entry.what) entries)
@@ -108,6 +109,7 @@ sure_by running (failed faults doubt) sure = λ e. absurd (let no : ◌≡◌ {A
 sure_by running optimized sure = sure
 sure_by running (batch_failed faults) sure = λ e. absurd (let no : ◌≡◌ {A = Option ℕ} (Some faults) None = e in cc)
 sure_by running (optimize_failed faults) sure = λ e. absurd (let no : ◌≡◌ {A = Option ℕ} (Some faults) None = e in cc)
+sure_by running (read_failed faults) sure = sure
 
 sure_all : (running : Running) (entries : List Entry) → IsSure running → IsSure (grown running entries)
 sure_all running [] sure = sure
@@ -209,6 +211,41 @@ adds_loose running what more same still rows sure = record {
 adds_optimized : (running : Running) → running.loose ≡ [] → Adds running (with_what running optimized)
 adds_optimized running sure = adds_entries running optimized (next_optimized running) refl refl refl sure
 
+-- a step that reads leaves what runs as it was
+pub read_still : (running : Running) (by : ℕ) (answer : Answer) → grown running (map (λ (what : What). record { by = by; what = what }) (read_changes answer)) ≡ running
+read_still running by (disk_fault faults) = refl
+read_still running by (committed number) = refl
+read_still running by (refused why) = refl
+read_still running by (full end_) = refl
+read_still running by (flushed through commits) = refl
+read_still running by (all_flushed commits) = refl
+read_still running by (passed step) = refl
+read_still running by (viewed view) = refl
+read_still running by (found number docs) = refl
+read_still running by (listed number listing) = refl
+read_still running by (measured size) = refl
+read_still running by (stopped faults) = refl
+read_still running by no_memory = refl
+
+-- and adds nothing where no device failed it
+pub no_read_fault : (answer : Answer) → is_disk_fault answer ≡ false → read_changes answer ≡ []
+no_read_fault (disk_fault faults) calm = absurd (let no : ◌≡◌ {A = Bool} true false = calm in cc)
+no_read_fault (committed number) calm = refl
+no_read_fault (refused why) calm = refl
+no_read_fault (full end_) calm = refl
+no_read_fault (flushed through commits) calm = refl
+no_read_fault (all_flushed commits) calm = refl
+no_read_fault (passed step) calm = refl
+no_read_fault (viewed view) calm = refl
+no_read_fault (found number docs) calm = refl
+no_read_fault (listed number listing) calm = refl
+no_read_fault (measured size) calm = refl
+no_read_fault (stopped faults) calm = refl
+no_read_fault no_memory calm = refl
+
+adds_read : (running : Running) (answer : Answer) → Adds running (grown running (map (λ (what : What). record { by = 0; what = what }) (read_changes answer)))
+adds_read running answer = subst (Adds running) (sym (read_still running 0 answer)) (adds_none running)
+
 adds_step : (limits : Limits) (running : Running) (ask : Ask) (answer : Answer) → IsSure running → MayAnswer limits running ask answer → Adds running (after running ask answer)
 adds_step limits running (to_commit commit) (committed number) sure may =
     adds_commit running commit (sure (told_goes running.stopped _ (committed number) (one_answer _ _ may) refl)).0
@@ -257,9 +294,9 @@ adds_step limits running to_optimize (listed number listing) sure may = adds_non
 adds_step limits running to_optimize (measured size) sure may = adds_none running
 adds_step limits running to_optimize (stopped faults) sure may = adds_none running
 adds_step limits running to_optimize no_memory sure may = adds_none running
-adds_step limits running (to_view leaves) answer sure may = adds_none running
-adds_step limits running (to_find terms) answer sure may = adds_none running
-adds_step limits running (to_list kind) answer sure may = adds_none running
+adds_step limits running (to_view leaves) answer sure may = adds_read running answer
+adds_step limits running (to_find terms) answer sure may = adds_read running answer
+adds_step limits running (to_list kind) answer sure may = adds_read running answer
 adds_step limits running to_measure answer sure may = adds_none running
 
 pub adds_call : (limits : Limits) (running : Running) (call : Call) → IsSure running → call.more ≡ [] → MayAnswer limits (grown running call.more) call.ask call.answer

@@ -46,8 +46,9 @@ abbrev pub cache_size : Running → ℕ
 cache_size running =
     rows_size (rules_of running.state.settings) (births_of (unflushed (turns_of running.state) running.index))
 
--- what a step adds: a commit; a batch of the index; a step of OPTIMIZE; or a fault that stops the engine, with the sum
--- of the counts, and that leaves a commit in doubt, or the entry of a batch or of a step of OPTIMIZE
+-- what a step adds: a commit; a batch of the index; a step of OPTIMIZE; or a fault, with the sum of the counts. That of
+-- a write stops the engine, and leaves a commit in doubt, or the entry of a batch or of a step of OPTIMIZE; that of a
+-- read changes nothing
 pub data What : Type 0 where
   made : Commit → What
   batched : What
@@ -55,6 +56,7 @@ pub data What : Type 0 where
   failed : ℕ → List Commit → What
   batch_failed : ℕ → What
   optimize_failed : ℕ → What
+  read_failed : ℕ → What
 
 -- what was added, and the number of who added it
 pub record Entry : Type 0 where
@@ -76,6 +78,7 @@ with_what running (batch_failed faults) =
     record running { stopped = Some faults; loose = next_batch running ∷ [] }
 with_what running (optimize_failed faults) =
     record running { stopped = Some faults; loose = next_optimized running }
+with_what running (read_failed faults) = running
 
 -- the engine, grown by these entries
 abbrev pub grown : Running → List Entry → Running

@@ -21,7 +21,7 @@ use Rattle.fts_entries.specs.Entry.{IndexEntry, sealed, begun, worked, finished}
 use Rattle.fts_steps.specs.declared.optimize.OptimizeStep.{OptimizeStep}
 use Rattle.fts_steps.specs.declared.optimize.OptimizeStep.TheVariants.{Began, Word, Finished, Nothing}
 use Rattle.fts_steps.specs.Running.{Running, What, made, batched, optimized, failed, batch_failed, optimize_failed}
-use Rattle.fts_steps.specs.Running.{Entry, grown, next_flushed, next_batch, next_optimized, cache_size}
+use Rattle.fts_steps.specs.Running.{read_failed, Entry, grown, next_flushed, next_batch, next_optimized, cache_size}
 use Rattle.fts_steps.specs.Crash.{IsBetween, IsIndexBetween}
 
 -- what a step is asked: to make a commit; to make a batch of the index; to make a step of OPTIMIZE; to tell what the
@@ -151,11 +151,23 @@ abbrev pub would_write : Option Answer → Bool
 would_write None = false
 would_write (Some answer) = writes answer
 
--- the answers that a step may give: its plain one, want of memory, and a disk fault where it would have written
+-- whether a device can fail a step: one that reads, and one that would have written
+abbrev pub can_fail : Limits → Running → Ask → Bool
+can_fail limits running (to_view asked) = true
+can_fail limits running (to_find terms) = true
+can_fail limits running (to_list kind) = true
+can_fail limits running ask = would_write (plain_answer limits running ask)
+
+-- the answers that a step may give: its plain one, want of memory, and a disk fault where a device can fail it
 abbrev pub MayAnswer : Limits → Running → Ask → Answer → Type 0
 MayAnswer limits running ask no_memory = Unit {0}
-MayAnswer limits running ask (disk_fault faults) = IsTrue (would_write (plain_answer limits running ask))
+MayAnswer limits running ask (disk_fault faults) = IsTrue (can_fail limits running ask)
 MayAnswer limits running ask answer = IsPlain limits running ask answer
+
+-- what a step adds that reads, by its answer
+abbrev pub read_changes : Answer → List What
+read_changes (disk_fault faults) = read_failed faults ∷ []
+read_changes answer = []
 
 -- what a step adds, by its answer
 abbrev pub changes_of : Ask → Answer → List What
@@ -166,6 +178,9 @@ changes_of to_sync (disk_fault faults) = batch_failed faults ∷ []
 changes_of to_optimize (passed Nothing) = []
 changes_of to_optimize (passed step) = optimized ∷ []
 changes_of to_optimize (disk_fault faults) = optimize_failed faults ∷ []
+changes_of (to_view asked) answer = read_changes answer
+changes_of (to_find terms) answer = read_changes answer
+changes_of (to_list kind) answer = read_changes answer
 changes_of ask answer = []
 
 -- the entries that a step adds, by their number's owner

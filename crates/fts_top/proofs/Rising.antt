@@ -7,44 +7,38 @@ use Rattle.fts_io.specs.Text.{Line}
 use Rattle.fts_schema.specs.declared.reply.Reply.{Reply}
 use Rattle.fts_schema.specs.declared.reply.Reply.TheVariants as reply
 use Rattle.fts_steps.specs.Running.{Running}
-use Rattle.fts_steps.specs.Step.{Call, Follows, AreAlone, after_call, after_all}
-use Rattle.fts_sessions.specs.Seen.{number_told, IsBehind}
+use Rattle.fts_steps.specs.Step.{Call, Follows, after_call, after_all}
+use Rattle.fts_sessions.specs.Seen.{number_told, IsBehind, Rise}
 use Rattle.fts_sessions.proofs.Rising.{count_of, never_falls, Rises, line_rises}
 use Rattle.fts_top.specs.declared.ends.Health.{Health}
 use Rattle.fts_top.specs.Sessions.{Met, open_in, SaysOf}
 use Rattle.fts_top.specs.Talk.{Talks}
 use Rattle.fts_top.specs.Laws.{Talked}
-use Rattle.fts_top.specs.Sight.{Rise, AreOwn}
-use Rattle.fts_top.proofs.OneText.{follows_behind, alone_behind}
+use Rattle.fts_top.specs.Sight.{AreOwn}
+use Rattle.fts_top.proofs.OneText.{follows_behind}
 
 -- the first steps
 follows_front : (limits : Limits) (running : Running) (here more : List Call) → Follows limits running (here ++ more) → Follows limits running here
 follows_front limits running [] more follows = tt
 follows_front limits running (call ∷ here) more follows = (follows.0, follows_front limits (after_call running call) here more follows.1)
 
-alone_front : (here more : List Call) → AreAlone (here ++ more) → AreAlone here
-alone_front [] more alone = tt
-alone_front (call ∷ here) more alone = (alone.0, alone_front here more alone.1)
-
 -- a line of a script
 of_rises : (limits : Limits) (settings : Settings) (line : Line) (session : Option ℕ) (sessions left : List Met) (running : Running) (seen : ℕ) (calls : List Call) (told : Reply)
-    → seen ≤ count_of running → SaysOf settings line session sessions calls told left → AreAlone calls → Follows limits running calls → Rises seen (count_of (after_all running calls)) told
-of_rises limits settings line None sessions left running seen calls told less says alone follows = line_rises limits settings line None None running seen calls told less says.0 alone follows
-of_rises limits settings line (Some number) sessions left running seen calls told less says alone follows =
-    line_rises limits settings line (open_in sessions number) says.0 running seen calls told less says.1 alone follows
+    → seen ≤ count_of running → SaysOf settings line session sessions calls told left → Follows limits running calls → Rises seen (count_of (after_all running calls)) told
+of_rises limits settings line None sessions left running seen calls told less says follows = line_rises limits settings line None None running seen calls told less says.0 follows
+of_rises limits settings line (Some number) sessions left running seen calls told less says follows =
+    line_rises limits settings line (open_in sessions number) says.0 running seen calls told less says.1 follows
 
 talk_rises : (limits : Limits) (settings : Settings) (sent : Bool) (lines : List Line) (sessions last : List Met) (running : Running) (seen : ℕ) (calls : List Call) (replies : List Reply)
-    (met : Health) → seen ≤ count_of running → Talks settings sent sessions lines calls replies met last → AreAlone calls → Follows limits running calls → Rise seen replies
-talk_rises limits settings sent [] sessions last running seen calls replies met less talks alone follows = subst (Rise seen) (sym talks.1) tt
-talk_rises limits settings sent (line ∷ lines) sessions last running seen calls replies met less talks alone follows =
-    let single = subst AreAlone talks.calls_are alone in
+    (met : Health) → seen ≤ count_of running → Talks settings sent sessions lines calls replies met last → Follows limits running calls → Rise seen replies
+talk_rises limits settings sent [] sessions last running seen calls replies met less talks follows = subst (Rise seen) (sym talks.1) tt
+talk_rises limits settings sent (line ∷ lines) sessions last running seen calls replies met less talks follows =
     let follow = subst (Follows limits running) talks.calls_are follows in
     let mid = after_all running talks.here in
     let behind_line = follows_behind limits running talks.here (talks.batches ++ talks.more) follow in
-    let alone_line = alone_behind talks.here (talks.batches ++ talks.more) single in
     let says = talks.says in
     let here = of_rises limits settings line says.0 sessions talks.behind running seen talks.here talks.reply less says.2
-    (alone_front talks.here (talks.batches ++ talks.more) single) (follows_front limits running talks.here (talks.batches ++ talks.more) follow) in
+    (follows_front limits running talks.here (talks.batches ++ talks.more) follow) in
     let some = never_falls running talks.here in
     let more = never_falls mid talks.batches in
     let told = here.1 in
@@ -52,12 +46,12 @@ talk_rises limits settings sent (line ∷ lines) sessions last running seen call
       here.0,
       talk_rises limits settings sent lines talks.behind last (after_all mid talks.batches) (max seen (number_told talks.reply)) talks.more talks.rest talks.later
           (max-le (omega (arith, less, some, more)) (omega (arith, told, more))) talks.goes_on
-          (alone_behind talks.batches talks.more alone_line) (follows_behind limits mid talks.batches talks.more behind_line),
+          (follows_behind limits mid talks.batches talks.more behind_line),
     )
 
 pub all_rise : (limits : Limits) (start : Running) (lines : List Line) (calls : List Call) (replies : List Reply) → Talked limits start lines calls replies → Rise (length start.state.commits) replies
 all_rise limits start lines calls replies talked =
-    talk_rises limits start.state.settings talked.sent lines [] talked.sessions start (count_of start) calls replies talked.met (omega arith) talked.talks talked.alone talked.follows
+    talk_rises limits start.state.settings talked.sent lines [] talked.sessions start (count_of start) calls replies talked.met (omega arith) talked.talks talked.follows
 
 -- ---- some of the replies
 

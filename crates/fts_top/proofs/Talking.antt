@@ -11,6 +11,7 @@ use Rattle.fts_steps.specs.Step.{Ask, to_commit, to_sync, to_optimize, to_view, 
 use Rattle.fts_steps.specs.Step.{disk_fault, stopped, no_memory}
 use Rattle.fts_steps.specs.declared.optimize.OptimizeStep.TheVariants as did
 use Rattle.fts_steps.specs.Step.{Call, after, after_call, after_all, Follows, AreAlone}
+use Rattle.fts_steps.proofs.Adding.{read_still}
 use Rattle.fts_sessions.specs.Transaction.{Transaction}
 use Rattle.fts_sessions.specs.Request.{Request, opens, closes, rolls_back, changes, searches, syncs, optimizes, lists, blank, unknown, unread}
 use Rattle.fts_sessions.specs.Conversation.{Converses, next, sync_next, target_of, asks, ends}
@@ -132,9 +133,9 @@ answer_still running to_optimize (measured size) calm = refl
 answer_still running to_optimize (disk_fault faults) calm = absurd (calm refl)
 answer_still running to_optimize (stopped faults) calm = refl
 answer_still running to_optimize no_memory calm = refl
-answer_still running (to_view leaves) answer calm = refl
-answer_still running (to_find terms) answer calm = refl
-answer_still running (to_list kind) answer calm = refl
+answer_still running (to_view leaves) answer calm = ap (λ (r : Running). r.stopped) (read_still running 0 answer)
+answer_still running (to_find terms) answer calm = ap (λ (r : Running). r.stopped) (read_still running 0 answer)
+answer_still running (to_list kind) answer calm = ap (λ (r : Running). r.stopped) (read_still running 0 answer)
 answer_still running to_measure answer calm = refl
 
 -- steps that met no fault stop nothing

@@ -7,7 +7,8 @@ ghost use Rattle.fts_steps.specs.Running.{Running};
 ghost use Rattle.fts_steps.specs.Step.{Call};
 ghost use Rattle.fts_top.specs.Talk.{texts_of};
 ghost use Rattle.fts_top.specs.Laws.{Converse, Talked};
-ghost use Rattle.fts_top.specs.Sight.{Rise, AreOwn};
+ghost use Rattle.fts_sessions.specs.Seen.{Rise};
+ghost use Rattle.fts_top.specs.Sight.{AreOwn};
 
 /// The lines of a script, executed to their end on an engine under some limits, with nobody else
 /// and without a fault or want of memory, make one list of steps and have one text. It does

@@ -18,4 +18,4 @@ returns g c told told' =
     (record { told = told; stay = λ d. g.met.D.Disk.seen_may_stay d told; only = λ d files. g.met.D.Disk.only_now d files told })
     (record { told = told'; stay = λ d. g.met.E.Disk.seen_may_stay d told'; only = λ d files. g.met.E.Disk.only_now d files told' })
     core parts.0 c.listing-result.new.self parts.1 parts.2 parts.3 fits c.behind.result c.behind.ensures
-    c.args.kind c.listing-result.result c.listing-result.ensures.steps (ap rows_log c.listing-result.ensures.same) (ap index_log c.listing-result.ensures.same))
+    c.args.kind c.listing-result.result c.listing-result.ensures.steps c.listing-result.ensures.calm (ap rows_log c.listing-result.ensures.same) (ap index_log c.listing-result.ensures.same))

@@ -18,4 +18,4 @@ returns g c told told' =
     (record { told = told; stay = λ d. g.met.D.Disk.seen_may_stay d told; only = λ d files. g.met.D.Disk.only_now d files told })
     (record { told = told'; stay = λ d. g.met.E.Disk.seen_may_stay d told'; only = λ d files. g.met.E.Disk.only_now d files told' })
     core parts.0 c.view-result.new.self parts.1 parts.2 parts.3 fits c.behind.result c.behind.ensures
-    c.args.leaves c.view-result.result c.view-result.ensures.steps (ap rows_log c.view-result.ensures.same) (ap index_log c.view-result.ensures.same))
+    c.args.leaves c.view-result.result c.view-result.ensures.steps c.view-result.ensures.calm (ap rows_log c.view-result.ensures.same) (ap index_log c.view-result.ensures.same))
