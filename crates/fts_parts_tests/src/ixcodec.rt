@@ -44,10 +44,17 @@ fn settings(alloc: Global, min: u8, max: u8) -> Settings {
 
 // Whether an entry is encoded as these bytes.
 fn is_spelled(alloc: Global, entry: &Entry, bytes: &[u8]) -> Result<bool, AllocError> {
-    if entry_size(entry) != Some(bytes.len() as u64) {
+    let Some(size) = entry_size(entry) else {
+        return Ok(false);
+    };
+    if size >= 1 << 32 {
         return Ok(false);
     }
-    Ok(encode(alloc, entry)?.as_slice() == bytes)
+    let spelled = encode(alloc, entry)?;
+    if size != bytes.len() as u64 {
+        return Ok(false);
+    }
+    Ok(spelled.as_slice() == bytes)
 }
 
 // The entry in the bytes, which is encoded as the same bytes; None where there is none, at a place
