@@ -148,6 +148,13 @@ impl Lines {
         self.given
     }
 
+    /// How many bytes were taken from the source, those that are not looked at yet too.
+    pub fn taken(&self) -> u64
+        ensures { result ≡ taken_by self.now }
+    {
+        self.taken
+    }
+
     /// Reads into the buffer where it is empty.
     fn fill<S: Source>(&mut self, source: &mut S) -> Filled
         ensures filled { HasFilled result self.new }
