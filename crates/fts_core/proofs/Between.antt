@@ -38,9 +38,9 @@ pub none_more : (state : State) (file : List ℕ) → IsRows (with_commits state
 none_more state file rows =
     subst (λ (commits : List Commit). IsRows (record { settings = state.settings; commits = commits; entries = state.entries }) file) (append-nil state.commits) rows
 
-pub no_entry_more : (state : State) (file : List ℕ) → IsIndex (with_entries state []) file → IsIndex state file
-no_entry_more state file index =
-    subst (λ (entries : List IndexEntry). IsIndex (record { settings = state.settings; commits = state.commits; entries = entries }) file) (append-nil state.entries) index
+pub no_entry_more : (state : State) (files : Files) → IsIndex (with_entries state []) files → IsIndex state files
+no_entry_more state files index =
+    subst (λ (entries : List IndexEntry). IsIndex (record { settings = state.settings; commits = state.commits; entries = entries }) files) (append-nil state.entries) index
 
 -- where nothing is in doubt, a log is that of the state, whatever is in doubt later
 pub sure_holds : (state : State) (doubt more : List Commit) (c : Files) → doubt ≡ [] → MayHold state doubt c → MayHold state more c
@@ -50,7 +50,7 @@ sure_holds state doubt more c sure (inr rows) = inl (none_more state (c 0) (subs
 pub sure_index : (state : State) (loose more : List IndexEntry) (c : Files) → loose ≡ [] → MayHoldIndex state loose c → MayHoldIndex state more c
 sure_index state loose more c sure (inl index) = inl index
 sure_index state loose more c sure (inr index) =
-    inl (no_entry_more state (c 0) (subst (λ (l : List IndexEntry). IsIndex (with_entries state l) (c 0)) sure index))
+    inl (no_entry_more state c (subst (λ (l : List IndexEntry). IsIndex (with_entries state l) c) sure index))
 
 -- ---- within a step
 
@@ -66,17 +66,17 @@ within_commit running now commit c added between =
 
 -- and so of an entry of the index log
 pub within_entry : (running now : Running) (more : List IndexEntry) (c : Files) → IsOne more
-    → ((entries : List IndexEntry) (file : List ℕ) → IsIndex (record now.state { entries = entries }) file → IsIndex (record running.state { entries = entries }) file)
+    → ((entries : List IndexEntry) (files : Files) → IsIndex (record now.state { entries = entries }) files → IsIndex (record running.state { entries = entries }) files)
     → now.state.entries ++ now.loose ≡ running.state.entries ++ more → IsIndexBetween running now c → MayHoldIndex running.state more c
 within_entry running now more c one same added between =
     ⊎_elim
-    (λ none. inl (no_entry_more running.state (c 0) (subst (λ (front : List IndexEntry). IsIndex (with_entries running.state front) (c 0)) none is)))
-    (λ whole. inr (subst (λ (front : List IndexEntry). IsIndex (with_entries running.state front) (c 0)) whole is))
+    (λ none. inl (no_entry_more running.state c (subst (λ (front : List IndexEntry). IsIndex (with_entries running.state front) c) none is)))
+    (λ whole. inr (subst (λ (front : List IndexEntry). IsIndex (with_entries running.state front) c) whole is))
     (front_of between.front between.rest more one
     (append_cancel_left running.state.entries more (between.front ++ between.rest) (sym added ∙ between.added)))
   where
-    is : IsIndex (with_entries running.state between.front) (c 0)
-    is = same (running.state.entries ++ between.front) (c 0) between.index
+    is : IsIndex (with_entries running.state between.front) c
+    is = same (running.state.entries ++ between.front) c between.index
 
 -- a crash at a moment since a step began leaves what the step may leave, or what stood before it
 pub since_began : {S : Type 0} (below : Below S) (P Q : Images) (old new : S)

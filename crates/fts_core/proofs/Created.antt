@@ -6,9 +6,10 @@ use Rattle.fts_types.specs.declared.settings.Settings.{Settings}
 use Rattle.fts_commits.specs.Commit.{Commit}
 use Rattle.fts_disk.specs.Device.{Files}
 use Rattle.fts_disk.specs.declared.disk.Disk.{Ghosts}
-use Rattle.fts_steps.specs.State.{created_with, IsRows, IsIndex}
+use Rattle.fts_steps.specs.State.{created_with, IsRows}
 use Rattle.fts_steps.specs.Running.{opened}
 use Rattle.fts_steps.specs.Crash.{MayHold, MayHoldIndex}
+use Rattle.fts_steps.proofs.Adding.{index_as}
 use Rattle.fts_steps.proofs.Growing.{none_right}
 use Rattle.fts_core.specs.declared.world.Place.TheVariants.{Closed}
 use Rattle.fts_core.specs.declared.world.World.{World}
@@ -30,7 +31,7 @@ module _ {D E : Type 0} {disk : Ghosts D} {disk' : Ghosts E} (only : (d : D) (c 
   held c may = inl (subst (IsRows (created_with settings)) (sym (are.of_rows.1 c may 0)) are.of_rows.0)
 
   held' : (c : Files) → disk'.images index c → MayHoldIndex (created_with settings) [] c
-  held' c may = inl (subst (IsIndex (created_with settings)) (sym (are.of_index.1 c may 0)) are.of_index.0)
+  held' c may = inl (index_as (created_with settings) (disk'.seen index) c (are.of_index.1 c may) are.of_index.0)
 
   right : HasRightIndex (opened (created_with settings))
   right = sure_right (opened (created_with settings)) refl refl (none_right settings [] (known []))

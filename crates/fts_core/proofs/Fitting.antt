@@ -289,7 +289,7 @@ module _ {D E : Type 0} {disk : Ghosts D} {disk' : Ghosts E} (only : (d : D) (c 
           undone = since_began (engine_sight {D = D} {E = E} {rows = disk} {index = disk'}).index (IsIndexBetween core.now now) (MayHoldIndex core.now.state more) old new only'
               (subst (λ (n : Running). Leaves (engine_sight {D = D} {E = E} {rows = disk} {index = disk'}).index (IsIndexBetween core.now n) old new) is
               (crash' only only' told told' core old new commits doubt last fits ask answer steps))
-              (λ c between. within_entry core.now now more c one (λ entries file index. index) added between) before_entry;
+              (λ c between. within_entry core.now now more c one (λ entries files index. index) added between) before_entry;
         };
         runs = (limited only only' told told' core old new commits doubt last fits ask answer steps, stays);
         right = sure_right now surely surely' (right_more stays.has.keeps.entries);
@@ -324,7 +324,7 @@ module _ {D E : Type 0} {disk : Ghosts D} {disk' : Ghosts E} (only : (d : D) (c 
           undone = since_began (engine_sight {D = D} {E = E} {rows = disk} {index = disk'}).index (IsIndexBetween core.now now) (MayHoldIndex core.now.state more) old new only'
               (subst (λ (n : Running). Leaves (engine_sight {D = D} {E = E} {rows = disk} {index = disk'}).index (IsIndexBetween core.now n) old new) is
               (crash' only only' told told' core old new commits doubt last fits ask answer steps))
-              (λ c between. within_entry core.now now more c one (λ entries file index. index) refl between) before_entry;
+              (λ c between. within_entry core.now now more c one (λ entries files index. index) refl between) before_entry;
         };
         runs = (limited only only' told told' core old new commits doubt last fits ask answer steps, stays);
         right = right;

@@ -12,7 +12,7 @@ use Rattle.fts_steps.specs.State.{State, with_commits, with_entries, IsRight, Is
 use Rattle.fts_steps.specs.Fault.{IsIndexFaultAt}
 use Rattle.fts_steps.specs.Running.{Running, opened}
 use Rattle.fts_steps.specs.Crash.{MayHold, MayHoldIndex}
-use Rattle.fts_steps.proofs.Adding.{index_stay}
+use Rattle.fts_steps.proofs.Adding.{index_stay, index_as}
 use Rattle.fts_steps.proofs.Faults.{is_created, not_at_fault}
 use Rattle.fts_engine.specs.declared.engine.Engine.{Engine}
 use Rattle.fts_engine.specs.declared.error.Device.TheVariants.{Rows, Index}
@@ -53,8 +53,8 @@ module _ {D E : Type 0} {disk : Ghosts D} {disk' : Ghosts E} (stay : (d : D) →
   abbrev pub file : List ℕ
   file = disk.seen (rows_at world.place) 0
 
-  abbrev pub file' : List ℕ
-  file' = disk'.seen (index_at world.place) 0
+  abbrev pub files' : Files
+  files' = disk'.seen (index_at world.place)
 
   -- so a database was created
   pub created : IsCreated file
@@ -65,30 +65,30 @@ module _ {D E : Type 0} {disk : Ghosts D} {disk' : Ghosts E} (stay : (d : D) →
   some_rows none = ⊎_elim (none core.now.state) (none (with_commits core.now.state core.now.doubt)) reads
 
   -- and so is the index log
-  pub some_index : (state : State) (at : ℕ) → IsRows state file → IsIndexFaultAt state at file' → ⊥
+  pub some_index : (state : State) (at : ℕ) → IsRows state file → IsIndexFaultAt state at (files' 0) → ⊥
   some_index state at rows fault = by reads reads'
     where
       loose : State
       loose = with_entries core.now.state core.now.loose
 
       by : MayHold core.now.state core.now.doubt (disk.seen (rows_at world.place)) → MayHoldIndex core.now.state core.now.loose (disk'.seen (index_at world.place)) → ⊥
-      by (inl without) (inl index) = let same = one_rows core.now.state state file without rows in not_at_fault state core.now.state at file' same.0 same.1 index fault
-      by (inl without) (inr index) = let same = one_rows core.now.state state file without rows in not_at_fault state loose at file' same.0 same.1 index fault
+      by (inl without) (inl index) = let same = one_rows core.now.state state file without rows in not_at_fault state core.now.state at files' same.0 same.1 index fault
+      by (inl without) (inr index) = let same = one_rows core.now.state state file without rows in not_at_fault state loose at files' same.0 same.1 index fault
       by (inr with_it) (inl index) =
           let same = one_rows (with_commits core.now.state core.now.doubt) state file with_it rows in
-          not_at_fault state (with_commits core.now.state core.now.doubt) at file' same.0 same.1 (index_stay core.now.state core.now.doubt file' index) fault
+          not_at_fault state (with_commits core.now.state core.now.doubt) at files' same.0 same.1 (index_stay core.now.state core.now.doubt files' index) fault
       by (inr with_it) (inr index) =
           let same = one_rows (with_commits core.now.state core.now.doubt) state file with_it rows in
-          not_at_fault state (with_commits loose core.now.doubt) at file' same.0 same.1 (index_stay loose core.now.doubt file' index) fault
+          not_at_fault state (with_commits loose core.now.doubt) at files' same.0 same.1 (index_stay loose core.now.doubt files' index) fault
 
   -- what is found is what stands
-  pub finds : (state : State) → IsRows state file → IsIndex state file' → MayBe core.now state
+  pub finds : (state : State) → IsRows state file → IsIndex state files' → MayBe core.now state
   finds state rows index = record {
     settings = settings;
     commits = ⊎_elim (λ without. inl (one_rows state core.now.state file rows without).1)
         (λ with_it. inr (one_rows state (with_commits core.now.state core.now.doubt) file rows with_it).1) reads;
-    entries = ⊎_elim (λ without. inl (one_index state core.now.state file' settings index without))
-        (λ with_it. inr (one_index state (with_entries core.now.state core.now.loose) file' settings index with_it)) reads';
+    entries = ⊎_elim (λ without. inl (one_index state core.now.state files' settings index without))
+        (λ with_it. inr (one_index state (with_entries core.now.state core.now.loose) files' settings index with_it)) reads';
   }
     where
       settings : state.settings ≡ core.now.state.settings
@@ -103,8 +103,8 @@ module _ {D E : Type 0} {disk : Ghosts D} {disk' : Ghosts E} (stay : (d : D) →
     rows_read : IsRows state file
     rows_read = subst (λ (files : Files). IsRows state (files 0)) looks.seen ((holds.on_rows told).reads refl)
 
-    index_read : IsIndex state file'
-    index_read = subst (λ (files : Files). IsIndex state (files 0)) looks'.seen ((holds.on_index told').reads refl)
+    index_read : IsIndex state files'
+    index_read = subst (IsIndex state) looks'.seen ((holds.on_index told').reads refl)
 
     pub may_be : MayBe core.now state
     may_be = finds state rows_read index_read
@@ -184,7 +184,8 @@ module _ {D E : Type 0} {disk : Ghosts D} {disk' : Ghosts E} (stay : (d : D) →
         may c here = subst (λ (f : List ℕ). IsRows now.state f ⊎ IsRows (with_commits now.state now.doubt) f) (sym (alone c here 0)) held
 
         may' : (c : Files) → disk'.images index c → MayHoldIndex now.state now.loose c
-        may' c here = subst (λ (f : List ℕ). IsIndex now.state f ⊎ IsIndex (with_entries now.state now.loose) f) (sym (alone' c here 0)) held'
+        may' c here = ⊎_elim (λ without. inl (index_as now.state (disk'.seen index) c (alone' c here) without))
+            (λ with_it. inr (index_as (with_entries now.state now.loose) (disk'.seen index) c (alone' c here) with_it)) held'
 
     pub crashes : (within : Bool) → Crashes (record { rows = disk.moment rows; index = disk'.moment index }) within core (crashed_core (left_by within core))
     crashes within = record { now = refl; undone = refl; closed = refl; since = refl }

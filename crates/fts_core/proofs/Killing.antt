@@ -33,8 +33,8 @@ record IsUndone (running now undone : Running) : Type 0 where
   one : IsOne undone.doubt
   one' : IsOne undone.loose
   right : HasRightIndex undone
-  over : (front : List Commit) (more rest : List IndexEntry) (file : List ℕ) → now.state.entries ++ now.loose ≡ running.state.entries ++ (more ++ rest)
-      → IsIndex (record now.state { entries = running.state.entries ++ more }) file → IsIndex (with_both running.state front more) file
+  over : (front : List Commit) (more rest : List IndexEntry) (files : Files) → now.state.entries ++ now.loose ≡ running.state.entries ++ (more ++ rest)
+      → IsIndex (record now.state { entries = running.state.entries ++ more }) files → IsIndex (with_both running.state front more) files
 
 no_front : {A : Type 0} (all front rest : List A) → all ++ [] ≡ all ++ (front ++ rest) → front ≡ []
 no_front all front rest is = ⊎_elim (λ none. none) (λ none. none) (front_of front rest [] (inl refl) (append_cancel_left all [] (front ++ rest) is))
@@ -51,7 +51,7 @@ module _ (known : AllKnown) (limits : Limits) (running : Running) (real : IsReal
     one = real.one;
     one' = real.one';
     right = real.right;
-    over = λ front more rest file added index. index_stay (with_entries running.state more) front file index;
+    over = λ front more rest files added index. index_stay (with_entries running.state more) front files index;
   }
 
   push : {A : Type 0} (all doubt more : List A) → doubt ≡ [] → (all ++ more) ++ doubt ≡ all ++ more
@@ -67,7 +67,7 @@ module _ (known : AllKnown) (limits : Limits) (running : Running) (real : IsReal
     one = inr (commit, refl);
     one' = real.one';
     right = right_undone known limits running real (made commit) going entries;
-    over = λ front more rest file added index.
+    over = λ front more rest files added index.
         let none : more ≡ [] = no_front running.state.entries more rest (ap (λ (l : List IndexEntry). running.state.entries ++ l) (sym (real.sure going).1) ∙ added) in
         record {
           sound = subst (λ (es : List IndexEntry). HasEntries (record { settings = running.state.settings; commits = running.state.commits ++ front; entries = es }))
@@ -84,7 +84,7 @@ module _ (known : AllKnown) (limits : Limits) (running : Running) (real : IsReal
     one = real.one;
     one' = inr (next_batch running, refl);
     right = right_undone known limits running real batched (going, wrote) entries;
-    over = λ front more rest file added index. index_stay (with_entries running.state more) front file index;
+    over = λ front more rest files added index. index_stay (with_entries running.state more) front files index;
   }
   one_undone optimized going = record {
     settings = refl;
@@ -95,7 +95,7 @@ module _ (known : AllKnown) (limits : Limits) (running : Running) (real : IsReal
     one = real.one;
     one' = (next_is_step running.state.entries running.index).one;
     right = right_undone known limits running real optimized going entries;
-    over = λ front more rest file added index. index_stay (with_entries running.state more) front file index;
+    over = λ front more rest files added index. index_stay (with_entries running.state more) front files index;
   }
   one_undone (failed faults doubt) (going, (commit, is)) = record {
     settings = refl;
@@ -106,7 +106,7 @@ module _ (known : AllKnown) (limits : Limits) (running : Running) (real : IsReal
     one = inr (commit, is);
     one' = real.one';
     right = right_undone known limits running real (failed faults doubt) (going, (commit, is)) entries;
-    over = λ front more rest file added index. index_stay (with_entries running.state more) front file index;
+    over = λ front more rest files added index. index_stay (with_entries running.state more) front files index;
   }
   one_undone (batch_failed faults) (going, wrote) = record {
     settings = refl;
@@ -117,7 +117,7 @@ module _ (known : AllKnown) (limits : Limits) (running : Running) (real : IsReal
     one = real.one;
     one' = inr (next_batch running, refl);
     right = right_undone known limits running real (batch_failed faults) (going, wrote) entries;
-    over = λ front more rest file added index. index_stay (with_entries running.state more) front file index;
+    over = λ front more rest files added index. index_stay (with_entries running.state more) front files index;
   }
   one_undone (optimize_failed faults) going = record {
     settings = refl;
@@ -128,7 +128,7 @@ module _ (known : AllKnown) (limits : Limits) (running : Running) (real : IsReal
     one = real.one;
     one' = (next_is_step running.state.entries running.index).one;
     right = right_undone known limits running real (optimize_failed faults) going entries;
-    over = λ front more rest file added index. index_stay (with_entries running.state more) front file index;
+    over = λ front more rest files added index. index_stay (with_entries running.state more) front files index;
   }
   one_undone (read_failed faults) may = record {
     settings = refl;
@@ -139,7 +139,7 @@ module _ (known : AllKnown) (limits : Limits) (running : Running) (real : IsReal
     one = real.one;
     one' = real.one';
     right = real.right;
-    over = λ front more rest file added index. index_stay (with_entries running.state more) front file index;
+    over = λ front more rest files added index. index_stay (with_entries running.state more) front files index;
   }
 
 -- a front of what is in doubt is none of it, or all
@@ -154,7 +154,7 @@ with_or_without {A} all all' doubt front rest same one is =
 found : (running now undone : Running) (rows index : Files) → IsUndone running now undone → IsBetween running now rows → IsIndexBetween running now index → AreFound running now rows index
 found running now undone rows index is between between' =
     let state : State = with_both running.state between.front between'.front in
-    let of_index : IsIndex state (index 0) = is.over between.front between'.front between'.rest (index 0) between'.added between'.index in
+    let of_index : IsIndex state index = is.over between.front between'.front between'.rest index between'.added between'.index in
     record {
       state = state;
       database = record { of_rows = rows_stay (with_commits running.state between.front) between'.front (rows 0) between.rows; of_index = of_index };
@@ -192,7 +192,7 @@ held_index running c (inl index) = record {
   front = [];
   rest = running.loose;
   added = refl;
-  index = subst (λ (entries : List IndexEntry). IsIndex (record running.state { entries = entries }) (c 0)) (sym (append-nil running.state.entries)) index;
+  index = subst (λ (entries : List IndexEntry). IsIndex (record running.state { entries = entries }) c) (sym (append-nil running.state.entries)) index;
 }
 held_index running c (inr index) = record {
   front = running.loose;

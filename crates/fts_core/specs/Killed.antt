@@ -13,7 +13,7 @@ use Rattle.fts_engine.specs.Devices.{Devices, Disks, device_sight}
 -- added or left in doubt, or without it
 pub record AreFound (before after : Running) (rows index : Files) : Type 0 where
   pub state : State
-  pub database : IsDatabase state (rows 0) (index 0)
+  pub database : IsDatabase state (rows 0) index
   pub right : IsRight state
   pub front : List Commit
   pub rest : List Commit

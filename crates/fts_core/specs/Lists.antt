@@ -38,7 +38,7 @@ AllowsAll old (event ∷ events) [] new = ⊥
 pub record AreCreated {D E : Type 0} (rows : Ghosts D) (index : Ghosts E) (settings : Settings) (d : D) (e : E) : Type 0
   where
     pub of_rows : IsRows (created_with settings) (rows.seen d 0) × Only (rows.seen d) (rows.images d)
-    pub of_index : IsIndex (created_with settings) (index.seen e 0) × Only (index.seen e) (index.images e)
+    pub of_index : IsIndex (created_with settings) (index.seen e) × Only (index.seen e) (index.images e)
 
 -- what stands of a database that was just created, with no engine open
 abbrev pub created_core : Settings → Moments → Core

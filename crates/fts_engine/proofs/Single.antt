@@ -2,6 +2,7 @@
 use Rattle.std.proofs.Common.{◌≡◌, ℕ, List, [], ◌∷◌, refl, ap, subst, ◌∙◌, map, drop, get_or, length}
 use Rattle.std.proofs.lemmas.List.Elements.{All-head, All-tail}
 use Rattle.std.specs.Prelude.{All}
+use Rattle.fts_disk.specs.Device.{Files}
 use Rattle.fts_types.specs.declared.settings.Settings.{Settings}
 use Rattle.fts_words.specs.Indexed.{Rules}
 use Rattle.fts_types.specs.Rules.{rules_of}
@@ -45,13 +46,13 @@ one_rows a b rows log log' =
     (settings, same_commits (length b.settings.columns) a.commits b.commits written log'.sound.written (ap (drop 1) same))
 
 -- and an index log that of one list of entries alone, of databases with the same settings
-pub one_index : (a b : State) (index : List ℕ) → a.settings ≡ b.settings → IsIndex a index → IsIndex b index → a.entries ≡ b.entries
+pub one_index : (a b : State) (index : Files) → a.settings ≡ b.settings → IsIndex a index → IsIndex b index → a.entries ≡ b.entries
 one_index a b index settings log log' =
     one_entries (rules_of b.settings) a.entries b.entries (subst (λ (s : Settings). All (IsEntry (rules_of s)) a.entries) settings log.sound.written) log'.sound.written
-    (one_list index_magic (index_payloads a) (index_payloads b) index log.log log'.log)
+    (one_list index_magic (index_payloads a) (index_payloads b) (index 0) log.log log'.log)
 
 -- files are the two logs of one state alone
-pub one_database : (a b : State) (rows index : List ℕ) → IsDatabase a rows index → IsDatabase b rows index → a ≡ b
+pub one_database : (a b : State) (rows : List ℕ) (index : Files) → IsDatabase a rows index → IsDatabase b rows index → a ≡ b
 one_database a b rows index database database' =
     let same = one_rows a b rows database.of_rows database'.of_rows in
     let entries : a.entries ≡ b.entries = one_index a b index same.0 database.of_index database'.of_index in

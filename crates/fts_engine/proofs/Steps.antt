@@ -33,9 +33,9 @@ none_more : (state : State) (file : List ℕ) → IsRows state file → IsRows (
 none_more state file rows =
     subst (λ (commits : List Commit). IsRows (record { settings = state.settings; commits = commits; entries = state.entries }) file) (sym (append-nil state.commits)) rows
 
-no_entry_more : (state : State) (file : List ℕ) → IsIndex state file → IsIndex (with_entries state []) file
-no_entry_more state file index =
-    subst (λ (entries : List IndexEntry). IsIndex (record { settings = state.settings; commits = state.commits; entries = entries }) file) (sym (append-nil state.entries)) index
+no_entry_more : (state : State) (files : Files) → IsIndex state files → IsIndex (with_entries state []) files
+no_entry_more state files index =
+    subst (λ (entries : List IndexEntry). IsIndex (record { settings = state.settings; commits = state.commits; entries = entries }) files) (sym (append-nil state.entries)) index
 
 -- the rows log is that of a state with more entries too, and the index log that of one with more commits
 -- before a commit or behind it is between the two
@@ -73,13 +73,13 @@ between_written running more next sure c held = by_case held
     none = sym (append-nil more)
 
     by_case : MayHoldIndex running.state more c → IsIndexBetween running (grown_index running more next) c
-    by_case (inl before) = record { front = []; rest = more; added = all; index = no_entry_more running.state (c 0) before }
+    by_case (inl before) = record { front = []; rest = more; added = all; index = no_entry_more running.state c before }
     by_case (inr behind) = record { front = more; rest = []; added = all ∙ ap (λ (es : List IndexEntry). running.state.entries ++ es) none; index = behind }
 
 between_loose : (running : Running) (more : List IndexEntry) (faults : ℕ) (c : Files) → MayHoldIndex running.state more c
     → IsIndexBetween running (left_loose running more faults) c
 between_loose running more faults c (inl before) =
-    record { front = []; rest = more; added = refl; index = no_entry_more running.state (c 0) before }
+    record { front = []; rest = more; added = refl; index = no_entry_more running.state c before }
 between_loose running more faults c (inr behind) =
     record { front = more; rest = []; added = ap (λ (es : List IndexEntry). running.state.entries ++ es) (sym (append-nil more)); index = behind }
 
@@ -212,8 +212,8 @@ module _ {D E : Type 0} {disk : Ghosts D} {disk' : Ghosts E} (old new : Engine D
       }
 
       may_hold : (running : Running) (c : Files) → MayHoldIndex running.state running.loose c → MayHoldIndex (with_commits running.state (commit ∷ [])) running.loose c
-      may_hold running c (inl before) = inl (index_stay running.state (commit ∷ []) (c 0) before)
-      may_hold running c (inr behind) = inr (index_stay (with_entries running.state running.loose) (commit ∷ []) (c 0) behind)
+      may_hold running c (inl before) = inl (index_stay running.state (commit ∷ []) c before)
+      may_hold running c (inr behind) = inr (index_stay (with_entries running.state running.loose) (commit ∷ []) c behind)
 
       behind : (running : Running) → Holds running old → Holds (with_what running (made commit)) new
       behind running stands = record {
@@ -233,7 +233,7 @@ module _ {D E : Type 0} {disk : Ghosts D} {disk' : Ghosts E} (old new : Engine D
         on_index = λ told.
             let on = index_stays_on running stands told in
             record {
-              reads = λ going. index_stay running.state (commit ∷ []) (disk'.seen (index_device new) 0) (on.reads going);
+              reads = λ going. index_stay running.state (commit ∷ []) (disk'.seen (index_device new)) (on.reads going);
               may_read = may_hold running (disk'.seen (index_device new)) on.may_read;
               crash = λ c may. may_hold running c (on.crash c may);
             };

@@ -88,7 +88,7 @@ pub record OnRows {D : Type 0} (disk : Ghosts D) (running : Running) (device : D
 
 -- and so does the index device, perhaps with the entry in doubt
 pub record OnIndex {E : Type 0} (disk : Ghosts E) (running : Running) (device : E) : Type 0 where
-  pub reads : running.stopped ≡ None → IsIndex running.state (disk.seen device 0)
+  pub reads : running.stopped ≡ None → IsIndex running.state (disk.seen device)
   pub may_read : MayHoldIndex running.state running.loose (disk.seen device)
   pub crash : (c : Files) → disk.images device c → MayHoldIndex running.state running.loose c
 

@@ -76,7 +76,7 @@ pub fn create_engine<D: Disk, E: Disk>(
         → IsRows (created_with settings.now) (D.seen made.0 0)
         × Only (D.seen made.0) (D.images made.0)) }
     ensures index { IfOk result (λ made. IsTrue E.tells
-        → IsIndex (created_with settings.now) (E.seen made.1 0)
+        → IsIndex (created_with settings.now) (E.seen made.1)
         × Only (E.seen made.1) (E.images made.1)) }
     ensures fresh { IfOk result (λ _. IsTrue D.tells → IsCreated (D.seen rows 0) → ⊥) }
     ensures already { IfErr result (λ e. e.0 ≡ CreateError.AlreadyCreated → IsTrue D.tells

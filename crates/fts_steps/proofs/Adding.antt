@@ -8,7 +8,8 @@ use Rattle.fts_types.specs.declared.settings.Settings.{Settings}
 use Rattle.fts_commits.specs.Commit.{Commit}
 use Rattle.fts_entries.specs.Entry.{IndexEntry}
 use Rattle.fts_disk.specs.Device.{Files}
-use Rattle.fts_steps.specs.State.{State, with_commits, with_entries, IsRows, IsIndex}
+use Rattle.fts_log.specs.Record.{IsLog}
+use Rattle.fts_steps.specs.State.{State, with_commits, with_entries, IsRows, IsIndex, index_magic, index_payloads}
 use Rattle.std.specs.Prelude.{IsTrue}
 use Rattle.fts_steps.specs.declared.optimize.OptimizeStep.TheVariants.{Began, Word, Finished, Nothing}
 use Rattle.fts_steps.specs.Running.{Running, What, made, batched, optimized, failed, batch_failed, optimize_failed, read_failed, Entry, with_what, grown, next_batch, next_optimized, IsSure}
@@ -26,8 +27,12 @@ pub rows_stay : (state : State) (more : List IndexEntry) (file : List ℕ) → I
 rows_stay state more file rows =
     record { sound = record { settings = rows.sound.settings; written = rows.sound.written; accepted = rows.sound.accepted }; log = rows.log }
 
-pub index_stay : (state : State) (more : List Commit) (file : List ℕ) → IsIndex state file → IsIndex (with_commits state more) file
-index_stay state more file index = record { sound = entries_stay state more index.sound; log = index.log }
+pub index_stay : (state : State) (more : List Commit) (files : Files) → IsIndex state files → IsIndex (with_commits state more) files
+index_stay state more files index = record { sound = entries_stay state more index.sound; log = index.log }
+
+-- files that have what those of an index have are an index
+pub index_as : (state : State) (old new : Files) → ((file : ℕ) → new file ≡ old file) → IsIndex state old → IsIndex state new
+index_as state old new same index = record { sound = index.sound; log = subst (IsLog index_magic (index_payloads state)) (sym (same 0)) index.log }
 
 -- ---- a state that grows
 
@@ -352,8 +357,8 @@ earlier_index start mid now c grew more between = record {
   rest = between.rest ++ more.entries;
   added = more.index ∙ ap (λ (all : List IndexEntry). all ++ more.entries) between.added ∙ append_assoc start.state.entries (between.front ++ between.rest) more.entries
       ∙ ap (λ (all : List IndexEntry). start.state.entries ++ all) (append_assoc between.front between.rest more.entries);
-  index = subst (λ (state : State). IsIndex (record state { entries = start.state.entries ++ between.front }) (c 0)) (sym grew.same)
-      (index_stay (record mid.state { entries = start.state.entries ++ between.front }) grew.commits (c 0) between.index);
+  index = subst (λ (state : State). IsIndex (record state { entries = start.state.entries ++ between.front }) c) (sym grew.same)
+      (index_stay (record mid.state { entries = start.state.entries ++ between.front }) grew.commits c between.index);
 }
 
 pub behind_index : (start mid now : Running) (c : Files) → Grown start.state mid.state → IsIndexBetween mid now c → IsIndexBetween start now c
@@ -363,7 +368,7 @@ behind_index start mid now c grew between = record {
   added = between.added ∙ ap (λ (state : State). state.entries ++ (between.front ++ between.rest)) grew.same
       ∙ append_assoc start.state.entries grew.entries (between.front ++ between.rest)
       ∙ ap (λ (all : List IndexEntry). start.state.entries ++ all) (sym (append_assoc grew.entries between.front between.rest));
-  index = subst (λ (entries : List IndexEntry). IsIndex (record now.state { entries = entries }) (c 0))
+  index = subst (λ (entries : List IndexEntry). IsIndex (record now.state { entries = entries }) c)
       (ap (λ (state : State). state.entries ++ between.front) grew.same ∙ append_assoc start.state.entries grew.entries between.front) between.index;
 }
 

@@ -3,6 +3,7 @@ use Rattle.std.proofs.Common.{◌≡◌, ℕ, ◌+◌, List, [], ◌∷◌, ◌+
 use Rattle.std.proofs.lemmas.List.{take-map, take-append-le}
 use Rattle.std.proofs.lemmas.List.Elements.{All-take}
 use Rattle.std.specs.Prelude.{All}
+use Rattle.fts_disk.specs.Device.{Files}
 use Rattle.fts_types.specs.declared.settings.Settings.{Settings}
 use Rattle.fts_types.specs.Rules.{rules_of}
 use Rattle.fts_commits.specs.Commit.{Commit, no_rows}
@@ -33,20 +34,20 @@ first_of state other n settings same has = record {
   same = sym (take-map entry_payload n other.entries);
 }
 
-not_wrong : (state other : State) (at : ℕ) (file : List ℕ) → other.settings ≡ state.settings → other.commits ≡ state.commits → IsIndex other file → IsWrongAt index_magic (AreOfIndex state) at file → ⊥
-not_wrong state other at file settings same index wrong =
-    let first = first_ones index_magic (index_payloads other) wrong.entries file wrong.rest index.log wrong.fit wrong.bytes in
+not_wrong : (state other : State) (at : ℕ) (files : Files) → other.settings ≡ state.settings → other.commits ≡ state.commits → IsIndex other files → IsWrongAt index_magic (AreOfIndex state) at (files 0) → ⊥
+not_wrong state other at files settings same index wrong =
+    let first = first_ones index_magic (index_payloads other) wrong.entries (files 0) wrong.rest index.log wrong.fit wrong.bytes in
     let taken : take (wrong.k + 1) (index_payloads other) ≡ take (wrong.k + 1) wrong.entries =
     ap (take (wrong.k + 1)) first.1 ∙ take-append-le (wrong.k + 1) wrong.entries first.0 (omega (arith, wrong.within)) in
     wrong.wrong (subst (AreOfIndex state) taken (first_of state other (wrong.k + 1) settings same index.sound))
 
 -- the index log of a database with these settings, over these commits, has no place at fault
-pub not_at_fault : (state other : State) (at : ℕ) (file : List ℕ) → other.settings ≡ state.settings → other.commits ≡ state.commits → IsIndex other file → IsIndexFaultAt state at file → ⊥
-not_at_fault state other at file settings same index (inl (place, no_magic)) =
+pub not_at_fault : (state other : State) (at : ℕ) (files : Files) → other.settings ≡ state.settings → other.commits ≡ state.commits → IsIndex other files → IsIndexFaultAt state at (files 0) → ⊥
+not_at_fault state other at files settings same index (inl (place, no_magic)) =
     no_magic (records (index_payloads other) ++ index.log.gate ∷ index.log.rest)
     (index.log.bytes ∙ append_assoc index_magic (records (index_payloads other)) (index.log.gate ∷ index.log.rest))
-not_at_fault state other at file settings same index (inr (inl wrong)) = not_wrong state other at file settings same index wrong
-not_at_fault state other at file settings same index (inr (inr torn)) = not_damaged index_magic (index_payloads other) file at index.log (inr (torn.entries, torn.broken))
+not_at_fault state other at files settings same index (inr (inl wrong)) = not_wrong state other at files settings same index wrong
+not_at_fault state other at files settings same index (inr (inr torn)) = not_damaged index_magic (index_payloads other) (files 0) at index.log (inr (torn.entries, torn.broken))
 
 -- behind the magic of a rows log the gate is open, since its settings follow
 gate_open : (payload : List ℕ) (entries : List (List ℕ)) (tail : List ℕ) → IsCreated (front rows_magic (payload ∷ entries) ++ tail)

@@ -13,7 +13,7 @@ MayHold state doubt c = IsRows state (c 0) ⊎ IsRows (with_commits state doubt)
 
 -- the index log is that of the state, or of the state and the entries in doubt
 abbrev pub MayHoldIndex : State → List IndexEntry → Images
-MayHoldIndex state loose c = IsIndex state (c 0) ⊎ IsIndex (with_entries state loose) (c 0)
+MayHoldIndex state loose c = IsIndex state c ⊎ IsIndex (with_entries state loose) c
 
 -- the rows log is that of the start with a front of what was added up to now, the commit in doubt as the last
 pub record IsBetween (start now : Running) (c : Files) : Type 0 where
@@ -28,4 +28,4 @@ pub record IsIndexBetween (start now : Running) (c : Files) : Type 0 where
   pub front : List IndexEntry
   pub rest : List IndexEntry
   pub added : now.state.entries ++ now.loose ≡ start.state.entries ++ (front ++ rest)
-  pub index : IsIndex (record now.state { entries = start.state.entries ++ front }) (c 0)
+  pub index : IsIndex (record now.state { entries = start.state.entries ++ front }) c

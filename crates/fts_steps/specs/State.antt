@@ -1,5 +1,6 @@
 -- A database, and the two files that are its logs.
 use Rattle.std.specs.Prelude.{ℕ, List, [], ◌∷◌, ◌++◌, length, map, codes, All}
+use Rattle.fts_disk.specs.Device.{Files}
 use Rattle.fts_types.specs.declared.settings.Settings.{Settings}
 use Rattle.fts_types.specs.Settings.{AreSettings}
 use Rattle.fts_types.specs.Rules.{rules_of}
@@ -88,13 +89,13 @@ pub record IsRows (state : State) (file : List ℕ) : Type 0 where
   pub sound : IsSound state
   pub log : IsLog rows_magic (payloads state) file
 
--- the file is the index log of the database
-pub record IsIndex (state : State) (file : List ℕ) : Type 0 where
+-- file 0 is the index log of the database; nodes may later stand in other files
+pub record IsIndex (state : State) (files : Files) : Type 0 where
   pub sound : HasEntries state
-  pub log : IsLog index_magic (index_payloads state) file
+  pub log : IsLog index_magic (index_payloads state) (files 0)
 
--- the files are the two logs of the database
-pub record IsDatabase (state : State) (rows index : List ℕ) : Type 0 where
+-- the file of the rows and the files of the index are the two logs of the database
+pub record IsDatabase (state : State) (rows : List ℕ) (index : Files) : Type 0 where
   pub of_rows : IsRows state rows
   pub of_index : IsIndex state index
 

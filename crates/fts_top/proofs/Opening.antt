@@ -37,7 +37,7 @@ module _ {D E : Type 0} (disks : Disks D E) (here : Devices D E) where
   can_open (opening.Damaged Index file place) tells state database why calm =
       let damaged = why.1 tells in
       let same = one_rows state damaged.state (disks.rows.seen here.rows 0) database.of_rows damaged.of_rows in
-      absurd (not_at_fault damaged.state state place (disks.index.seen here.index 0) same.0 same.1 database.of_index damaged.place)
+      absurd (not_at_fault damaged.state state place (disks.index.seen here.index) same.0 same.1 database.of_index damaged.place)
   can_open opening.NoMemory tells state database why calm = inr refl
   can_open opening.DiskFault tells state database why calm = absurd (calm refl)
 
@@ -62,9 +62,9 @@ created_right settings = none_right settings [] (record { ascend = tt; lead = re
 -- ---- what was opened
 
 -- the files are the logs of the database, as they are read again
-pub database_read : (state : State) {rows rows' index index' : ℕ → List ℕ} → rows' ≡ rows → index' ≡ index → IsRows state (rows' 0) → IsIndex state (index' 0)
-    → IsDatabase state (rows 0) (index 0)
+pub database_read : (state : State) {rows rows' index index' : ℕ → List ℕ} → rows' ≡ rows → index' ≡ index → IsRows state (rows' 0) → IsIndex state index'
+    → IsDatabase state (rows 0) index
 database_read state seen seen' of_rows of_index = record {
   of_rows = subst (λ (f : ℕ → List ℕ). IsRows state (f 0)) seen of_rows;
-  of_index = subst (λ (f : ℕ → List ℕ). IsIndex state (f 0)) seen' of_index;
+  of_index = subst (IsIndex state) seen' of_index;
 }

@@ -66,7 +66,7 @@ file_of ghosts device = ghosts.seen device 0
 
 -- the two logs are those of the database
 abbrev pub DisksHold : {D E : Type 0} → Disks D E → State → Devices D E → Type 0
-DisksHold disks state here = IsDatabase state (file_of disks.rows here.rows) (file_of disks.index here.index)
+DisksHold disks state here = IsDatabase state (file_of disks.rows here.rows) (disks.index.seen here.index)
 
 -- a run seen from outside: the devices in place of the steps
 abbrev pub seen_from : {D E : Type 0} → Outside D E → Sides (Devices D E)
@@ -128,7 +128,7 @@ pub record Made {D E : Type 0} (disks : Disks D E) (settings : Settings) (before
   pub fresh : IsTrue disks.rows.tells → IsCreated (file_of disks.rows before.rows) → ⊥
   pub rows : IsTrue disks.rows.tells → IsRows (created_with settings) (file_of disks.rows after.rows)
       × Only (disks.rows.seen after.rows) (disks.rows.images after.rows)
-  pub index : IsTrue disks.index.tells → IsIndex (created_with settings) (file_of disks.index after.index)
+  pub index : IsTrue disks.index.tells → IsIndex (created_with settings) (disks.index.seen after.index)
       × Only (disks.index.seen after.index) (disks.index.images after.index)
   pub right : IsRight (created_with settings)
 

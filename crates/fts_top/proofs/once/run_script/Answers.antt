@@ -32,7 +32,7 @@ returns-in-Ok-clause-executed g c =
       outcome = λ tells_input tells_out tells start database.
           let state = (c.in-Ok.ensures.opened tells.0 tells.1).0 in
           let holds = (c.in-Ok.ensures.opened tells.0 tells.1).1 in
-          let same = one_database start state (g.D.Disk.seen c.args.rows 0) (g.E.Disk.seen c.args.index 0) database
+          let same = one_database start state (g.D.Disk.seen c.args.rows 0) (g.E.Disk.seen c.args.index) database
           (database_read state (c.in-Ok.ensures.looks_rows tells.0).seen (c.in-Ok.ensures.looks_index tells.1).seen
           ((holds.on_rows tells.0).reads refl) ((holds.on_index tells.1).reads refl)) in
           let outcome = outcome_on direct_sight refl state.settings c.args.limits
