@@ -5,7 +5,8 @@
 //! engine that one thread owns.
 //!
 //! How many steps an OPTIMIZE makes, and that it is told how many of them were words, are the laws
-//! [`passes_are_bounded`] and [`passes_are_counted`].
+//! [`passes_are_bounded`] and [`passes_are_counted`]; and that a SYNC flushes what was there at its
+//! begin is [`syncs_flush_what_was_there`].
 //!
 //! A line costs its bytes and its steps, and a search what its query's evaluation costs.
 #![tactic(auto)]
@@ -27,6 +28,6 @@ mod update;
 mod view;
 
 pub use direct::Direct;
-pub use laws::{passes_are_bounded, passes_are_counted};
+pub use laws::{passes_are_bounded, passes_are_counted, syncs_flush_what_was_there};
 pub use session::Session;
 pub use steps::EngineSteps;
