@@ -1,0 +1,4 @@
+pub mod Counting
+pub mod Shares
+pub mod Places
+pub mod Putting
