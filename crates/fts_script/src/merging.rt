@@ -1,6 +1,5 @@
 //! Replies in the order of a script's lines.
-ghost use Rattle.std.specs.Prelude.{◌≡◌, ℕ, None, Some, List, length, map, replicate, slice_get, IfOk};
-ghost use Rattle.std.specs.Vec.{vec_capacity};
+ghost use Rattle.std.specs.Prelude.{◌≡◌, ◌<◌, None, Some, length, map, replicate, slice_set, IfOk};
 ghost use Rattle.fts_script.specs.Script.{lines_in};
 ghost use Rattle.fts_script.specs.Group.{IsGrouping, shares_of};
 ghost use Rattle.fts_script.specs.Merge.{IsMerged, AreApart, AreFree, Scatters, items_of};
@@ -54,7 +53,15 @@ fn put_replies<T: Drop>(all: &mut Vec<Option<T>>, places: &[usize], own: Vec<T>)
     while let Some(reply) = left.pop() {
         let at = left.len();
         if at < places.len() {
-            all[places[at]] = Some(reply);
+            put_reply(all, places[at], reply);
         }
     }
+}
+
+// Puts a reply to the place of a line.
+fn put_reply<T: Drop>(all: &mut Vec<Option<T>>, place: usize, reply: T)
+    requires { place < length all.old.items }
+    ensures { all.new.items ≡ slice_set all.old.items place (Some reply) }
+{
+    all[place] = Some(reply);
 }
