@@ -1,6 +1,6 @@
 -- The lines of a script by sessions.
-use Rattle.std.specs.Prelude.{◌≡◌, ◌≢◌, ◌⊎◌, ◌==◌, ◌+◌, ℕ, if◌then◌else◌, List, [], ◌∷◌, ◌++◌, length, map, All, AllPairs}
-use Rattle.std.specs.Prelude.{◌<◌, Option, Some, None, slice_index_or, slice_set}
+use Rattle.std.specs.Prelude.{◌≡◌, ◌≢◌, ◌⊎◌, ◌==◌, ◌+◌, ◌<◌, ℕ, if◌then◌else◌, List, [], ◌∷◌, ◌++◌, length, map}
+use Rattle.std.specs.Prelude.{All, AllPairs, Option, Some, None, slice_index_or, slice_set}
 use Rattle.fts_io.specs.Text.{Line}
 use Rattle.fts_script.specs.Sessions.{IsOf, AreOf}
 use Rattle.fts_script.specs.declared.grouping.Group.{Group}

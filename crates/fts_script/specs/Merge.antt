@@ -15,8 +15,8 @@ abbrev pub reply_of : {T : Type 0} → List (List T) → ℕ → ℕ → Option 
 reply_of replies at number = option_and_then (λ own. slice_get own number) (slice_get replies at)
 
 -- each line has the reply that its session gave to it, and one that is nobody's has none
-pub record IsMerged {T : Type 0} (lines : List Line) (shares : List Share) (replies : List (List T)) (all : List (Option T))
-    : Type 0 where
+pub record IsMerged {T : Type 0} (lines : List Line) (shares : List Share) (replies : List (List T))
+    (all : List (Option T)) : Type 0 where
   pub count : length all ≡ length lines
   pub own : (at number place : ℕ) (one : Share) → slice_get shares at ≡ Some one
       → slice_get one.places number ≡ Some place → slice_get all place ≡ Some (reply_of replies at number)
@@ -34,6 +34,7 @@ AreFree places all = (number place : ℕ) → slice_get places number ≡ Some p
 -- each of these places has its reply of a session, and any other what it had
 pub record Scatters {T : Type 0} (places : List ℕ) (own : List T) (old new : List (Option T)) : Type 0 where
   pub count : length new ≡ length old
-  pub put : (number place : ℕ) → slice_get places number ≡ Some place → slice_get new place ≡ Some (slice_get own number)
+  pub put : (number place : ℕ) → slice_get places number ≡ Some place
+      → slice_get new place ≡ Some (slice_get own number)
   pub kept : (place : ℕ) → ((number : ℕ) → slice_get places number ≡ Some place → ⊥)
       → slice_get new place ≡ slice_get old place
