@@ -9,8 +9,10 @@ use Rattle.fts_top.specs.declared.ends.Halt.TheVariants as halt
 use Rattle.fts_top.specs.declared.ends.RunEnd.TheVariants as end
 use Rattle.fts_top.specs.Health.{end_of}
 use Rattle.fts_top.specs.Kept.{IsOneMore, NextSession}
-use Rattle.fts_top.specs.Sessions.{IsOf, Met, numbers_of, AreOf, IsCrowded}
-use Rattle.fts_top.proofs.Counting.{of_more, one_more_is, numbers_count}
+use Rattle.fts_script.specs.Sessions.{IsOf, AreOf, IsCrowded}
+use Rattle.fts_top.specs.Sessions.{Met, numbers_of}
+use Rattle.fts_script.proofs.Counting.{of_more}
+use Rattle.fts_top.proofs.Counting.{one_more_is, numbers_count}
 
 -- the lines before those ahead are of the sessions that were met
 pub record AreMet (script ahead : List Line) (sessions : List Met) : Type 0 where

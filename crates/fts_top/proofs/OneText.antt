@@ -22,7 +22,7 @@ use Rattle.fts_top.specs.Health.{health_of, health_of_answer, health_of_steps, w
 use Rattle.fts_top.specs.Sessions.{Met, open_in, leaving, SaysOf, Speaks}
 use Rattle.fts_top.specs.Talk.{Talks, AreBatches, if_above, unless_refused, most_behind, texts_of}
 use Rattle.fts_top.specs.Laws.{Converse}
-use Rattle.fts_top.proofs.Counting.{whose}
+use Rattle.fts_script.proofs.Counting.{whose}
 use Rattle.fts_top.proofs.Health.{sound_before, sound_behind, sound_calm}
 
 -- the steps behind the first ones

@@ -8,7 +8,8 @@ use Rattle.fts_top.specs.declared.sessions.Sessions.{Sessions}
 use Rattle.fts_top.specs.declared.ends.Health.{Health}
 use Rattle.fts_top.specs.declared.ends.Halt.{Halt}
 use Rattle.fts_top.specs.declared.ends.Halt.TheVariants as halt
-use Rattle.fts_top.specs.Sessions.{IsOf, Met, met, is_met, open_in, leaving, numbers_of, joined_by}
+use Rattle.fts_script.specs.Sessions.{IsOf, joined_by}
+use Rattle.fts_top.specs.Sessions.{Met, met, is_met, open_in, leaving, numbers_of}
 
 -- what contracts see of sessions
 abbrev pub met_of : Session → Met

@@ -1,6 +1,6 @@
 use Rattle.std.specs.Prelude.{◌≡◌, ◌⊎◌, ◌≤◌, ◌^◌, Bool, ℕ, List, ◌∷◌, [], ◌++◌, length, take, codes, IsTrue}
-use Rattle.fts_io.specs.Text.{Line, lines_of}
-use Rattle.fts_top.specs.Sessions.{AreOf, IsCrowded}
+use Rattle.fts_io.specs.Text.{lines_of}
+use Rattle.fts_script.specs.Sessions.{IsCrowded, HasFewSessions}
 use Rattle.fts_steps.specs.FaultCounts.{OneRose, CountsFaultOf}
 use Rattle.fts_steps.specs.State.{State, IsRows, IsIndex, IsDatabase, IsRight, IsCreated, created_with}
 use Rattle.fts_steps.specs.Running.{opened}
@@ -169,10 +169,6 @@ pub record NoneRose {D E : Type 0} (disks : Disks D E) (before after : Outside D
 -- all was done, but for want of memory
 abbrev pub Finishes : Status → Type 0
 Finishes result = (result ≡ status.Done) ⊎ (result ≡ status.NoMemory)
-
--- the lines are of 16 sessions at most
-abbrev pub HasFewSessions : List Line → Type 0
-HasFewSessions lines = (numbers : List ℕ) × AreOf [] lines numbers × (length numbers ≤ 16)
 
 -- the words are a command that fits the devices: `create` where no database was created, or `run` on a database, with a
 -- script of at most 2^40 bytes, of 16 sessions at most, or `gen` on a database

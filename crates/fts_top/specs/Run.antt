@@ -6,7 +6,8 @@ use Rattle.fts_schema.specs.declared.reply.Reply.{Reply}
 use Rattle.fts_schema.specs.Reply.{text_of, is_fixed}
 use Rattle.fts_steps.specs.Running.{Running}
 use Rattle.fts_steps.specs.Step.{Call, Sight, Runs}
-use Rattle.fts_top.specs.Sessions.{IsOf, Met, is_met, Serves}
+use Rattle.fts_script.specs.Sessions.{IsOf}
+use Rattle.fts_top.specs.Sessions.{Met, is_met, Serves}
 use Rattle.fts_top.specs.declared.ends.Health.{Health}
 use Rattle.fts_top.specs.declared.ends.Health.TheVariants as health
 use Rattle.fts_top.specs.declared.ends.Halt.{Halt}

@@ -1,18 +1,13 @@
--- The sessions of a script: whose each line is, and which transaction is open in each.
-use Rattle.std.specs.Prelude.{◌≡◌, ◌==◌, ℕ, Bool, false, ◌||◌, if◌then◌else◌, List, [], ◌∷◌, ◌++◌, length, map}
+-- The sessions of a script that were met, and which transaction is open in each.
+use Rattle.std.specs.Prelude.{◌≡◌, ◌==◌, ℕ, Bool, false, ◌||◌, if◌then◌else◌, List, [], ◌∷◌, map}
 use Rattle.std.specs.Prelude.{Option, Some, None}
-use Rattle.fts_io.specs.Text.{Line, whole, too_long}
+use Rattle.fts_io.specs.Text.{Line}
 use Rattle.fts_schema.specs.declared.reply.Reply.{Reply}
-use Rattle.fts_sql.specs.Session.{IsSession}
+use Rattle.fts_script.specs.Sessions.{IsOf}
 use Rattle.fts_steps.specs.Step.{Call, Sight}
 use Rattle.fts_types.specs.declared.settings.Settings.{Settings}
 use Rattle.fts_sessions.specs.Transaction.{Transaction}
 use Rattle.fts_sessions.specs.Execute.{Proceeds, Says}
-
--- whose line it is: nobody's where it is blank or a comment; one that is too long is session 1's
-abbrev pub IsOf : Line → Option ℕ → Type 0
-IsOf (whole bytes) session = IsSession bytes session
-IsOf too_long session = session ≡ Some 1
 
 -- a session that was met, by its number, and the transaction that is open in it
 pub record Met : Type 0 where
@@ -56,33 +51,6 @@ abbrev pub Serves : {S : Type 0} → Sight S → Line → List Met → S → Rep
 Serves sight line sessions old reply left new =
     Proceeds sight (λ calls told. Speaks (sight.settings old) line sessions calls told left) old reply new
 
--- the numbers of sessions, with one more
-abbrev pub among : List ℕ → ℕ → List ℕ
-among [] number = number ∷ []
-among (one ∷ numbers) number = if one == number then one ∷ numbers else one ∷ among numbers number
-
-abbrev pub joined_by : List ℕ → Option ℕ → List ℕ
-joined_by numbers None = numbers
-joined_by numbers (Some number) = among numbers number
-
 -- the numbers of sessions that were met
 abbrev pub numbers_of : List Met → List ℕ
 numbers_of sessions = map (λ one. one.number) sessions
-
--- behind these sessions the lines are of those, and of no more
-abbrev pub AreOf : List ℕ → List Line → List ℕ → Type 0
-AreOf numbers [] all = all ≡ numbers
-AreOf numbers (line ∷ lines) all =
-    (session : Option ℕ) × IsOf line session × AreOf (joined_by numbers session) lines all
-
--- one of the lines is the first of a 17th session, which has this number
-pub record IsCrowded (lines : List Line) (number : ℕ) : Type 0 where
-  pub earlier : List Line
-  pub line : Line
-  pub behind : List Line
-  pub numbers : List ℕ
-  pub cut : lines ≡ earlier ++ line ∷ behind
-  pub are : AreOf [] earlier numbers
-  pub many : length numbers ≡ 16
-  pub of : IsOf line (Some number)
-  pub more : length (among numbers number) ≡ 17

@@ -2,7 +2,7 @@
 use Rattle.std.specs.Prelude.{◌≡◌, ◌⊎◌, ℕ, List, [], ◌∷◌, Some}
 use Rattle.fts_io.specs.Text.{Line}
 use Rattle.fts_schema.specs.declared.reply.Reply.{Reply}
-use Rattle.fts_top.specs.Sessions.{IsOf}
+use Rattle.fts_script.specs.Sessions.{IsOf}
 
 -- of the replies to these lines, those to the lines of one session
 abbrev pub AreOwn : ℕ → List Line → List Reply → List Reply → Type 0

@@ -9,7 +9,7 @@ ghost use Rattle.fts_steps.specs.FaultCounts.{NoneFell, CountsFaultOf};
 ghost use Rattle.fts_steps.specs.Running.{Running};
 ghost use Rattle.fts_top.specs.Health.{IsRead};
 ghost use Rattle.fts_top.specs.Kept.{mets, AreKept, AllFit, NextSession};
-ghost use Rattle.fts_top.specs.Sessions.{IsCrowded};
+ghost use Rattle.fts_script.specs.Sessions.{IsCrowded};
 ghost use Rattle.fts_top.specs.Run.{Outcome, OneLine, LeavesEnded, PassesLimit, Sends, sides};
 
 use crate::batches::met_behind;

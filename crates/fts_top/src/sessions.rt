@@ -4,7 +4,8 @@ ghost use Rattle.std.specs.Prelude.{IfOk, IfErr, IfSome, IfNone, OnOk, OnErr};
 ghost use Rattle.fts_io.specs.Text.{whole};
 ghost use Rattle.fts_sessions.specs.declared.session.Session.{Session};
 ghost use Rattle.fts_top.specs.Kept.{mets_of, mets, AreKept, AllFit, IsPlace, IsOneMore};
-ghost use Rattle.fts_top.specs.Sessions.{IsOf, is_met, open_in, leaving, Serves};
+ghost use Rattle.fts_script.specs.Sessions.{IsOf};
+ghost use Rattle.fts_top.specs.Sessions.{is_met, open_in, leaving, Serves};
 
 use fts_io::Gate;
 use fts_schema::Reply;

@@ -11,7 +11,7 @@ use Rattle.fts_top.specs.Once.{Creates, Finishes, sink_seen}
 use Rattle.fts_top.specs.Health.{IsRead}
 use Rattle.fts_io.specs.Text.{lines_of}
 use Rattle.fts_steps.proofs.FaultCounts.{counts_calm}
-use Rattle.fts_top.proofs.Counting.{not_crowded}
+use Rattle.fts_script.proofs.Counting.{few_not_crowded}
 use Rattle.fts_top.proofs.Opening.{can_open, run_finishes}
 use Rattle.fts_top.proofs.Asking.{not_asked, is_asked, one_settings}
 use Rattle.fts_top.proofs.once.fts_once.Goals as goal
@@ -99,7 +99,7 @@ returns-in-Ok-clause-complete g c can calm =
     (λ is. calm.write (c.run_script-end.ensures.write.rose (c.in-Ok.is ∙ ap Ok is)))
     (λ is. calm.disk ((executed.fault (subst IsRead (sym is) tt)).rose is))
     (λ lines bytes is. let passes = executed.too_long lines bytes is run.1 in let past = passes.0 in let all = passes.1 in let few = run.4 in omega (arith, past, all, few))
-    (λ number is. not_crowded (lines_of (g.I.Source.left c.args.input.now)) number (executed.crowded number is run.1) run.5)))
+    (λ number is. few_not_crowded (lines_of (g.I.Source.left c.args.input.now)) number (executed.crowded number is run.1) run.5)))
     (λ made. absurd (let same : Gen made.0.0 made.0.1 ≡ Run = asks_one words (Gen made.0.0 made.0.1) Run made.0.2 asked in cc)))
     can
 
