@@ -1,0 +1,10 @@
+pub mod Telling
+pub mod Histories
+pub mod InTurn
+pub mod Lines
+pub mod Accounts
+pub mod Seats
+pub mod Laying
+pub mod Serving
+pub mod Standing
+pub mod Finding

@@ -1,0 +1,22 @@
+//! One of several threads at one engine.
+ghost use Rattle.std.specs.Prelude.{◌≡◌, ◌≤◌, length};
+ghost use Rattle.fts_engine.specs.Stands.{engine_settings};
+ghost use Rattle.fts_shared.specs.Shared.{first_of};
+
+use crate::AtTurn;
+use crate::placed::Placed;
+use fts_disk::Disk;
+use fts_types::Settings;
+use std::sync::Wait;
+
+/// The steps of one of several threads at one engine: each takes the engine, makes its step, and
+/// gives the engine back.
+#[derive(Drop)]
+pub struct Shared<'a, R: Wait, D: Disk, E: Disk> {
+    pub(crate) rt: &'a R,
+    pub(crate) placed: Placed<'a, AtTurn<D, E>>,
+    pub(crate) settings: &'a Settings,
+    ghost some: { 1 ≤ length settings.now.columns },
+    ghost few: { length settings.now.columns ≤ 8 },
+    ghost kept: { settings.now ≡ engine_settings (first_of placed.0) },
+}
