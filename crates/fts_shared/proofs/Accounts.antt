@@ -1,9 +1,9 @@
 -- What steps that were made say of the account of who made them.
-use Rattle.std.proofs.Common.{◌≡◌, ℕ, ◌+◌, List, [], ◌∷◌, ◌++◌, length, ap, ◌∙◌, sym, refl, append-nil, arith}
+use Rattle.std.proofs.Common.{◌≡◌, ℕ, ◌+◌, List, [], ◌∷◌, ◌++◌, length, ap, ◌∙◌, sym, append-nil, arith}
 use Rattle.std.proofs.lemmas.List.{append_assoc}
 use Rattle.std.specs.Prelude.{IsTrue}
 use Rattle.fts_steps.specs.Running.{Running, Entry}
-use Rattle.fts_steps.specs.Step.{Call, Sight, Steps, Tells, AreMade, Follows, entries_of}
+use Rattle.fts_steps.specs.Step.{Call, Sight, AreMade, Follows, entries_of}
 use Rattle.fts_steps.proofs.Making.{made_traced, traced_follows}
 use Rattle.fts_shared.specs.Talk.{history_of, own_of}
 

@@ -1,5 +1,5 @@
 -- The step that added an entry of the history.
-use Rattle.std.proofs.Common.{◌≡◌, ◌==◌, ◌≤◌, ◌<◌, ℕ, zero, suc, ◌+◌, Bool, true, false, List, [], ◌∷◌, ◌++◌, length, map, ap, ◌∙◌, subst, sym, refl, arith, inl, inr, ◌⊎◌, length-append, append-nil}
+use Rattle.std.proofs.Common.{◌≡◌, ◌==◌, ◌≤◌, ◌<◌, ℕ, zero, suc, ◌+◌, Bool, true, false, List, [], ◌∷◌, ◌++◌, length, ap, ◌∙◌, subst, sym, refl, arith, inl, inr, ◌⊎◌, length-append, append-nil}
 use Rattle.std.proofs.lemmas.List.{append_assoc, append_cancel_left}
 use Rattle.std.proofs.lemmas.List.Elements.{filter-append}
 use Rattle.std.proofs.lemmas.Bool.{false≢true, eq-eqb}
@@ -8,11 +8,10 @@ use mathlib.Core.Bool.{cond}
 use Rattle.fts_types.specs.declared.limits.Limits.{Limits}
 use Rattle.fts_steps.specs.Running.{Running, Entry, What}
 use Rattle.fts_steps.specs.Step.{Ask, Answer, Call, to_commit, to_sync, to_optimize, to_view, to_find, to_list, to_measure, changes_of, entries_of}
-use Rattle.fts_turn.specs.Histories.{Begins, entries_by, NoneFrom}
-use Rattle.fts_turn.specs.Promises.{Numbered}
+use Rattle.fts_turn.specs.Histories.{entries_by}
 use Rattle.fts_shared.specs.History.{noted}
-use Rattle.fts_shared.specs.Laws.{IsNumber, IsStep, before_step, AddedBy}
-use Rattle.fts_shared.specs.Served.{by_whom, AreStepsOf, TellsAll}
+use Rattle.fts_shared.specs.Laws.{IsNumber, before_step, AddedBy}
+use Rattle.fts_shared.specs.Served.{by_whom, TellsAll}
 use Rattle.fts_shared.specs.Talk.{history_of, own_of}
 use Rattle.fts_shared.proofs.Telling.{tells_as}
 use Rattle.fts_shared.proofs.Histories.{same_count}

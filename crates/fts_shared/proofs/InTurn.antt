@@ -1,5 +1,5 @@
 -- A step under the turn.
-use Rattle.std.proofs.Common.{◌≡◌, ◌≤◌, ◌==◌, ℕ, ◌+◌, Bool, true, false, List, [], ◌∷◌, ◌++◌, length, map, refl, sym, ap, ◌∙◌, subst, arith, inl, inr}
+use Rattle.std.proofs.Common.{◌≡◌, ◌≤◌, ◌==◌, ℕ, ◌+◌, Bool, true, false, List, [], ◌++◌, refl, sym, ap, ◌∙◌, subst, arith, inl}
 use Rattle.std.proofs.lemmas.List.{append_assoc}
 use Rattle.std.proofs.lemmas.Bool.{false≢true}
 use Rattle.std.specs.Prelude.{IsTrue}
@@ -10,16 +10,16 @@ use Rattle.fts_turn.specs.declared.seat.Seat.{Seat}
 use Rattle.fts_turn.specs.Histories.{Begins, entries_by}
 use Rattle.fts_turn.specs.Promises.{opening_of, seat_number, seat_seen, seat_gave, seat_turns, IsSameSeat}
 use Rattle.fts_types.specs.declared.limits.Limits.{Limits}
-use Rattle.fts_steps.specs.FaultCounts.{FaultCounts, together, CountsFaultOf}
+use Rattle.fts_steps.specs.FaultCounts.{together, CountsFaultOf}
 use Rattle.fts_steps.specs.Running.{Running, Entry, What, grown}
-use Rattle.fts_steps.specs.Step.{Ask, Answer, to_view, to_list, no_memory, disk_fault, is_disk_fault, changes_of, entries_of, after, MayAnswer, Steps, StepOf, Keeps}
+use Rattle.fts_steps.specs.Step.{Ask, Answer, no_memory, is_disk_fault, changes_of, entries_of, MayAnswer, Steps, Keeps}
 use Rattle.fts_engine.specs.declared.engine.Engine.{Engine}
-use Rattle.fts_engine.specs.Stands.{engine_sight, engine_settings, engine_limits, engine_faults}
+use Rattle.fts_engine.specs.Stands.{engine_sight, engine_limits, engine_faults}
 use Rattle.fts_shared.specs.declared.at_turn.AtTurn.{AtTurn}
-use Rattle.fts_shared.specs.History.{noted, faults_in, StandsFor, entries_at}
-use Rattle.fts_shared.specs.Shared.{Seated, first_of, seat_sight, IsGivenBack}
+use Rattle.fts_shared.specs.History.{noted, faults_in, StandsFor}
+use Rattle.fts_shared.specs.Shared.{first_of, seat_sight, IsGivenBack}
 use Rattle.fts_shared.proofs.Telling.{told_by, calm_told, fault_of, IsOfDevice, tells_as, faults_more}
-use Rattle.fts_shared.proofs.Histories.{grown_more, same_growth, own_below, rose_from, rose_together, faults_told}
+use Rattle.fts_shared.proofs.Histories.{grown_more, same_growth, own_below, rose_from, rose_together}
 
 -- a seat took the value with this engine, which made a step, and gave it back with what the step adds
 module _ {D E : Type 0} {rows : Ghosts D} {index : Ghosts E} (turn : Turns (AtTurn D E rows index) Entry) (seat taken given : Seat (AtTurn D E rows index) Entry)

@@ -1,11 +1,11 @@
 -- Seats with their work, and each by itself.
-use Rattle.std.proofs.Common.{◌≡◌, ◌<◌, ◌≤◌, ℕ, zero, suc, ◌+◌, List, [], ◌∷◌, ◌++◌, length, ap, ◌∙◌, subst, sym, refl, arith, All, slice_index_or, length-append, append-nil, take, drop, Option, Some, None}
+use Rattle.std.proofs.Common.{◌≡◌, ◌<◌, ℕ, zero, suc, List, [], ◌∷◌, ◌++◌, length, ap, ◌∙◌, subst, sym, refl, arith, All, slice_index_or, append-nil, take, drop, Option, Some, None}
 use Rattle.std.proofs.lemmas.List.{drop_all, take_all}
 use Rattle.fts_disk.specs.declared.disk.Disk.{Ghosts}
 use Rattle.fts_steps.specs.Running.{Entry}
 use Rattle.fts_turn.specs.declared.turn.Turns.{Turns}
 use Rattle.fts_turn.specs.declared.seat.Seat.{Seat}
-use Rattle.fts_turn.specs.Promises.{IsAtRest, IsSeat, Numbered}
+use Rattle.fts_turn.specs.Promises.{IsSeat, Numbered}
 use Rattle.fts_io.specs.Text.{Line}
 use Rattle.fts_shared.specs.declared.at_turn.AtTurn.{AtTurn}
 use Rattle.fts_shared.specs.declared.joined.Place.{Place}

@@ -8,7 +8,7 @@ use Rattle.fts_io.specs.Text.{Line, too_long}
 use Rattle.fts_types.specs.declared.settings.Settings.{Settings}
 use Rattle.fts_schema.specs.declared.reply.Reply.{Reply}
 use Rattle.fts_schema.specs.declared.reply.Reply.TheVariants.{LineTooLong}
-use Rattle.fts_steps.specs.Step.{Call, Sight}
+use Rattle.fts_steps.specs.Step.{Sight}
 use Rattle.fts_steps.proofs.FaultCounts.{counts_calm}
 use Rattle.fts_steps.proofs.Making.{made_keeps, made_append}
 use Rattle.fts_sessions.specs.Execute.{Executes}

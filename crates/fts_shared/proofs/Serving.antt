@@ -1,25 +1,23 @@
 -- Sessions that were done at their seats, and one history that tells them.
-use Rattle.std.proofs.Common.{◌≡◌, ◌≤◌, ◌<◌, ℕ, suc, ◌+◌, List, [], ◌∷◌, ◌++◌, length, ap, ◌∙◌, subst, sym, refl, arith, All, Option, Some, None}
+use Rattle.std.proofs.Common.{◌≡◌, ℕ, suc, List, [], ◌∷◌, ◌++◌, length, ap, ◌∙◌, subst, sym, refl}
 use Rattle.fts_disk.specs.declared.disk.Disk.{Ghosts}
 use Rattle.fts_io.specs.Text.{Line}
-use Rattle.fts_types.specs.declared.limits.Limits.{Limits}
-use Rattle.fts_types.specs.declared.settings.Settings.{Settings}
 use Rattle.fts_steps.specs.Running.{Running, Entry, grown}
 use Rattle.fts_steps.specs.Step.{Call}
 use Rattle.fts_engine.specs.declared.engine.Engine.{Engine}
 use Rattle.fts_engine.specs.Stands.{Holds, engine_settings, engine_limits}
 use Rattle.fts_turn.specs.declared.turn.Turns.{Turns}
 use Rattle.fts_turn.specs.declared.seat.Seat.{Seat}
-use Rattle.fts_turn.specs.Histories.{Begins, entries_by, NoneFrom}
-use Rattle.fts_turn.specs.Promises.{seats_of, seat_number, seat_seen, seat_gave, IsAtRest, IsSameSeat, IsSeat, IsUnused, IsToldBy, Numbered}
+use Rattle.fts_turn.specs.Histories.{Begins, NoneFrom}
+use Rattle.fts_turn.specs.Promises.{seats_of, seat_number, seat_seen, seat_gave, IsSeat, IsUnused, IsToldBy, Numbered}
 use Rattle.fts_turn.proofs.Seats.{same_place}
 use Rattle.fts_shared.specs.declared.at_turn.AtTurn.{AtTurn}
 use Rattle.fts_shared.specs.declared.work.Work.{Work}
 use Rattle.fts_shared.specs.Shared.{first_of, seat_sight}
-use Rattle.fts_shared.specs.Talk.{TalksOn, history_of, own_of}
+use Rattle.fts_shared.specs.Talk.{history_of, own_of}
 use Rattle.fts_shared.specs.Places.{IsDone, AreDone}
-use Rattle.fts_shared.specs.Served.{by_whom, AreStepsOf, TellsAll, IsSession, AreSessions, AreServed, IsToldOf}
-use Rattle.fts_shared.proofs.Accounts.{TellsOf, made_tells, made_follows}
+use Rattle.fts_shared.specs.Served.{by_whom, AreStepsOf, AreSessions, AreServed, IsToldOf}
+use Rattle.fts_shared.proofs.Accounts.{made_tells, made_follows}
 
 module _ {D E : Type 0} {rows : Ghosts D} {index : Ghosts E} (lines : List Line) (turn : Turns (AtTurn D E rows index) Entry) where
   abbrev At : Type 0

@@ -1,10 +1,7 @@
 -- Where steps stand in the history that tells them.
-use Rattle.std.proofs.Common.{◌≡◌, ◌==◌, ◌≤◌, ◌<◌, ℕ, zero, suc, ◌+◌, Bool, true, false, max, List, [], ◌∷◌, ◌++◌, length, map, ap, ◌∙◌, subst, sym, refl, arith, Some, inl, inr, ◌⊎◌, length-append, append-nil}
-use Rattle.std.proofs.lemmas.List.{append_assoc, append_cancel_left, length_push}
-use Rattle.std.proofs.lemmas.List.Elements.{filter-append}
+use Rattle.std.proofs.Common.{◌≡◌, ◌≤◌, ◌<◌, ℕ, zero, suc, ◌+◌, max, List, [], ◌∷◌, ◌++◌, length, ap, ◌∙◌, subst, sym, refl, arith, Some, length-append}
+use Rattle.std.proofs.lemmas.List.{append_assoc, length_push}
 use Rattle.std.proofs.Math.Nat.{max-le}
-use Rattle.std.specs.List.{filter}
-use mathlib.Core.Bool.{cond}
 use Rattle.fts_types.specs.Rules.{rules_of}
 use Rattle.fts_types.specs.declared.limits.Limits.{Limits}
 use Rattle.fts_types.specs.declared.settings.Settings.{Settings}
@@ -18,18 +15,16 @@ use Rattle.fts_sessions.specs.Seen.{number_told, Rise}
 use Rattle.fts_sessions.specs.Transaction.{Transaction}
 use Rattle.fts_sessions.proofs.Rising.{count_of, never_falls, commit_counts, line_rises}
 use Rattle.fts_steps.specs.State.{State, IsRight}
-use Rattle.fts_steps.specs.Running.{Running, Entry, What, made, with_what, grown}
-use Rattle.fts_steps.specs.Step.{Ask, Answer, Call, Follows, MayAnswer, to_commit, to_sync, to_optimize, to_view, to_find, to_list, to_measure, committed, refused, full, found, plain_answer, changes_of, entries_of, after_call, after_all}
+use Rattle.fts_steps.specs.Running.{Running, Entry, made, with_what, grown}
+use Rattle.fts_steps.specs.Step.{Ask, Answer, Call, Follows, MayAnswer, to_commit, to_find, committed, refused, full, found, plain_answer, changes_of, entries_of, after_call, after_all}
 use Rattle.fts_steps.proofs.Adding.{grown_all}
-use Rattle.fts_turn.specs.Histories.{Begins, entries_by, NoneFrom}
+use Rattle.fts_turn.specs.Histories.{Begins}
 use Rattle.fts_turn.specs.Promises.{Numbered}
 use Rattle.fts_turn.proofs.Seats.{Numbered-at}
-use Rattle.fts_shared.specs.History.{noted}
-use Rattle.fts_shared.specs.Laws.{IsNumber, IsStep, before_step, HasItsPlace, AddedBy}
+use Rattle.fts_shared.specs.Laws.{IsNumber, IsStep, before_step, HasItsPlace}
 use Rattle.fts_shared.specs.Served.{by_whom, AreStepsOf, TellsAll}
-use Rattle.fts_shared.specs.Talk.{Talks, history_of, own_of}
-use Rattle.fts_shared.proofs.Telling.{tells_as}
-use Rattle.fts_shared.proofs.Histories.{grown_more, same_growth, same_count}
+use Rattle.fts_shared.specs.Talk.{Talks, history_of}
+use Rattle.fts_shared.proofs.Histories.{grown_more, same_growth}
 
 -- ---- lists
 

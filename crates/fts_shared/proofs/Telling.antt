@@ -1,9 +1,8 @@
 -- What answers tell of the counts of faults, and of what a step adds.
-use Rattle.std.proofs.Common.{◌≡◌, ◌≤◌, ℕ, ◌+◌, Bool, true, false, List, [], ◌∷◌, ◌++◌, length, map, refl, sym, ap, ◌∙◌, subst, arith}
+use Rattle.std.proofs.Common.{◌≡◌, ◌≤◌, ℕ, true, false, List, [], ◌∷◌, ◌++◌, length, refl, sym, arith}
 use Rattle.std.proofs.lemmas.Bool.{false≢true}
-use Rattle.std.specs.Prelude.{IsTrue, Result, Ok, Err}
 use Rattle.fts_steps.specs.declared.optimize.OptimizeStep.TheVariants.{Began, Word, Finished, Nothing}
-use Rattle.fts_steps.specs.Running.{Running, Entry, What}
+use Rattle.fts_steps.specs.Running.{Entry, What}
 use Rattle.fts_steps.specs.Step.{Ask, Answer, to_commit, to_sync, to_optimize, to_view, to_find, to_list, to_measure, committed, refused, full, flushed, all_flushed, passed, viewed, found, listed, measured, disk_fault, stopped, no_memory, is_disk_fault, read_changes, changes_of}
 use Rattle.fts_shared.specs.History.{noted, faults_by, faults_in, NoneTellsLess}
 

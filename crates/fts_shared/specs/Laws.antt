@@ -1,8 +1,8 @@
 -- Where a step stands in a history.
-use Rattle.std.specs.Prelude.{◌≡◌, ℕ, ◌+◌, List, [], ◌∷◌, ◌++◌, length, Option, Some}
+use Rattle.std.specs.Prelude.{◌≡◌, ℕ, List, [], ◌∷◌, ◌++◌, length}
 use Rattle.fts_types.specs.declared.limits.Limits.{Limits}
 use Rattle.fts_steps.specs.Running.{Running, Entry, grown}
-use Rattle.fts_steps.specs.Step.{Call, Ask, Answer, MayAnswer, entries_of}
+use Rattle.fts_steps.specs.Step.{Call, MayAnswer, entries_of}
 use Rattle.fts_shared.specs.Talk.{history_of}
 
 -- the list with this number, from 0

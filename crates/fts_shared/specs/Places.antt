@@ -1,5 +1,5 @@
 -- Sessions at their seats.
-use Rattle.std.specs.Prelude.{◌≡◌, ◌≤◌, ℕ, List, [], ◌∷◌, length, Option, Some, None}
+use Rattle.std.specs.Prelude.{◌≡◌, ◌≤◌, List, [], ◌∷◌, length, Some, None}
 use Rattle.fts_disk.specs.declared.disk.Disk.{Ghosts}
 use Rattle.fts_io.specs.Text.{Line}
 use Rattle.fts_types.specs.declared.settings.Settings.{Settings}

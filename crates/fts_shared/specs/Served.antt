@@ -1,10 +1,9 @@
 -- Several sessions at one engine, told by one history.
-use Rattle.std.specs.Prelude.{◌≡◌, ℕ, suc, List, [], ◌∷◌, ◌++◌, length, None}
+use Rattle.std.specs.Prelude.{◌≡◌, ℕ, List, [], ◌∷◌, ◌++◌, length, None}
 use Rattle.fts_disk.specs.declared.disk.Disk.{Ghosts}
 use Rattle.fts_io.specs.Text.{Line}
 use Rattle.fts_types.specs.declared.limits.Limits.{Limits}
 use Rattle.fts_types.specs.declared.settings.Settings.{Settings}
-use Rattle.fts_schema.specs.declared.reply.Reply.{Reply}
 use Rattle.fts_steps.specs.Running.{Running, Entry, grown}
 use Rattle.fts_steps.specs.Step.{Call, Follows}
 use Rattle.fts_engine.specs.declared.engine.Engine.{Engine}

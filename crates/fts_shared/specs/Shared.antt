@@ -1,5 +1,5 @@
 -- What contracts see of the steps of one seat at the turn.
-use Rattle.std.specs.Prelude.{◌≡◌, ℕ, ◌+◌, List, ◌++◌, true}
+use Rattle.std.specs.Prelude.{◌≡◌, ℕ, List, ◌++◌, true}
 use Rattle.fts_disk.specs.declared.disk.Disk.{Ghosts}
 use Rattle.fts_steps.specs.FaultCounts.{together}
 use Rattle.fts_steps.specs.Running.{Running, Entry, grown}

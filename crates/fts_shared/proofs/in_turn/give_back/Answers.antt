@@ -1,4 +1,4 @@
-use Rattle.std.proofs.Common.{sym, subst, ap, ◌∙◌}
+use Rattle.std.proofs.Common.{sym, subst}
 use Rattle.fts_turn.specs.Histories.{AllBy}
 use Rattle.fts_turn.specs.Promises.{seat_number}
 use Rattle.fts_steps.specs.Running.{Entry}

@@ -1,4 +1,4 @@
-use Rattle.std.proofs.Common.{refl, arith}
+use Rattle.std.proofs.Common.{arith}
 use Rattle.fts_turn.specs.Promises.{opening_of, seat_number, seat_seen}
 use Rattle.fts_steps.specs.Step.{to_sync, changes_of}
 use Rattle.fts_steps.specs.Answers.{sync_answer_of}

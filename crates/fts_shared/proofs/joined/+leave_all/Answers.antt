@@ -1,4 +1,4 @@
-use Rattle.std.proofs.Common.{◌≡◌, ◌+◌, [], ◌∷◌, ◌++◌, length, Some, sym, ap, ◌∙◌, subst, arith}
+use Rattle.std.proofs.Common.{◌≡◌, [], ◌∷◌, ◌++◌, length, Some, sym, ap, ◌∙◌, arith}
 use Rattle.fts_shared.specs.Places.{at_places, at_place}
 use Rattle.fts_shared.proofs.Laying.{places_more, is_place}
 use Rattle.fts_shared.proofs.joined.+leave_all.Goals as goal

@@ -1,4 +1,4 @@
-use Rattle.std.proofs.Common.{◌≡◌, ◌+◌, [], ◌∷◌, ◌++◌, length, sym, ap, ◌∙◌, subst, arith, length-append}
+use Rattle.std.proofs.Common.{◌≡◌, [], ◌∷◌, ◌++◌, length, sym, ap, ◌∙◌, arith, length-append}
 use Rattle.fts_shared.specs.Places.{at_places, at_place}
 use Rattle.fts_shared.proofs.Laying.{places_more, as_many}
 use Rattle.fts_shared.proofs.joined.+place_all.Goals as goal

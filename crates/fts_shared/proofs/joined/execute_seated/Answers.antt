@@ -1,4 +1,4 @@
-use Rattle.std.proofs.Common.{◌≡◌, ◌≤◌, ◌++◌, length, take, drop, rules, vec_capacity, ap, ◌∙◌, sym, subst, arith, All}
+use Rattle.std.proofs.Common.{◌≤◌, length, rules, vec_capacity, ap, ◌∙◌, sym, subst, arith, All}
 use Rattle.fts_script.specs.Script.{lines_in}
 use Rattle.fts_shared.specs.Places.{Pairwise, at_places, IsReady, HasSeat, HasTalked}
 use Rattle.fts_shared.proofs.Laying.{as_long, all_written, as_many, all_ready, all_seated, all_done}

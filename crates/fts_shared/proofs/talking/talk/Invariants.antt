@@ -1,4 +1,4 @@
-use Rattle.std.proofs.Common.{◌≡◌, ◌≤◌, ℕ, List, ◌++◌, length, map, drop, vec_capacity}
+use Rattle.std.proofs.Common.{◌≡◌, ◌≤◌, List, ◌++◌, length, drop, vec_capacity}
 use Rattle.fts_script.specs.Script.{lines_in}
 use Rattle.fts_schema.specs.declared.reply.Reply.{Reply}
 use Rattle.fts_sessions.specs.Transaction.{Transaction, FitsTable}
