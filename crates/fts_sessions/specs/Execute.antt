@@ -1,4 +1,4 @@
-use Rattle.std.specs.Prelude.{◌≡◌, ◌⊎◌, ℕ, List, []}
+use Rattle.std.specs.Prelude.{◌≡◌, ◌⊎◌, ℕ, List, [], None, codes}
 use Rattle.fts_io.specs.Text.{Line}
 use Rattle.fts_types.specs.declared.settings.Settings.{Settings}
 use Rattle.fts_schema.specs.declared.reply.Reply.{Reply}
@@ -6,7 +6,7 @@ use Rattle.fts_schema.specs.declared.reply.Reply.TheVariants.{NoMemory, DiskFaul
 use Rattle.fts_steps.specs.FaultCounts.{CountsFaultOf}
 use Rattle.fts_steps.specs.Step.{Ask, Answer, Call, Sight, Steps, AreMade}
 use Rattle.fts_sessions.specs.Query.{Search, IsSearch}
-use Rattle.fts_sessions.specs.Request.{Request, IsRequest}
+use Rattle.fts_sessions.specs.Request.{Request, IsRequest, optimizes}
 use Rattle.fts_sessions.specs.Transaction.{Transaction}
 use Rattle.fts_sessions.specs.Conversation.{Next, asks, ends, Converses, reply_to, match_begins, search_begins, behind}
 
@@ -37,6 +37,10 @@ Executes sight line transaction old reply left new =
 abbrev pub GoesOn : {S : Type 0} → Sight S → Settings → Transaction → Request → List Answer → S → Reply → S → Type 0
 GoesOn sight settings transaction request answers old reply new =
     Proceeds sight (Converses settings transaction request answers) old reply new
+
+-- an OPTIMIZE of the documents is done, where no transaction is open
+abbrev pub Optimizes : {S : Type 0} → Sight S → S → Reply → S → Type 0
+Optimizes sight old reply new = GoesOn sight (sight.settings old) None (optimizes (codes "docs")) [] old reply new
 
 -- one step is made: its answer, and the reply that tells it
 pub record Makes {S : Type 0} (sight : Sight S) (ask : Ask) (old : S) (reply : Reply) (new : S) : Type 0 where

@@ -4,7 +4,7 @@ ghost use Rattle.fts_types.specs.declared.settings.Settings.{Settings};
 ghost use Rattle.fts_steps.specs.Step.{to_optimize, passed};
 ghost use Rattle.fts_sessions.specs.Conversation.{asks, begins, leaves_open, words_in};
 ghost use Rattle.fts_sessions.specs.Conversation.{unknown_name, optimized as the_optimized};
-ghost use Rattle.fts_sessions.specs.Execute.{GoesOn};
+ghost use Rattle.fts_sessions.specs.Execute.{GoesOn, Optimizes};
 ghost use Rattle.fts_sessions.specs.Request.{optimizes};
 ghost use Rattle.fts_sessions.specs.Transaction.{Transaction};
 
@@ -28,6 +28,14 @@ pub fn optimize<S: EngineSteps>(steps: &mut S, table: Text) -> Reply
             make_steps(steps, most)
         }
     }
+}
+
+/// One OPTIMIZE of the documents, as a statement makes it where no transaction is open.
+pub fn optimize_once<S: EngineSteps>(steps: &mut S) -> Reply
+    ensures { Optimizes S.sight steps.old result steps.new }
+{
+    let most = u64::from(steps.optimize_words());
+    make_steps(steps, most)
 }
 
 // The refusal of a table that isn't there.
