@@ -3,7 +3,7 @@ use Rattle.std.proofs.Common.{◌≡◌, ◌∙◌, ℕ, List, Option, Some, ap,
 use Rattle.clap.specs.Words.{Row, Text}
 use Rattle.fts_args.specs.Asked.{Asks, HasOptions, HasNumbers, IsCommand}
 use Rattle.fts_args.specs.declared.command.Command.{Command}
-use Rattle.fts_args.specs.declared.command.Command.TheVariants.{Create, Run, Gen}
+use Rattle.fts_args.specs.declared.command.Command.TheVariants.{Create, Run, Serve, Gen}
 use Rattle.fts_types.specs.declared.settings.Settings.{Settings}
 
 -- what is read of one value is one value
@@ -39,12 +39,19 @@ one_script rows a b n m h k = ap (λ (s : ℕ). Gen s n) (same _ _ _ h.seed k.se
 one_command : (met : Text × List Row) (one other : Command) → IsCommand met one → IsCommand met other → one ≡ other
 one_command met (Create s) (Create t) h k = ap Create (one_options met.1 s t (same _ _ _ h.1.columns k.1.columns) h.1.options k.1.options)
 one_command met (Create s) Run h k = absurd (two_names met.0 (codes "create") (codes "run") (λ (e : ◌≡◌ {A = ℕ} 99 114). omega arith) h.0 k)
+one_command met (Create s) Serve h k = absurd (two_names met.0 (codes "create") (codes "serve") (λ (e : ◌≡◌ {A = ℕ} 99 115). omega arith) h.0 k)
 one_command met (Create s) (Gen b m) h k = absurd (two_names met.0 (codes "create") (codes "gen") (λ (e : ◌≡◌ {A = ℕ} 99 103). omega arith) h.0 k.0)
 one_command met Run (Create t) h k = absurd (two_names met.0 (codes "run") (codes "create") (λ (e : ◌≡◌ {A = ℕ} 114 99). omega arith) h k.0)
 one_command met Run Run h k = refl
+one_command met Run Serve h k = absurd (two_names met.0 (codes "run") (codes "serve") (λ (e : ◌≡◌ {A = ℕ} 114 115). omega arith) h k)
 one_command met Run (Gen b m) h k = absurd (two_names met.0 (codes "run") (codes "gen") (λ (e : ◌≡◌ {A = ℕ} 114 103). omega arith) h k.0)
+one_command met Serve (Create t) h k = absurd (two_names met.0 (codes "serve") (codes "create") (λ (e : ◌≡◌ {A = ℕ} 115 99). omega arith) h k.0)
+one_command met Serve Run h k = absurd (two_names met.0 (codes "serve") (codes "run") (λ (e : ◌≡◌ {A = ℕ} 115 114). omega arith) h k)
+one_command met Serve Serve h k = refl
+one_command met Serve (Gen b m) h k = absurd (two_names met.0 (codes "serve") (codes "gen") (λ (e : ◌≡◌ {A = ℕ} 115 103). omega arith) h k.0)
 one_command met (Gen a n) (Create t) h k = absurd (two_names met.0 (codes "gen") (codes "create") (λ (e : ◌≡◌ {A = ℕ} 103 99). omega arith) h.0 k.0)
 one_command met (Gen a n) Run h k = absurd (two_names met.0 (codes "gen") (codes "run") (λ (e : ◌≡◌ {A = ℕ} 103 114). omega arith) h.0 k)
+one_command met (Gen a n) Serve h k = absurd (two_names met.0 (codes "gen") (codes "serve") (λ (e : ◌≡◌ {A = ℕ} 103 115). omega arith) h.0 k)
 one_command met (Gen a n) (Gen b m) h k = one_script met.1 a b n m h.1 k.1
 
 pub asks_one : (words : List Text) (one other : Command) → Asks words one → Asks words other → one ≡ other

@@ -77,6 +77,14 @@ run_name : name_of (codes "D" ∷ codes "run" ∷ []) ≡ Some (codes "run")
 unfolding clap_on_literals
 run_name = refl
 
+serve_taken : fault_of command_line (codes "D" ∷ codes "serve" ∷ []) ≡ []
+unfolding clap_on_literals
+serve_taken = refl
+
+serve_name : name_of (codes "D" ∷ codes "serve" ∷ []) ≡ Some (codes "serve")
+unfolding clap_on_literals
+serve_name = refl
+
 -- what is refused, with the kind of its fault
 
 nothing_asked : fault_of command_line [] ≡ kind.MissingSubcommand ∷ []
@@ -90,6 +98,10 @@ folder_alone = refl
 word_after_run : fault_of command_line (codes "D" ∷ codes "run" ∷ codes "x" ∷ []) ≡ kind.UnknownArgument ∷ []
 unfolding clap_on_literals
 word_after_run = refl
+
+word_after_serve : fault_of command_line (codes "D" ∷ codes "serve" ∷ codes "x" ∷ []) ≡ kind.UnknownArgument ∷ []
+unfolding clap_on_literals
+word_after_serve = refl
 
 help_flag : fault_of command_line (codes "D" ∷ codes "--help" ∷ []) ≡ kind.UnknownArgument ∷ []
 unfolding clap_on_literals

@@ -5,7 +5,7 @@ use Rattle.clap.specs.Words.{Row, Text, fault_of, first_of, subcommand_of}
 use Rattle.fts_args.specs.Line.{command_line}
 use Rattle.fts_args.specs.Options.{flag_in, number_in}
 use Rattle.fts_args.specs.declared.command.Command.{Command}
-use Rattle.fts_args.specs.declared.command.Command.TheVariants.{Create, Run, Gen}
+use Rattle.fts_args.specs.declared.command.Command.TheVariants.{Create, Run, Serve, Gen}
 use Rattle.fts_types.specs.declared.settings.Settings.{Settings}
 use Rattle.fts_types.specs.Settings.{AreSettings}
 
@@ -37,6 +37,7 @@ pub record HasNumbers (rows : List Row) (first second : ℕ) : Type 0 where
 abbrev pub IsCommand : Text × List Row → Command → Type 0
 IsCommand met (Create settings) = (met.0 ≡ codes "create") × HasSettings met.1 settings
 IsCommand met Run = met.0 ≡ codes "run"
+IsCommand met Serve = met.0 ≡ codes "serve"
 IsCommand met (Gen seed count) = (met.0 ≡ codes "gen") × HasNumbers met.1 seed count
 
 -- what the subcommand that was met asks for, if one was

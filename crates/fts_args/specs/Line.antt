@@ -48,4 +48,5 @@ top_line = record (new_app (codes "fts")) {
 
 abbrev pub command_line : App
 command_line =
-    with_subcommand (with_subcommand (with_subcommand top_line create_line) (new_shape (codes "run"))) gen_line
+    let some = with_subcommand (with_subcommand top_line create_line) (new_shape (codes "run")) in
+    with_subcommand (with_subcommand some (new_shape (codes "serve"))) gen_line

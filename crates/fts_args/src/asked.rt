@@ -55,6 +55,7 @@ fn asked_of(alloc: Global, name: &str, options: &ArgMatches) -> Result<Option<Co
     match name {
         "create" => created_by(alloc, options),
         "run" => Ok(Some(Command::Run)),
+        "serve" => Ok(Some(Command::Serve)),
         "gen" => Ok(generated_by(options)),
         _ => Ok(None),
     }

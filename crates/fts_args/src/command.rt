@@ -10,6 +10,8 @@ pub enum Command {
     },
     /// The statements of the standard input.
     Run,
+    /// The statements of the standard input, each session in a thread of its own.
+    Serve,
     /// The statements of a script that is made from a number.
     Gen {
         /// The number.

@@ -8,7 +8,8 @@ use clap::builder::ValueParser;
 use clap::{Arg, ArgAction};
 use std::alloc::{AllocError, Global};
 
-/// The command line: the folder, then `create` with its options, `run`, or `gen` with its numbers.
+/// The command line: the folder, then `create` with its options, `run`, `serve`, or `gen` with its
+/// numbers.
 pub(crate) fn command_line<'a>(alloc: Global) -> Result<clap::Command<'a>, AllocError>
     ensures { IfOk result (λ line. app_of line ≡ command_line) }
 {
@@ -18,6 +19,7 @@ pub(crate) fn command_line<'a>(alloc: Global) -> Result<clap::Command<'a>, Alloc
         .subcommand_required(true)
         .subcommand(create_line(alloc)?)?
         .subcommand(clap::Command::new(alloc, "run"))?
+        .subcommand(clap::Command::new(alloc, "serve"))?
         .subcommand(gen_line(alloc)?)
 }
 

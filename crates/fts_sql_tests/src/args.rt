@@ -18,6 +18,7 @@ fn created(alloc: Global, line: &str) -> Result<Option<Settings>, AllocError> {
     match command_of(alloc, words.as_slice())? {
         Some(Command::Create { settings }) => Ok(Some(settings)),
         Some(Command::Run) => Ok(None),
+        Some(Command::Serve) => Ok(None),
         Some(Command::Gen { .. }) => Ok(None),
         None => Ok(None),
     }
@@ -166,12 +167,14 @@ const FAULTY_SETTINGS: [&str; 22] = [
     "D create --columns body --no-stopword=true",
 ];
 
-const FAULTY_COMMANDS: [&str; 24] = [
+const FAULTY_COMMANDS: [&str; 25] = [
     "",
     "D",
     "D frob",
     "D run x",
     "D run --columns a",
+    "D serve x",
+    "D serve --columns a",
     "D create --columns body x",
     "D create x --columns body",
     "D create --columns body --frob",
@@ -187,7 +190,6 @@ const FAULTY_COMMANDS: [&str; 24] = [
     "D --version",
     "D -V",
     "D create --help",
-    "D serve",
     "D run run",
     "D -- run",
     "create --columns body",
@@ -276,5 +278,17 @@ fn is_run(alloc: Global, line: &str) -> Result<bool, AllocError> {
 #[test]
 fn run_is_asked_for(rt: HostRuntime) -> Result<(), Fail> {
     assert!(rt; is_run(rt.alloc(), "D run")?);
+    Ok(())
+}
+
+fn is_serve(alloc: Global, line: &str) -> Result<bool, AllocError> {
+    let words = words_of(alloc, line)?;
+    let command = command_of(alloc, words.as_slice())?;
+    Ok(matches!(command, Some(Command::Serve)))
+}
+
+#[test]
+fn serve_is_asked_for(rt: HostRuntime) -> Result<(), Fail> {
+    assert!(rt; is_serve(rt.alloc(), "D serve")?);
     Ok(())
 }

@@ -36,5 +36,6 @@ returns c =
     let first = described_subcommand top_line _ c.subcommand_required.result c.in_ok-create_line.field-0 c.in_ok-subcommand.field-0
     (record { is = top; local = local }) c.in_ok-create_line.ensures.shape c.in_ok-create_line.ensures.local c.in_ok-subcommand.ensures in
     let second = described_subcommand _ _ _ _ _ first (ap (λ (a : App). a.top) c.new-2.ensures.app) c.new-2.ensures.local c.in_ok-subcommand-2.ensures in
-    IfOk-weaker c.subcommand-3.result _ _ (λ line adds.
-    (described_subcommand _ _ _ _ line second c.in_ok-gen_line.ensures.shape c.in_ok-gen_line.ensures.local adds).is) c.subcommand-3.ensures
+    let third = described_subcommand _ _ _ _ _ second (ap (λ (a : App). a.top) c.new-3.ensures.app) c.new-3.ensures.local c.in_ok-subcommand-3.ensures in
+    IfOk-weaker c.subcommand-4.result _ _ (λ line adds.
+    (described_subcommand _ _ _ _ line third c.in_ok-gen_line.ensures.shape c.in_ok-gen_line.ensures.local adds).is) c.subcommand-4.ensures
