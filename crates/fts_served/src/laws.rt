@@ -12,7 +12,8 @@ ghost use Rattle.fts_steps.specs.Step.{Call, to_find, found};
 ghost use Rattle.fts_engine.specs.Stands.{Holds};
 ghost use Rattle.fts_engine.specs.declared.engine.Engine.{Engine};
 ghost use Rattle.fts_shared.specs.Laws.{IsStep, before_step};
-ghost use Rattle.fts_shared.specs.Served.{AreServed};
+ghost use Rattle.fts_shared.specs.Served.{AreServed, by_number};
+ghost use Rattle.fts_shared.specs.declared.served.Served.{Served};
 ghost use Rattle.fts_shared.specs.declared.work.Work.{Work};
 
 use fts_commits::are_turns;
@@ -22,10 +23,10 @@ use fts_disk::Disk;
 /// history.
 pub fn indexes_stay_right<D: Disk, E: Disk>()
     ensures { (lines : List Line) → (first : Engine D E D.Disk E.Disk)
-        → (now : Engine D E D.Disk E.Disk)
-        → (works : List Work) → (told : List Work) → (served : AreServed lines first now works told)
+        → (works : List Work) → (served : Served D E D.Disk E.Disk)
+        → (are : AreServed lines first works served)
         → (start : State) → Holds (opened start) first → IsRight start
-        → (front : List Entry) → (rest : List Entry) → served.history ≡ front ++ rest
+        → (front : List Entry) → (rest : List Entry) → are.history ≡ front ++ rest
         → HasRightIndex (grown (opened start) front) }
 {
     are_turns();
@@ -35,10 +36,11 @@ pub fn indexes_stay_right<D: Disk, E: Disk>()
 /// in which its query holds.
 pub fn found_is_scan<D: Disk, E: Disk>()
     ensures { (lines : List Line) → (first : Engine D E D.Disk E.Disk)
-        → (now : Engine D E D.Disk E.Disk)
-        → (works : List Work) → (told : List Work) → (served : AreServed lines first now works told)
+        → (works : List Work) → (served : Served D E D.Disk E.Disk)
+        → (are : AreServed lines first works served)
         → (start : State) → Holds (opened start) first → IsRight start
-        → (by : ℕ) → (earlier : List Call) → (call : Call) → IsStep served.all by earlier call
+        → (by : ℕ) → (earlier : List Call) → (call : Call)
+        → IsStep (by_number are.calls) by earlier call
         → (terms : Terms) → call.ask ≡ to_find terms
         → (number : ℕ) → (docs : List ℕ) → call.answer ≡ found number docs
         → (met : Running) → met ≡ grown (opened start) (before_step by earlier call)

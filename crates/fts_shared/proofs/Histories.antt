@@ -82,9 +82,18 @@ stands_first value = record {
   count = omega arith;
   faults = refl;
   rising = tt;
+  none_fell = (omega arith, omega arith);
 }
 
 -- ---- the counts of faults behind a step of the engine
+
+pub fell_on : (first middle last : FaultCounts) → NoneFell first middle → NoneFell middle last → NoneFell first last
+fell_on first middle last earlier later =
+    let rows = earlier.0 in
+    let rows' = later.0 in
+    let index = earlier.1 in
+    let index' = later.1 in
+    (omega (arith, rows, rows'), omega (arith, index, index'))
 
 module _ {D E : Type 0} {rows : Ghosts D} {index : Ghosts E} (old new : Engine D E rows index) (answer : Answer) (keeps : Keeps engine_sight answer old new) where
   by_fault : (b : Bool) → is_disk_fault answer ≡ b → together (engine_faults new) ≡ told_by answer (together (engine_faults old))
@@ -152,6 +161,7 @@ module _ {D E : Type 0} {rows : Ghosts D} {index : Ghosts E} (first old new : At
     faults = sym told ∙ sym (faults_more before history (entries_of n ask answer));
     rising = rising_more before history (entries_of n ask answer) was.rising
         (rising_one (faults_in before history) n (changes_of ask answer) (tells_as ask answer of).1 above);
+    none_fell = fell_on (engine_faults first.engine) (engine_faults old.engine) (engine_faults new.engine) was.none_fell step.keeps.faults.never_fall;
   }
 
   -- the same, of what its result tells that it adds

@@ -8,3 +8,4 @@ pub mod Laying
 pub mod Serving
 pub mod Standing
 pub mod Finding
+pub mod Ordering

@@ -1,8 +1,11 @@
 -- What a seat's steps say of its seat.
-use Rattle.std.proofs.Common.{◌≡◌, ℕ, List, [], ◌∷◌, ap, ◌∙◌, subst, sym, refl}
+use Rattle.std.proofs.Common.{◌≡◌, ℕ, List, [], ◌∷◌, ◌++◌, ap, ◌∙◌, subst, sym, refl}
 use Rattle.fts_io.specs.Text.{Line}
 use Rattle.fts_disk.specs.declared.disk.Disk.{Ghosts}
 use Rattle.fts_schema.specs.declared.reply.Reply.{Reply}
+use Rattle.fts_types.specs.declared.settings.Settings.{Settings}
+use Rattle.fts_workers.specs.declared.health.Health.{Health}
+use Rattle.fts_workers.specs.Workers.{Works, all_steps}
 use Rattle.fts_steps.specs.Running.{Entry}
 use Rattle.fts_steps.specs.Step.{Ask, Answer, Call, Keeps, Steps, AreMade}
 use Rattle.fts_sessions.specs.Transaction.{Transaction}
@@ -57,17 +60,30 @@ module _ {S D E : Type 0} {rows : Ghosts D} {index : Ghosts E} (at : S → Seate
       let here = seat_steps call.ask call.answer old mid step in
       (at mid, (here.0, here.1 ∙ same), seat_made calls mid new made)
 
-  module _ (old new : S) (transaction left : Transaction) (lines : List Line) (replies : List Reply) (talks : TalksOn (sight_at at) transaction lines replies left old new) where
-    pub seat_talks : TalksOn (seat_sight {rows = rows} {index = index}) transaction lines replies left (at old) (at new)
-    seat_talks = record { calls = talks.calls; talks = talks.talks; made = seat_made talks.calls old new talks.made }
+  pub seat_talks : (old new : S) (transaction left : Transaction) (lines : List Line) (replies : List Reply) → TalksOn (sight_at at) transaction lines replies left old new
+      → TalksOn (seat_sight {rows = rows} {index = index}) transaction lines replies left (at old) (at new)
+  seat_talks old new transaction left lines replies talks = record { calls = talks.calls; talks = talks.talks; made = seat_made talks.calls old new talks.made }
 
+  pub seat_works : (Round : Settings → List Call → Type 0) (met : Health) (old new : S) → Works (sight_at at) Round met old new
+      → Works (seat_sight {rows = rows} {index = index}) Round met (at old) (at new)
+  seat_works Round met old new works = record {
+    rounds = works.rounds;
+    last = works.last;
+    are = works.are;
+    last_is = works.last_is;
+    made = seat_made (all_steps works.rounds ++ works.last) old new works.made;
+    met_is = works.met_is;
+    faults = works.faults;
+  }
+
+  module _ (calls : List Call) (old new : S) (made : AreMade (sight_at at) calls old new) where
     pub same_turn : (at new).0 ≡ (at old).0
-    same_turn = ap (λ (p : Turns (AtTurn D E rows index) Entry × ℕ). p.0) (made_tells (sight_at at) refl talks.calls old new talks.made).place
+    same_turn = ap (λ (p : Turns (AtTurn D E rows index) Entry × ℕ). p.0) (made_tells (sight_at at) refl calls old new made).place
 
     pub same_seat : IsSameSeat (at old).1 (at new).1
     same_seat = record {
-      number = (made_tells (sight_at at) refl talks.calls old new talks.made).number;
-      makes = ap (λ (p : Turns (AtTurn D E rows index) Entry × ℕ). p.1) (made_tells (sight_at at) refl talks.calls old new talks.made).place;
+      number = (made_tells (sight_at at) refl calls old new made).number;
+      makes = ap (λ (p : Turns (AtTurn D E rows index) Entry × ℕ). p.1) (made_tells (sight_at at) refl calls old new made).place;
     }
 
 module _ {D E : Type 0} {rows : Ghosts D} {index : Ghosts E} (turn : Turns (AtTurn D E rows index) Entry) (seat result : Seat (AtTurn D E rows index) Entry) (old new : Seated rows index)
@@ -80,10 +96,8 @@ module _ {D E : Type 0} {rows : Ghosts D} {index : Ghosts E} (turn : Turns (AtTu
       subst (λ (r : Seat (AtTurn D E rows index) Entry). IsSameSeat seat r) (sym is)
       (subst (λ (o : Seated rows index). IsSameSeat o.1 new.1) begun same)
 
-  pub settled : (transaction from left : Transaction) (lines : List Line) (replies : List Reply) → from ≡ transaction → TalksOn (seat_sight {rows = rows} {index = index}) from lines replies left old new
-      → TalksOn (seat_sight {rows = rows} {index = index}) transaction lines replies left (turn, seat) (turn, result)
-  settled transaction from left lines replies same talks =
-      subst (λ (r : Seat (AtTurn D E rows index) Entry). TalksOn (seat_sight {rows = rows} {index = index}) transaction lines replies left (turn, seat) (turn, r)) (sym is)
-      (subst (λ (t : Turns (AtTurn D E rows index) Entry). TalksOn (seat_sight {rows = rows} {index = index}) transaction lines replies left (turn, seat) (t, new.1)) (stays ∙ ap (λ (p : Seated rows index). p.0) begun)
-      (subst (λ (o : Seated rows index). TalksOn (seat_sight {rows = rows} {index = index}) transaction lines replies left o new) begun
-      (subst (λ (t : Transaction). TalksOn (seat_sight {rows = rows} {index = index}) t lines replies left old new) same talks)))
+  pub settled : (P : Seated rows index → Seated rows index → Type 0) → P old new → P (turn, seat) (turn, result)
+  settled P is_so =
+      subst (λ (r : Seat (AtTurn D E rows index) Entry). P (turn, seat) (turn, r)) (sym is)
+      (subst (λ (t : Turns (AtTurn D E rows index) Entry). P (turn, seat) (t, new.1)) (stays ∙ ap (λ (p : Seated rows index). p.0) begun)
+      (subst (λ (o : Seated rows index). P o new) begun is_so))

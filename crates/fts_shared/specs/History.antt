@@ -2,7 +2,7 @@
 use Rattle.std.specs.Prelude.{◌≡◌, ◌≤◌, ◌<◌, ◌^◌, ℕ, ◌+◌, List, [], ◌∷◌, ◌++◌, length, map, Option, Some, None}
 use Rattle.std.proofs.Common.{arith}
 use Rattle.fts_disk.specs.declared.disk.Disk.{Ghosts}
-use Rattle.fts_steps.specs.FaultCounts.{together}
+use Rattle.fts_steps.specs.FaultCounts.{together, NoneFell}
 use Rattle.fts_steps.specs.Running.{Running, Entry, What, made, batched, optimized, failed, batch_failed}
 use Rattle.fts_steps.specs.Running.{optimize_failed, read_failed, grown}
 use Rattle.fts_engine.specs.declared.engine.Engine.{Engine}
@@ -60,6 +60,7 @@ pub record StandsFor {D E : Type 0} {rows : Ghosts D} {index : Ghosts E} (first 
   pub count : entries_at now ≡ entries_at first + length history
   pub faults : together (engine_faults now.engine) ≡ faults_in (together (engine_faults first.engine)) history
   pub rising : NoneTellsLess (together (engine_faults first.engine)) history
+  pub none_fell : NoneFell (engine_faults first.engine) (engine_faults now.engine)
 
 -- so many are few
 pub few : {D E : Type 0} {rows : Ghosts D} {index : Ghosts E} (first now : AtTurn D E rows index)

@@ -1,6 +1,7 @@
 pub mod History
 pub mod Shared
 pub mod Sight
+pub mod Settled
 pub mod Talk
 pub mod Work
 pub mod Places

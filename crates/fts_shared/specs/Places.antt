@@ -1,18 +1,23 @@
--- Sessions at their seats.
-use Rattle.std.specs.Prelude.{◌≡◌, ◌≤◌, List, [], ◌∷◌, length, Some, None}
+-- Sessions and workers at their seats.
+use Rattle.std.specs.Prelude.{◌≡◌, ◌≤◌, List, [], ◌∷◌, ◌++◌, length, Some, None, vec_capacity}
 use Rattle.fts_disk.specs.declared.disk.Disk.{Ghosts}
 use Rattle.fts_io.specs.Text.{Line}
 use Rattle.fts_types.specs.declared.settings.Settings.{Settings}
 use Rattle.fts_steps.specs.Running.{Entry}
-use Rattle.fts_engine.specs.Stands.{engine_settings}
+use Rattle.fts_steps.specs.Step.{Call}
 use Rattle.fts_sessions.specs.Transaction.{Transaction}
 use Rattle.fts_turn.specs.declared.turn.Turns.{Turns}
 use Rattle.fts_turn.specs.declared.seat.Seat.{Seat}
-use Rattle.fts_turn.specs.Promises.{IsAtRest, IsSameSeat}
+use Rattle.fts_turn.specs.Promises.{IsAtRest, IsSameSeat, IsSeat, Numbered}
 use Rattle.fts_shared.specs.declared.at_turn.AtTurn.{AtTurn}
+use Rattle.fts_workers.specs.declared.health.Health.{Health}
+use Rattle.fts_workers.specs.Health.{worse}
+use Rattle.fts_workers.specs.Workers.{Works, SyncRound, OptimizeRound}
+use Rattle.fts_shared.specs.declared.joined.Done.{Done}
 use Rattle.fts_shared.specs.declared.joined.Place.{Place}
+use Rattle.fts_shared.specs.declared.joined.Sessions.{Sessions}
 use Rattle.fts_shared.specs.declared.work.Work.{Work}
-use Rattle.fts_shared.specs.Shared.{first_of, seat_sight}
+use Rattle.fts_shared.specs.Shared.{seat_sight}
 use Rattle.fts_shared.specs.Talk.{TalksOn}
 use Rattle.fts_shared.specs.Work.{work_lines, work_replies, IsSameWork}
 
@@ -24,12 +29,6 @@ Pairwise P (x ∷ xs) [] = ⊥
 Pairwise P (x ∷ xs) (y ∷ ys) = P x y × Pairwise P xs ys
 
 module _ {D E : Type 0} {rows : Ghosts D} {index : Ghosts E} where
-  -- the settings are those of the engine under the turn
-  pub record AreSettingsAt (turn : Turns (AtTurn D E rows index) Entry) (settings : Settings) : Type 0 where
-    pub some : 1 ≤ length settings.columns
-    pub few : length settings.columns ≤ 8
-    pub same : settings ≡ engine_settings (first_of turn)
-
   -- a seat with the work of a session
   abbrev pub at_place : Seat (AtTurn D E rows index) Entry → Work → Place D E rows index
   at_place seat work = record { seat = Some seat; work = work }
@@ -77,3 +76,36 @@ module _ {D E : Type 0} {rows : Ghosts D} {index : Ghosts E} where
     pub seat' : Seat (AtTurn D E rows index) Entry
     pub has' : new.seat ≡ Some seat'
     pub done : IsDone lines turn seat seat' old.work new.work
+
+  -- sessions can begin: each has a seat, at rest, and the row has room for them
+  pub record AreReady (turn : Turns (AtTurn D E rows index) Entry) (sessions : Sessions D E rows index) : Type 0 where
+    pub seats : Numbered (IsSeat turn) 0 sessions.seats.items
+    pub count : length sessions.seats.items ≡ length sessions.works.items
+    pub none : sessions.row.items ≡ []
+    pub room : length sessions.seats.items ≤ vec_capacity sessions.row
+
+  -- a worker made its rounds at the seat, and they met this
+  pub record HasWorked (Round : Settings → List Call → Type 0) (turn : Turns (AtTurn D E rows index) Entry)
+      (seat seat' : Seat (AtTurn D E rows index) Entry) (met : Health) : Type 0 where
+    pub rest : IsAtRest turn seat'
+    pub seat_is : IsSameSeat seat seat'
+    pub works : Works (seat_sight {rows = rows} {index = index}) Round met (turn, seat) (turn, seat')
+
+  -- the sessions executed their lines at their seats, and the workers made their rounds at the last two
+  pub record AreAllDone (lines : List Line) (turn : Turns (AtTurn D E rows index) Entry)
+      (seats : List (Seat (AtTurn D E rows index) Entry)) (works : List Work) (done : Done D E rows index)
+      : Type 0 where
+    pub first : List (Seat (AtTurn D E rows index) Entry)
+    pub first' : List (Seat (AtTurn D E rows index) Entry)
+    pub sync : Seat (AtTurn D E rows index) Entry
+    pub sync' : Seat (AtTurn D E rows index) Entry
+    pub optimizer : Seat (AtTurn D E rows index) Entry
+    pub optimizer' : Seat (AtTurn D E rows index) Entry
+    pub synced : Health
+    pub optimized : Health
+    pub were : seats ≡ first ++ (sync ∷ optimizer ∷ [])
+    pub are : done.seats.items ≡ first' ++ (sync' ∷ optimizer' ∷ [])
+    pub sessions : AreDone lines turn first works first' done.works.items
+    pub syncs : HasWorked SyncRound turn sync sync' synced
+    pub optimizes : HasWorked OptimizeRound turn optimizer optimizer' optimized
+    pub met_is : done.met ≡ worse synced optimized

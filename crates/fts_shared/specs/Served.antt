@@ -1,19 +1,26 @@
--- Several sessions at one engine, told by one history.
-use Rattle.std.specs.Prelude.{◌≡◌, ℕ, List, [], ◌∷◌, ◌++◌, length, None}
+-- Several sessions and two workers at one engine, told by one history.
+use Rattle.std.specs.Prelude.{◌≡◌, ℕ, List, [], ◌∷◌, ◌++◌, length, All, None}
 use Rattle.fts_disk.specs.declared.disk.Disk.{Ghosts}
 use Rattle.fts_io.specs.Text.{Line}
 use Rattle.fts_types.specs.declared.limits.Limits.{Limits}
 use Rattle.fts_types.specs.declared.settings.Settings.{Settings}
+use Rattle.fts_steps.specs.FaultCounts.{NoneFell}
 use Rattle.fts_steps.specs.Running.{Running, Entry, grown}
-use Rattle.fts_steps.specs.Step.{Call, Follows}
+use Rattle.fts_steps.specs.Step.{Call, Follows, after_all}
 use Rattle.fts_engine.specs.declared.engine.Engine.{Engine}
-use Rattle.fts_engine.specs.Stands.{Holds, engine_settings, engine_limits}
+use Rattle.fts_engine.specs.Stands.{Holds, engine_settings, engine_limits, engine_faults}
+use Rattle.fts_sessions.specs.declared.direct.Direct.{Direct}
+use Rattle.fts_sessions.specs.Direct.{direct_sight}
 use Rattle.fts_sessions.specs.Transaction.{Transaction}
 use Rattle.fts_turn.specs.declared.turn.Turns.{Turns}
 use Rattle.fts_turn.specs.declared.seat.Seat.{Seat}
 use Rattle.fts_turn.specs.Histories.{Begins, entries_by, NoneFrom}
 use Rattle.fts_turn.specs.Promises.{seats_of, IsToldBy, Numbered}
+use Rattle.fts_workers.specs.declared.health.Health.{Health}
+use Rattle.fts_workers.specs.Health.{worse, health_of_steps}
+use Rattle.fts_workers.specs.Workers.{SyncRound, OptimizeRound, MakesOne, all_steps}
 use Rattle.fts_shared.specs.declared.at_turn.AtTurn.{AtTurn}
+use Rattle.fts_shared.specs.declared.served.Served.{Served}
 use Rattle.fts_shared.specs.declared.work.Work.{Work}
 use Rattle.fts_shared.specs.History.{WasHeld}
 use Rattle.fts_shared.specs.Shared.{first_of}
@@ -52,18 +59,68 @@ AreSessions lines settings (work ∷ works) (work' ∷ works') (calls ∷ all) =
     IsSession lines settings work work' calls × AreSessions lines settings works works' all
 AreSessions lines settings works works' all = ⊥
 
--- from one engine the other came by one history, which tells all steps of these sessions, from whatever the first one
--- held; and behind each of its entries some engine held what the history had made
+-- a worker made these steps: rounds one behind another, of which one was the last, and they met this
+pub record IsWorker (Round : Settings → List Call → Type 0) (settings : Settings) (calls : List Call) (met : Health)
+    : Type 0 where
+  pub rounds : List (List Call)
+  pub last : List Call
+  pub are : All (Round settings) rounds
+  pub last_is : Round settings last
+  pub calls_are : calls ≡ all_steps rounds ++ last
+  pub met_is : met ≡ health_of_steps calls
+
+-- the steps of each session, and those of the two workers
+pub record AllCalls : Type 0 where
+  pub sessions : List (List Call)
+  pub sync : List Call
+  pub optimizer : List Call
+
+-- all of them by their numbers: the workers have the last two
+abbrev pub by_number : AllCalls → List (List Call)
+by_number calls = calls.sessions ++ (calls.sync ∷ calls.optimizer ∷ [])
+
+-- the steps of an engine that one thread owns
+abbrev pub alone : {D E : Type 0} {rows : Ghosts D} {index : Ghosts E} → Engine D E rows index → Direct D E rows index
+alone engine = record { engine = engine }
+
+-- over an engine that nobody else uses the sync worker made one more round, and behind it the optimiser
+pub record EndsAlone {D E : Type 0} {rows : Ghosts D} {index : Ghosts E} (first now : Engine D E rows index)
+    (met : Health) : Type 0 where
+  pub middle : Engine D E rows index
+  pub synced : Health
+  pub optimized : Health
+  pub syncs : MakesOne direct_sight SyncRound synced (alone first) (alone middle)
+  pub optimizes : MakesOne direct_sight OptimizeRound optimized (alone middle) (alone now)
+  pub met_is : met ≡ worse synced optimized
+
+-- what runs behind these rounds
+abbrev pub behind_last : {D E : Type 0} {rows : Ghosts D} {index : Ghosts E} {first now : Engine D E rows index}
+    {met : Health} → Running → EndsAlone first now met → Running
+behind_last running ends = after_all (after_all running ends.syncs.calls) ends.optimizes.calls
+
+-- from one engine the one at the close of the turn came by one history, which tells all steps of these sessions and of
+-- the workers, from whatever the first one held; behind each of its entries some engine held what the history had made;
+-- and behind the close each worker made one more round
 pub record AreServed {D E : Type 0} {rows : Ghosts D} {index : Ghosts E} (lines : List Line)
-    (first now : Engine D E rows index) (works works' : List Work) : Type 0 where
+    (first : Engine D E rows index) (works : List Work) (served : Served D E rows index) : Type 0 where
   pub history : List Entry
-  pub stands : (running : Running) → Holds running first → Holds (grown running history) now
+  pub closed : Engine D E rows index
+  pub stands : (running : Running) → Holds running first → Holds (grown running history) closed
   pub held : (front rest : List Entry) → history ≡ front ++ rest → WasHeld first front
-  pub settings : engine_settings now ≡ engine_settings first
-  pub limits : engine_limits now ≡ engine_limits first
-  pub all : List (List Call)
-  pub sessions : AreSessions lines (engine_settings first) works works' all
-  pub told : (running : Running) → Holds running first → TellsAll (engine_limits first) running history all
+  pub settings : engine_settings closed ≡ engine_settings first
+  pub limits : engine_limits closed ≡ engine_limits first
+  pub none_fell : NoneFell (engine_faults first) (engine_faults closed)
+  pub calls : AllCalls
+  pub sessions : AreSessions lines (engine_settings first) works served.works.items calls.sessions
+  pub told : (running : Running) → Holds running first
+      → TellsAll (engine_limits first) running history (by_number calls)
+  pub synced : Health
+  pub optimized : Health
+  pub last : Health
+  pub syncs : IsWorker SyncRound (engine_settings first) calls.sync synced
+  pub optimizes : IsWorker OptimizeRound (engine_settings first) calls.optimizer optimized
+  pub ends : EndsAlone closed served.engine last
+  pub met_is : served.met ≡ worse (worse synced optimized) last
 
 -- the engine at the end came from the one at first by one history, of which each seat knows a beginning, and which has
 -- the entries that the seats gave and no others; and behind each of them some engine held what they had made
@@ -75,5 +132,6 @@ pub record IsToldOf {D E : Type 0} {rows : Ghosts D} {index : Ghosts E}
   pub held : (front rest : List Entry) → history ≡ front ++ rest → WasHeld (first_of turn) front
   pub settings : engine_settings engine ≡ engine_settings (first_of turn)
   pub limits : engine_limits engine ≡ engine_limits (first_of turn)
+  pub none_fell : NoneFell (engine_faults (first_of turn)) (engine_faults engine)
   pub told : Numbered (IsToldBy by_whom history) 0 seats
   pub no_others : NoneFrom by_whom (seats_of turn) history

@@ -27,3 +27,10 @@ work_lines lines work = lines_at lines (work_share work).places
 -- it is the work of the same session, at the same places
 abbrev pub IsSameWork : Work → Work → Type 0
 IsSameWork old new = new.group ≡ old.group
+
+-- what contracts see of the work of sessions: their shares of the script, and what each was told
+abbrev pub shares_in : List Work → List Share
+shares_in works = map work_share works
+
+abbrev pub replies_in : List Work → List (List Reply)
+replies_in works = map work_replies works

@@ -1,53 +1,111 @@
-//! A session at its seat.
+//! A session and the workers, each at its seat.
+ghost use Rattle.std.specs.Prelude.{◌≡◌};
 ghost use Rattle.fts_turn.specs.Promises.{IsAtRest};
 ghost use Rattle.fts_script.specs.Script.{lines_in};
-ghost use Rattle.fts_shared.specs.Places.{AreSettingsAt, IsDone};
+ghost use Rattle.fts_workers.specs.Workers.{SyncRound, OptimizeRound};
+ghost use Rattle.fts_shared.specs.Places.{IsDone, HasWorked};
 
 use crate::AtTurn;
+use crate::context::Context;
 use crate::placed::Placed;
 use crate::shared::Shared;
 use crate::talking::talk;
 use crate::work::Work;
+use crossbeam_utils::sync::Parker;
 use fts_disk::Disk;
 use fts_io::Gate;
-use fts_script::Script;
 use fts_sessions::Session;
-use fts_turn::{Seat, Turns};
-use fts_types::Settings;
-use std::alloc::Global;
+use fts_turn::Seat;
+use fts_workers::{Health, optimize_worker, sync_worker};
 use std::sync::Wait;
+
+/// The seat of a worker, and where the worker waits.
+#[derive(Drop)]
+pub(crate) struct Post<D: Disk, E: Disk> {
+    pub(crate) seat: Seat<AtTurn<D, E>>,
+    pub(crate) parker: Parker,
+}
+
+// The steps of who has a seat.
+fn steps_at<'a, R: Wait, D: Disk, E: Disk, G: Gate>(
+    context: &Context<'a, R, D, E, G>,
+    seat: Seat<AtTurn<D, E>>,
+) -> Shared<'a, R, D, E>
+    requires { IsAtRest context.now.turn.now seat }
+    ensures { result.placed ≡ (context.now.turn.now, seat) }
+{
+    Shared {
+        rt: context.rt,
+        placed: Placed::new(context.turn, seat),
+        settings: context.settings,
+        bells: context.bells,
+    }
+}
 
 /// Executes the lines of a session at its seat. What they were told before is dropped.
 pub(crate) fn one_session<R: Wait, D: Disk, E: Disk, G: Gate>(
-    alloc: Global,
-    rt: &R,
-    turn: &Turns<AtTurn<D, E>>,
+    context: &Context<R, D, E, G>,
     seat: Seat<AtTurn<D, E>>,
-    settings: &Settings,
-    gate: &G,
-    script: &Script,
     work: &mut Work,
 ) -> Seat<AtTurn<D, E>>
-    requires rest { IsAtRest turn.now seat }
-    requires settings { AreSettingsAt turn.now settings.now }
-    ensures { IsDone (lines_in script.now) turn.now seat result work.old work.new }
+    requires { IsAtRest context.now.turn.now seat }
+    ensures { IsDone (lines_in context.now.script.now) context.now.turn.now seat result
+        work.old work.new }
 {
     work.replies.clear();
-    let mut session = Session::new(alloc, work.group.number);
-    let mut steps = Shared {
-        rt,
-        placed: Placed::new(turn, seat),
-        settings,
-    };
+    let mut session = Session::new(context.alloc, work.group.number);
+    let mut steps = steps_at(context, seat);
     let places = &work.group.places;
     talk(
         &mut session,
         &mut steps,
-        gate,
-        script,
+        context.gate,
+        context.script,
         places,
         &mut work.replies,
     );
     let Shared { placed, .. } = steps;
     placed.into_seat()
+}
+
+/// Makes the rounds of the sync worker at its seat, to the one behind its end.
+pub(crate) fn sync_at_post<R: Wait, D: Disk, E: Disk, G: Gate>(
+    context: &Context<R, D, E, G>,
+    post: Post<D, E>,
+) -> (Seat<AtTurn<D, E>>, Health)
+    requires { IsAtRest context.now.turn.now post.seat }
+    ensures { HasWorked SyncRound context.now.turn.now post.seat result.0 result.1 }
+{
+    let Post { seat, parker } = post;
+    let mut steps = steps_at(context, seat);
+    let met = sync_worker(
+        context.rt,
+        &mut steps,
+        context.gate,
+        &parker,
+        &context.bells.sync,
+    );
+    let Shared { placed, .. } = steps;
+    (placed.into_seat(), met)
+}
+
+/// Makes the rounds of the optimiser at its seat, to the one behind its end.
+pub(crate) fn optimize_at_post<R: Wait, D: Disk, E: Disk, G: Gate>(
+    context: &Context<R, D, E, G>,
+    post: Post<D, E>,
+) -> (Seat<AtTurn<D, E>>, Health)
+    requires { IsAtRest context.now.turn.now post.seat }
+    ensures { HasWorked OptimizeRound context.now.turn.now post.seat result.0 result.1 }
+{
+    let Post { seat, parker } = post;
+    let mut steps = steps_at(context, seat);
+    let met = optimize_worker(
+        context.rt,
+        &mut steps,
+        context.gate,
+        &parker,
+        &context.bells.optimizer,
+    );
+    let Shared { placed, .. } = steps;
+    (placed.into_seat(), met)
 }

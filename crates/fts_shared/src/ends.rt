@@ -12,7 +12,7 @@ use std::alloc::Global;
 
 /// The engine goes under the turn, which has 1 to 18 seats. At `Err` there was no memory, and the
 /// engine comes back.
-pub fn seated<D: Disk, E: Disk>(
+pub(crate) fn seated<D: Disk, E: Disk>(
     alloc: Global,
     engine: Engine<D, E>,
     seats: usize,
@@ -36,7 +36,7 @@ pub fn seated<D: Disk, E: Disk>(
 
 /// The engine comes back, with all that was added. The seats are all that there are, in their
 /// order, each at rest. It takes no memory and waits for nobody.
-pub fn unseated<D: Disk, E: Disk>(
+pub(crate) fn unseated<D: Disk, E: Disk>(
     turn: Turns<AtTurn<D, E>>,
     seats: Vec<Seat<AtTurn<D, E>>>,
 ) -> Engine<D, E>

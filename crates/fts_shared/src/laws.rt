@@ -17,8 +17,14 @@ ghost use Rattle.fts_steps.specs.Step.{Call, Follows, to_commit, to_find, commit
 ghost use Rattle.fts_steps.specs.Step.{full, found, plain_answer};
 ghost use Rattle.fts_turn.specs.Histories.{Begins};
 ghost use Rattle.fts_shared.specs.Laws.{IsStep, HasItsPlace, AddedBy, IsNumber, before_step};
-ghost use Rattle.fts_shared.specs.Served.{TellsAll};
+ghost use Rattle.fts_engine.specs.Stands.{Holds};
+ghost use Rattle.fts_engine.specs.declared.engine.Engine.{Engine};
+ghost use Rattle.fts_shared.specs.declared.served.Served.{Served};
+ghost use Rattle.fts_shared.specs.declared.work.Work.{Work};
+ghost use Rattle.fts_shared.specs.Served.{TellsAll, AreServed, behind_last};
 ghost use Rattle.fts_shared.specs.Talk.{Talks};
+
+use fts_disk::Disk;
 
 /// Each step answered as it may on what the entries before it made of what ran at first, and what
 /// it added follows them in the history.
@@ -99,4 +105,13 @@ pub fn numbers_never_fall()
         → (replies : List Reply) → (left : Transaction)
         → Follows limits running calls → Talks settings transaction lines calls replies left
         → Rise (length running.state.commits) replies }
+{}
+
+/// The engine behind the last rounds holds what the first one held, grown by the history and by
+/// what these rounds added.
+pub fn engines_hold_what_was_told<D: Disk, E: Disk>()
+    ensures { (lines : List Line) → (first : Engine D E D.Disk E.Disk) → (works : List Work)
+        → (served : Served D E D.Disk E.Disk) → (are : AreServed lines first works served)
+        → (running : Running) → Holds running first
+        → Holds (behind_last (grown running are.history) are.ends) served.engine }
 {}

@@ -8,6 +8,7 @@ use fts_query::{Leaf, View};
 use fts_sessions::EngineSteps;
 use fts_steps::{CommitError, IndexError, OptimizeStep, SyncBatch, ViewError};
 use fts_types::Settings;
+use fts_workers::Bell;
 use std::sync::Wait;
 
 impl<'a, R: Wait, D: Disk, E: Disk> EngineSteps for Shared<'a, R, D, E> {
@@ -16,11 +17,15 @@ impl<'a, R: Wait, D: Disk, E: Disk> EngineSteps for Shared<'a, R, D, E> {
     ghost sight = { shared_sight };
 
     fn commit(&mut self, changes: &[Change]) -> Result<u64, CommitError> {
-        commit_at(self.rt, &mut self.placed, changes)
+        let made = commit_at(self.rt, &mut self.placed, changes);
+        ring_if(&self.bells.sync, made.is_ok());
+        made
     }
 
     fn sync_batch(&mut self) -> Result<SyncBatch, IndexError> {
-        sync_at(self.rt, &mut self.placed)
+        let made = sync_at(self.rt, &mut self.placed);
+        ring_if(&self.bells.optimizer, is_flushed(&made));
+        made
     }
 
     fn optimize_step(&mut self) -> Result<OptimizeStep, IndexError> {
@@ -49,5 +54,21 @@ impl<'a, R: Wait, D: Disk, E: Disk> EngineSteps for Shared<'a, R, D, E> {
 
     fn settings(&self) -> &Settings {
         self.settings
+    }
+}
+
+// Rings a bell where that is due.
+fn ring_if(bell: &Bell, is_due: bool) {
+    if is_due {
+        bell.ring();
+    }
+}
+
+// Whether a batch flushed commits.
+fn is_flushed(made: &Result<SyncBatch, IndexError>) -> bool {
+    match made {
+        Ok(SyncBatch::Flushed { .. }) => true,
+        Ok(SyncBatch::Nothing { .. }) => false,
+        Err(_) => false,
     }
 }

@@ -1,4 +1,8 @@
 //! What the result of a step tells of what the step added to the history.
+ghost use Rattle.std.specs.Prelude.{◌≡◌, length};
+ghost use Rattle.fts_steps.specs.Answers.{error_answer_of};
+ghost use Rattle.fts_steps.specs.Step.{to_sync, to_optimize, changes_of};
+
 use fts_commits::Change;
 use fts_steps::{CommitError, IndexError, OptimizeStep, SyncBatch};
 
@@ -41,6 +45,19 @@ impl<'a> Told for CommitTold<'a> {
     }
 }
 
+// How much an error of the index adds.
+fn count_of_error(error: &IndexError) -> u64
+    ensures sync { result ≡ length (changes_of to_sync (error_answer_of error.now)) }
+    ensures optimize { result ≡ length (changes_of to_optimize (error_answer_of error.now)) }
+{
+    match error {
+        IndexError::DiskFault { .. } => 1,
+        IndexError::NoMemory => 0,
+        IndexError::LogFull { .. } => 0,
+        IndexError::Stopped { .. } => 0,
+    }
+}
+
 /// The result of a batch.
 #[derive(Drop)]
 pub(crate) struct SyncTold<'a> {
@@ -57,10 +74,7 @@ impl<'a> Told for SyncTold<'a> {
         match self.made {
             Ok(SyncBatch::Flushed { .. }) => 1,
             Ok(SyncBatch::Nothing { .. }) => 0,
-            Err(IndexError::DiskFault { .. }) => 1,
-            Err(IndexError::NoMemory) => 0,
-            Err(IndexError::LogFull { .. }) => 0,
-            Err(IndexError::Stopped { .. }) => 0,
+            Err(error) => count_of_error(error),
         }
     }
 }
@@ -83,10 +97,7 @@ impl<'a> Told for OptimizeTold<'a> {
             Ok(OptimizeStep::Word) => 1,
             Ok(OptimizeStep::Finished) => 1,
             Ok(OptimizeStep::Nothing) => 0,
-            Err(IndexError::DiskFault { .. }) => 1,
-            Err(IndexError::NoMemory) => 0,
-            Err(IndexError::LogFull { .. }) => 0,
-            Err(IndexError::Stopped { .. }) => 0,
+            Err(error) => count_of_error(error),
         }
     }
 }

@@ -3,7 +3,7 @@ use fts_engine::{Engine, create_engine, open_engine};
 use fts_io::OpenGate;
 use fts_schema::Reply;
 use fts_script::{Script, ScriptLine, group_lines};
-use fts_shared::{Work, execute_all};
+use fts_shared::{Served, Work, serve_sessions, works_of};
 use fts_types::{Limits, Names, Settings};
 use std::alloc::{AllocError, Global};
 use std::sync::Wait;
@@ -74,13 +74,9 @@ fn script_of(alloc: Global, sessions: u32) -> Result<Script, AllocError> {
 }
 
 /// The work of each session of a script.
-fn works_of(alloc: Global, script: &Script) -> Option<Vec<Work>> {
+fn work_in(alloc: Global, script: &Script) -> Option<Vec<Work>> {
     let groups = group_lines(alloc, script).ok()?;
-    let mut works = Vec::new(alloc);
-    for group in groups {
-        works.push(Work::new(alloc, group).ok()?).ok()?;
-    }
-    Some(works)
+    works_of(alloc, groups).ok()
 }
 
 /// Whether a session was told numbers that never fall, of a commit larger ones, and each search
@@ -130,13 +126,13 @@ fn commits_told(works: &[Work]) -> Option<usize> {
 /// So many sessions at once: how many commits they were told, if each was told what it may be.
 fn at_once<R: Threads + Wait + Sync>(rt: &R, alloc: Global, sessions: u32) -> Option<usize> {
     let script = script_of(alloc, sessions).ok()?;
-    let works = works_of(alloc, &script)?;
-    if works.is_empty() || works.len() > 18 {
+    let works = work_in(alloc, &script)?;
+    if works.len() > 16 {
         return None;
     }
     let engine = engine_of(alloc, Vec::new(alloc))?;
-    let (engine, works) = match execute_all(alloc, rt, engine, &OpenGate, &script, works) {
-        Ok(served) => served,
+    let (engine, works) = match serve_sessions(alloc, rt, engine, &OpenGate, &script, works) {
+        Ok(Served { engine, works, .. }) => (engine, works),
         Err(back) => back,
     };
     drop(engine);
@@ -188,13 +184,13 @@ fn beside_fault<R: Threads + Wait + Sync>(rt: &R, alloc: Global, sync: u64) -> O
     let mut fails = Vec::new(alloc);
     fails.push((Kind::Sync, sync)).ok()?;
     let script = script_of(alloc, 4).ok()?;
-    let works = works_of(alloc, &script)?;
-    if works.is_empty() || works.len() > 18 {
+    let works = work_in(alloc, &script)?;
+    if works.len() > 16 {
         return None;
     }
     let engine = engine_of(alloc, fails)?;
-    let (engine, works) = match execute_all(alloc, rt, engine, &OpenGate, &script, works) {
-        Ok(served) => served,
+    let (engine, works) = match serve_sessions(alloc, rt, engine, &OpenGate, &script, works) {
+        Ok(Served { engine, works, .. }) => (engine, works),
         Err(back) => back,
     };
     let (rows, index) = engine.close();

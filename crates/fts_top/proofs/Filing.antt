@@ -9,7 +9,7 @@ use Rattle.fts_steps.specs.FaultCounts.{FaultCounts, together, CountsFaultOf}
 use Rattle.fts_io.specs.Text.{Line}
 use Rattle.fts_steps.specs.Running.{Running, grown}
 use Rattle.fts_steps.specs.Step.{Call, Sight, MayAnswer, is_disk_fault, Traced, Runs, after_call}
-use Rattle.fts_top.specs.declared.ends.Health.{Health}
+use Rattle.fts_workers.specs.declared.health.Health.{Health}
 use Rattle.fts_top.specs.declared.ends.RunEnd.{RunEnd}
 use Rattle.fts_top.specs.declared.ends.RunEnd.TheVariants as end
 use Rattle.fts_top.specs.declared.ends.Unsent.{Unsent}

@@ -7,17 +7,19 @@ use Rattle.fts_schema.specs.declared.reply.Reply.{Reply}
 use Rattle.fts_schema.specs.Reply.{text_of}
 use Rattle.fts_steps.specs.Running.{Running}
 use Rattle.fts_steps.specs.Step.{Call, Sight, AreMade, Runs}
-use Rattle.fts_top.specs.declared.ends.Health.{Health}
-use Rattle.fts_top.specs.declared.ends.Health.TheVariants.{Sound, Short, Failed}
+use Rattle.fts_workers.specs.declared.health.Health.{Health}
+use Rattle.fts_workers.specs.declared.health.Health.TheVariants.{Sound, Short, Failed}
 use Rattle.fts_top.specs.declared.ends.Halt.{Halt}
 use Rattle.fts_top.specs.declared.ends.Halt.TheVariants as halt
-use Rattle.fts_top.specs.Health.{health_of, health_of_steps, worse, end_of, read_end}
+use Rattle.fts_workers.specs.Health.{health_of, health_of_steps, worse}
+use Rattle.fts_top.specs.Health.{end_of, read_end}
 use Rattle.fts_top.specs.Sessions.{Met, Speaks, Serves}
-use Rattle.fts_top.specs.Talk.{AreBatches, most_behind}
+use Rattle.fts_workers.specs.Batches.{AreBatches}
+use Rattle.fts_top.specs.Talk.{most_behind}
 use Rattle.fts_top.specs.Run.{Sides, Stays, Front, IsWhole, IsCut, ReadsToEnd, Begun, Stops, IsDone, OneLine}
 use Rattle.fts_top.specs.Run.{AreAllEnded, LeavesEnded, Outcome}
 use Rattle.fts_steps.proofs.Making.{made_keeps, made_append}
-use Rattle.fts_top.proofs.Making.{no_run, run_more}
+use Rattle.fts_workers.proofs.Making.{no_run, run_more}
 use Rattle.fts_top.proofs.Talking.{talks_more, texts_more}
 
 -- of the lines that end with an LF, one more was executed

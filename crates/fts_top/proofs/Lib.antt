@@ -10,7 +10,7 @@ pub mod Filing
 pub mod Asking
 pub mod Health
 pub mod Crashing
-pub mod Making
-pub mod Rounds
 pub mod Rising
 pub mod Playing
+pub mod Sending
+pub mod Served

@@ -16,14 +16,15 @@ use Rattle.fts_sessions.specs.Conversation.{Converses, behind}
 use Rattle.fts_sessions.specs.Execute.{Says}
 use Rattle.fts_sessions.specs.Calm.{IsCalm}
 use Rattle.fts_sessions.proofs.Single.{one_request, one_conversation}
-use Rattle.fts_top.specs.declared.ends.Health.{Health}
-use Rattle.fts_top.specs.declared.ends.Health.TheVariants.{Sound, Short, Failed}
-use Rattle.fts_top.specs.Health.{health_of, health_of_answer, health_of_steps, worse}
+use Rattle.fts_workers.specs.declared.health.Health.{Health}
+use Rattle.fts_workers.specs.declared.health.Health.TheVariants.{Sound, Short, Failed}
+use Rattle.fts_workers.specs.Health.{health_of, health_of_answer, health_of_steps, worse}
 use Rattle.fts_top.specs.Sessions.{Met, open_in, leaving, SaysOf, Speaks}
-use Rattle.fts_top.specs.Talk.{Talks, AreBatches, if_above, unless_refused, most_behind, texts_of}
+use Rattle.fts_workers.specs.Batches.{AreBatches, if_above, unless_refused}
+use Rattle.fts_top.specs.Talk.{Talks, most_behind, texts_of}
 use Rattle.fts_top.specs.Laws.{Converse}
 use Rattle.fts_script.proofs.Counting.{whose}
-use Rattle.fts_top.proofs.Health.{sound_before, sound_behind, sound_calm}
+use Rattle.fts_workers.proofs.Worse.{sound_before, sound_behind, sound_calm}
 
 -- the steps behind the first ones
 pub follows_behind : (limits : Limits) (running : Running) (here more : List Call) → Follows limits running (here ++ more) → Follows limits (after_all running here) more

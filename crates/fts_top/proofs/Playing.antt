@@ -24,18 +24,18 @@ use Rattle.fts_sql.proofs.Blanks.{not_blank}
 use Rattle.fts_sql.proofs.Sessions.{not_numbered}
 use Rattle.fts_steps.specs.Running.{Running}
 use Rattle.fts_steps.specs.Step.{Sight, after_all}
-use Rattle.fts_top.specs.declared.ends.Health.{Health}
-use Rattle.fts_top.specs.declared.ends.Health.TheVariants.{Sound, Failed}
+use Rattle.fts_workers.specs.declared.health.Health.{Health}
+use Rattle.fts_workers.specs.declared.health.Health.TheVariants.{Sound, Failed}
 use Rattle.fts_top.specs.declared.ends.Unsent.{Unsent}
 use Rattle.fts_top.specs.declared.ends.Unsent.TheVariants as unsent
 use Rattle.fts_top.specs.declared.generate.Played.{Played}
 use Rattle.fts_top.specs.Generate.{PlaysLine, Plays, Breaks, Tells, ComesTo, IsSummary, Writes, Generates}
-use Rattle.fts_top.specs.Health.{health_of, health_of_steps, worse}
+use Rattle.fts_workers.specs.Health.{health_of, health_of_steps, worse}
 use Rattle.fts_top.specs.Sessions.{Met, met, open_in, leaving}
 use Rattle.fts_top.specs.Run.{sides, Front}
 use Rattle.fts_steps.proofs.Making.{made_keeps}
 use Rattle.fts_top.proofs.Fronts.{nothing_yet, one_more}
-use Rattle.fts_top.proofs.Health.{counted_more, counted_reply}
+use Rattle.fts_workers.proofs.Worse.{counted_more, counted_reply}
 use Rattle.fts_top.proofs.Turning.{executed}
 
 -- ---- whose they are

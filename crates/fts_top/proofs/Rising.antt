@@ -10,7 +10,7 @@ use Rattle.fts_steps.specs.Running.{Running}
 use Rattle.fts_steps.specs.Step.{Call, Follows, after_call, after_all}
 use Rattle.fts_sessions.specs.Seen.{number_told, IsBehind, Rise}
 use Rattle.fts_sessions.proofs.Rising.{count_of, never_falls, Rises, line_rises}
-use Rattle.fts_top.specs.declared.ends.Health.{Health}
+use Rattle.fts_workers.specs.declared.health.Health.{Health}
 use Rattle.fts_top.specs.Sessions.{Met, open_in, SaysOf}
 use Rattle.fts_top.specs.Talk.{Talks}
 use Rattle.fts_top.specs.Laws.{Talked}

@@ -18,12 +18,13 @@ use Rattle.fts_sessions.specs.Conversation.{Converses, next, sync_next, target_o
 use Rattle.fts_sessions.proofs.Going.{last_behind}
 use Rattle.fts_sessions.proofs.Optimizing.{next_behind}
 use Rattle.fts_sessions.specs.Execute.{Says}
-use Rattle.fts_top.specs.declared.ends.Health.{Health}
-use Rattle.fts_top.specs.declared.ends.Health.TheVariants.{Sound, Failed}
-use Rattle.fts_top.specs.Health.{health_of, health_of_answer, health_of_steps, worse}
+use Rattle.fts_workers.specs.declared.health.Health.{Health}
+use Rattle.fts_workers.specs.declared.health.Health.TheVariants.{Sound, Failed}
+use Rattle.fts_workers.specs.Health.{health_of, health_of_answer, health_of_steps, worse}
 use Rattle.fts_top.specs.Sessions.{Met, open_in, SaysOf, Speaks}
-use Rattle.fts_top.specs.Talk.{Talks, AreBatches, most_behind, committed_by, texts_of}
-use Rattle.fts_top.proofs.Health.{worse_sound, worse_more, failed_before, failed_now, failed_in}
+use Rattle.fts_workers.specs.Batches.{AreBatches, committed_by}
+use Rattle.fts_top.specs.Talk.{Talks, most_behind, texts_of}
+use Rattle.fts_workers.proofs.Worse.{worse_sound, worse_more, failed_before, failed_now, failed_in}
 
 -- steps one after another
 pub after_more : (running : Running) (calls more : List Call) → after_all running (calls ++ more) ≡ after_all (after_all running calls) more

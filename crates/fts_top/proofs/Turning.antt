@@ -12,10 +12,10 @@ use Rattle.fts_sessions.specs.Request.{unread, blank}
 use Rattle.fts_sessions.specs.Execute.{Executes}
 use Rattle.fts_top.specs.declared.ends.Unsent.{Unsent}
 use Rattle.fts_top.specs.declared.ends.Unsent.TheVariants as unsent
-use Rattle.fts_top.specs.declared.ends.Health.TheVariants.{Sound}
+use Rattle.fts_workers.specs.declared.health.Health.TheVariants.{Sound}
 use Rattle.fts_script.specs.Sessions.{IsOf}
 use Rattle.fts_top.specs.Sessions.{Met, open_in, leaving, Speaks, Serves}
-use Rattle.fts_top.specs.Batches.{MakesBatches}
+use Rattle.fts_workers.specs.Batches.{MakesBatches}
 use Rattle.fts_top.specs.Ends.{halt_of_unsent}
 use Rattle.fts_top.specs.Run.{Sides, OneLine, Sends, IsLeft}
 

@@ -1,5 +1,9 @@
 use Rattle.fts_engine.specs.declared.error.OpenError.{OpenError}
 use Rattle.fts_engine.specs.declared.error.OpenError.TheVariants as opening
+use Rattle.fts_script.specs.declared.error.ScriptError.{ScriptError}
+use Rattle.fts_script.specs.declared.error.ScriptError.TheVariants as unread
+use Rattle.fts_script.specs.declared.error.GroupError.{GroupError}
+use Rattle.fts_script.specs.declared.error.GroupError.TheVariants as ungrouped
 use Rattle.fts_top.specs.declared.status.Status.{Status}
 use Rattle.fts_top.specs.declared.status.Status.TheVariants as status
 use Rattle.fts_top.specs.declared.ends.RunEnd.{RunEnd}
@@ -15,6 +19,17 @@ use Rattle.fts_top.specs.declared.ends.Unsent.TheVariants as unsent
 abbrev pub halt_of_unsent : Unsent → Halt
 halt_of_unsent unsent.NoMemory = halt.NoMemory
 halt_of_unsent unsent.WriteFault = halt.WriteFault
+
+-- the end of a script that was not read
+abbrev pub end_of_unread : ScriptError → RunEnd
+end_of_unread unread.NoMemory = run_end.NoMemory
+end_of_unread unread.ReadFault = run_end.ReadFault
+end_of_unread (unread.ScriptTooLong lines bytes) = run_end.ScriptTooLong lines bytes
+
+-- or whose lines were not grouped by sessions
+abbrev pub end_of_ungrouped : GroupError → RunEnd
+end_of_ungrouped ungrouped.NoMemory = run_end.NoMemory
+end_of_ungrouped (ungrouped.TooManySessions number) = run_end.TooManySessions number
 
 -- the status of a run's end
 abbrev pub status_of_run : RunEnd → Status

@@ -14,14 +14,14 @@ use Rattle.fts_schema.specs.declared.summary.Summary.{Summary}
 use Rattle.fts_schema.specs.Summary.{AreSums, summary_text}
 use Rattle.fts_steps.specs.Running.{Running}
 use Rattle.fts_steps.specs.Step.{Sight, after_all}
-use Rattle.fts_top.specs.declared.ends.Health.{Health}
+use Rattle.fts_workers.specs.declared.health.Health.{Health}
 use Rattle.fts_top.specs.declared.ends.Unsent.{Unsent}
 use Rattle.fts_top.specs.declared.ends.Unsent.TheVariants as unsent
 use Rattle.fts_top.specs.declared.generate.Played.{Played}
 use Rattle.fts_sessions.specs.Transaction.{Transaction}
 use Rattle.fts_sessions.specs.Execute.{Executes}
-use Rattle.fts_top.specs.Batches.{IsMetBehind}
-use Rattle.fts_top.specs.Health.{worse}
+use Rattle.fts_workers.specs.Batches.{IsMetBehind}
+use Rattle.fts_workers.specs.Health.{worse}
 use Rattle.fts_top.specs.Run.{Sides, sides, Front}
 
 -- these lines of a script, as a run reads them

@@ -5,8 +5,8 @@ use Rattle.fts_steps.specs.FaultCounts.{CountsFaultOf}
 use Rattle.fts_steps.specs.State.{State}
 use Rattle.fts_steps.specs.Running.{opened}
 use Rattle.fts_engine.specs.declared.error.OpenError.{OpenError}
-use Rattle.fts_top.specs.declared.ends.Health.{Health}
-use Rattle.fts_top.specs.declared.ends.Health.TheVariants.{Sound, Short, Failed}
+use Rattle.fts_workers.specs.declared.health.Health.{Health}
+use Rattle.fts_workers.specs.declared.health.Health.TheVariants.{Sound, Short, Failed}
 use Rattle.fts_top.specs.declared.ends.Unsent.{Unsent}
 use Rattle.fts_top.specs.declared.ends.Unsent.TheVariants as unsent
 use Rattle.fts_top.specs.declared.status.Status.{Status}

@@ -5,7 +5,7 @@ use Rattle.fts_io.specs.Text.{Line}
 use Rattle.fts_sessions.specs.declared.session.Session.{Session}
 use Rattle.fts_sessions.specs.Transaction.{Transaction, FitsTable}
 use Rattle.fts_top.specs.declared.sessions.Sessions.{Sessions}
-use Rattle.fts_top.specs.declared.ends.Health.{Health}
+use Rattle.fts_workers.specs.declared.health.Health.{Health}
 use Rattle.fts_top.specs.declared.ends.Halt.{Halt}
 use Rattle.fts_top.specs.declared.ends.Halt.TheVariants as halt
 use Rattle.fts_script.specs.Sessions.{IsOf, joined_by}

@@ -4,8 +4,8 @@ use Rattle.fts_io.specs.Text.{Line}
 use Rattle.fts_schema.specs.declared.reply.Reply.{Reply}
 use Rattle.fts_steps.specs.Running.{Running}
 use Rattle.fts_steps.specs.Step.{Call, Follows, FollowsRight, AreAlone}
-use Rattle.fts_top.specs.declared.ends.Health.{Health}
-use Rattle.fts_top.specs.declared.ends.Health.TheVariants.{Sound}
+use Rattle.fts_workers.specs.declared.health.Health.{Health}
+use Rattle.fts_workers.specs.declared.health.Health.TheVariants.{Sound}
 use Rattle.fts_top.specs.Sessions.{Met}
 use Rattle.fts_top.specs.Talk.{Talks}
 

@@ -3,7 +3,6 @@ pub mod Kept
 pub mod Talk
 pub mod Ends
 pub mod Health
-pub mod Batches
 pub mod Run
 pub mod Once
 pub mod Number
@@ -12,3 +11,5 @@ pub mod Sight
 pub mod Laws
 pub mod Generate
 pub mod Generated
+pub mod Answers
+pub mod Serve

@@ -18,7 +18,8 @@ use Rattle.fts_engine.specs.declared.error.Device.TheVariants.{Rows, Index}
 use Rattle.fts_engine.specs.Opening.{IsDamaged, IsIndexDamaged}
 use Rattle.fts_engine.specs.Devices.{Devices, devices_of, Disks, disk_faults, DisksTell, device_sight}
 use Rattle.fts_args.specs.Asked.{Asks}
-use Rattle.fts_args.specs.declared.command.Command.TheVariants.{Create, Run, Gen}
+use Rattle.fts_args.specs.declared.command.Command.{Command}
+use Rattle.fts_args.specs.declared.command.Command.TheVariants.{Create, Run, Serve, Gen}
 use Rattle.fts_top.specs.declared.status.Status.{Status}
 use Rattle.fts_top.specs.declared.status.Status.TheVariants as status
 use Rattle.fts_top.specs.declared.ends.RunEnd.{RunEnd}
@@ -154,6 +155,10 @@ pub record CreateEnds {D E : Type 0} (disks : Disks D E) (result : Status) (sett
   pub creates : Creates disks end settings unwritten before.sink after.sink before.devices after.devices
   pub fault : CountsFaultOf (end ≡ create_end.DiskFault) (disk_faults disks before.devices)
       (disk_faults disks after.devices)
+
+-- the words ask for no command, or for the one that takes threads
+abbrev pub AskNothingOnce : List (List ℕ) → Type 0
+AskNothingOnce words = (command : Command) → Asks words command → command ≡ Serve
 
 -- a fault of the source and of the sink was counted exactly where it is the status
 pub record CountsFaults {D E : Type 0} (result : Status) (before after : Outside D E) : Type 0 where

@@ -8,17 +8,18 @@ use Rattle.fts_steps.specs.Running.{Running}
 use Rattle.fts_steps.specs.Step.{Call, Sight, Runs}
 use Rattle.fts_script.specs.Sessions.{IsOf}
 use Rattle.fts_top.specs.Sessions.{Met, is_met, Serves}
-use Rattle.fts_top.specs.declared.ends.Health.{Health}
-use Rattle.fts_top.specs.declared.ends.Health.TheVariants as health
+use Rattle.fts_workers.specs.declared.health.Health.{Health}
+use Rattle.fts_workers.specs.declared.health.Health.TheVariants as health
 use Rattle.fts_top.specs.declared.ends.Halt.{Halt}
 use Rattle.fts_top.specs.declared.ends.Halt.TheVariants as halt
 use Rattle.fts_top.specs.declared.ends.RunEnd.{RunEnd}
 use Rattle.fts_top.specs.declared.ends.RunEnd.TheVariants as end
 use Rattle.fts_top.specs.declared.ends.Unsent.{Unsent}
 use Rattle.fts_top.specs.declared.ends.Unsent.TheVariants as unsent
-use Rattle.fts_top.specs.Health.{health_of, worse}
-use Rattle.fts_top.specs.Talk.{Talks, committed_by, texts_of}
-use Rattle.fts_top.specs.Batches.{MakesBatches}
+use Rattle.fts_workers.specs.Health.{health_of, worse}
+use Rattle.fts_workers.specs.Batches.{committed_by}
+use Rattle.fts_top.specs.Talk.{Talks, texts_of}
+use Rattle.fts_workers.specs.Batches.{MakesBatches}
 
 -- a run at one time: what the source has left, what the sink holds, and the steps
 pub record Sides (S : Type 0) : Type 0 where

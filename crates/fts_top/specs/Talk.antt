@@ -6,40 +6,15 @@ use Rattle.fts_schema.specs.declared.reply.Reply.TheVariants.{Committed, Committ
 use Rattle.fts_schema.specs.Reply.{text_of}
 use Rattle.fts_steps.specs.Step.{Answer, flushed, measured, to_measure, to_sync, Call}
 use Rattle.fts_top.specs.Sessions.{Met, Speaks}
-use Rattle.fts_top.specs.declared.ends.Health.{Health}
-use Rattle.fts_top.specs.declared.ends.Health.TheVariants.{Sound}
-use Rattle.fts_top.specs.Health.{health_of, health_of_steps, worse}
+use Rattle.fts_workers.specs.declared.health.Health.{Health}
+use Rattle.fts_workers.specs.declared.health.Health.TheVariants.{Sound}
+use Rattle.fts_workers.specs.Batches.{AreBatches, committed_by}
+use Rattle.fts_workers.specs.Health.{health_of, health_of_steps, worse}
 
 -- the text of replies, one after another
 abbrev pub texts_of : List Reply → List ℕ
 texts_of [] = []
 texts_of (reply ∷ replies) = text_of reply ++ texts_of replies
-
--- the number of the commit that a reply tells, 0 where it tells none
-abbrev pub committed_by : Reply → ℕ
-committed_by (Committed number) = number
-committed_by (CommittedAndBegun number) = number
-committed_by reply = 0
-
--- what follows where a batch flushed something, and nothing where it did not
-abbrev pub unless_refused : Answer → (List Call → Type 0) → List Call → Type 0
-unless_refused (flushed through commits) Rest calls = Rest calls
-unless_refused answer Rest calls = calls ≡ []
-
--- a batch, and what follows it, where the cache is too large
-abbrev pub if_above : Bool → (List Call → Type 0) → List Call → Type 0
-if_above false Rest calls = calls ≡ []
-if_above true Rest [] = ⊥
-if_above true Rest (call ∷ calls) = (call.ask ≡ to_sync) × unless_refused call.answer Rest calls
-
--- while the cache is above so many bytes, one batch after another is made, up to the first that flushes nothing; and at
--- most so many
-abbrev pub AreBatches : ℕ → ℕ → List Call → Type 0
-AreBatches bytes zero calls = calls ≡ []
-AreBatches bytes (suc most) [] = ⊥
-AreBatches bytes (suc most) (call ∷ calls) =
-    (size : ℕ) × (call.ask ≡ to_measure) × (call.answer ≡ measured size)
-    × if_above (nat_lt bytes size) (AreBatches bytes most) calls
 
 -- how many batches may follow a reply: as many as there are commits where it tells one, since each flushes one at
 -- least; none behind the last reply that was begun and not sent

@@ -1,14 +1,15 @@
 //! How the parts of a call end. Each end has its status.
 ghost use Rattle.std.specs.Prelude.{◌≡◌};
 ghost use Rattle.fts_top.specs.Ends.{halt_of_unsent, status_of_create};
+ghost use Rattle.fts_top.specs.Ends.{end_of_unread, end_of_ungrouped};
 ghost use Rattle.fts_top.specs.Ends.{status_of_opening, status_of_run};
 ghost use Rattle.fts_top.specs.Generated.{status_of_gen as the_status_of_gen};
-ghost use Rattle.fts_top.specs.Health.{end_of as the_end_of, worse as the_worse};
-ghost use Rattle.fts_top.specs.Health.{health_of as the_health_of};
+ghost use Rattle.fts_top.specs.Health.{end_of as the_end_of};
 
 use crate::Status;
 use fts_engine::{CreateError, OpenError};
-use fts_schema::Reply;
+use fts_script::{GroupError, ScriptError};
+use fts_workers::Health;
 
 /// How the execution of a script ends.
 #[derive(Clone, Copy, Debug, PartialEq, Eq)]
@@ -32,17 +33,6 @@ pub enum RunEnd {
     TooManySessions { session: u32 },
 }
 
-/// What the lines of a script and the batches behind them met so far.
-#[derive(Clone, Copy, Debug, PartialEq, Eq)]
-pub enum Health {
-    /// No want of memory, and no fault.
-    Sound,
-    /// Want of memory.
-    Short,
-    /// A fault of a device. That of a batch behind a reply is told at the end, by the status.
-    Failed,
-}
-
 /// Why no more lines are executed.
 #[derive(Clone, Copy, Debug, PartialEq, Eq)]
 pub enum Halt {
@@ -58,54 +48,6 @@ pub enum Halt {
     TooLong { lines: u64, bytes: u64 },
     /// A line is the first of a 17th session, which has this number.
     TooManySessions { session: u32 },
-}
-
-/// What a line met, by its reply.
-pub fn health_of(reply: &Reply) -> Health
-    ensures { result ≡ the_health_of reply.now }
-{
-    match reply {
-        Reply::NoMemory => Health::Short,
-        Reply::DiskFault => Health::Failed,
-        Reply::Committed { .. } => Health::Sound,
-        Reply::CommittedAndBegun { .. } => Health::Sound,
-        Reply::Begun => Health::Sound,
-        Reply::Buffered { .. } => Health::Sound,
-        Reply::NothingToCommit => Health::Sound,
-        Reply::RolledBack { .. } => Health::Sound,
-        Reply::TooManyChanges { .. } => Health::Sound,
-        Reply::Found { .. } => Health::Sound,
-        Reply::Refused { .. } => Health::Sound,
-        Reply::LogFull { .. } => Health::Sound,
-        Reply::Nothing => Health::Sound,
-        Reply::Syntax { .. } => Health::Sound,
-        Reply::NoSuchTable { .. } => Health::Sound,
-        Reply::NoSuchColumn { .. } => Health::Sound,
-        Reply::WrongColumns => Health::Sound,
-        Reply::QuerySyntax { .. } => Health::Sound,
-        Reply::QueryTooLong { .. } => Health::Sound,
-        Reply::QueryTooDeep { .. } => Health::Sound,
-        Reply::LineTooLong => Health::Sound,
-        Reply::Stopped { .. } => Health::Sound,
-        Reply::Synced { .. } => Health::Sound,
-        Reply::NothingToOptimize => Health::Sound,
-        Reply::Optimized { .. } => Health::Sound,
-        Reply::Listed { .. } => Health::Sound,
-    }
-}
-
-impl Health {
-    /// The worse of two: a fault, then want of memory.
-    pub fn worse(self, other: Health) -> Health
-        ensures { result ≡ the_worse self other }
-    {
-        match (self, other) {
-            (Health::Failed, _) => Health::Failed,
-            (Health::Short, Health::Failed) => Health::Failed,
-            (Health::Short, _) => Health::Short,
-            (Health::Sound, other) => other,
-        }
-    }
 }
 
 impl Halt {
@@ -159,6 +101,29 @@ impl From<Unsent> for Halt {
         match unsent {
             Unsent::NoMemory => Halt::NoMemory,
             Unsent::WriteFault => Halt::WriteFault,
+        }
+    }
+}
+
+impl From<ScriptError> for RunEnd {
+    ghost from_gives = { λ error end. end ≡ end_of_unread error };
+
+    fn from(error: ScriptError) -> Self {
+        match error {
+            ScriptError::NoMemory => RunEnd::NoMemory,
+            ScriptError::ReadFault => RunEnd::ReadFault,
+            ScriptError::ScriptTooLong { lines, bytes } => RunEnd::ScriptTooLong { lines, bytes },
+        }
+    }
+}
+
+impl From<GroupError> for RunEnd {
+    ghost from_gives = { λ error end. end ≡ end_of_ungrouped error };
+
+    fn from(error: GroupError) -> Self {
+        match error {
+            GroupError::NoMemory => RunEnd::NoMemory,
+            GroupError::TooManySessions { session } => RunEnd::TooManySessions { session },
         }
     }
 }

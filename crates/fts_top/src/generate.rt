@@ -15,8 +15,7 @@ ghost use Rattle.fts_engine.specs.Devices.{devices_of, disks_of};
 ghost use Rattle.fts_top.specs.Once.{sink_seen, Unopened};
 ghost use Rattle.fts_top.specs.Run.{sides};
 
-use crate::batches::met_behind;
-use crate::ends::{Health, Unsent};
+use crate::ends::Unsent;
 use fts_disk::Disk;
 use fts_engine::{Engine, OpenError, open_engine};
 use fts_gen::{ScriptLines, script};
@@ -24,6 +23,7 @@ use fts_io::{Gate, Sink, write_whole};
 use fts_schema::{Summary, Sums, summary_text};
 use fts_sessions::{Direct, EngineSteps, Session};
 use fts_types::Limits;
+use fts_workers::{Health, met_behind};
 use std::alloc::{AllocError, Global};
 
 /// What the lines of a script have met, and the sums of their replies.

@@ -5,14 +5,14 @@ ghost use Rattle.fts_types.specs.declared.settings.Settings.{Settings};
 ghost use Rattle.fts_types.specs.Settings.{AreSettings};
 ghost use Rattle.fts_types.specs.Limits.{standard_limits};
 ghost use Rattle.fts_steps.specs.FaultCounts.{CountsFaultOf};
-ghost use Rattle.fts_args.specs.Asked.{AskNothing, Asks};
+ghost use Rattle.fts_args.specs.Asked.{Asks};
 ghost use Rattle.fts_args.specs.declared.command.Command.{Command};
 ghost use Rattle.fts_engine.specs.Bounds.{AreWithin};
 ghost use Rattle.fts_top.specs.Generated.{GenEnds};
 ghost use Rattle.fts_engine.specs.Devices.{devices_of, disks_of};
 ghost use Rattle.fts_top.specs.Once.{outside, sink_seen, CreateEnds, Creates};
 ghost use Rattle.fts_top.specs.Once.{Executed, RunEnds, Unopened};
-ghost use Rattle.fts_top.specs.Once.{CountsFaults, NoneRose, CanFinish, Finishes};
+ghost use Rattle.fts_top.specs.Once.{AskNothingOnce, CountsFaults, NoneRose, CanFinish, Finishes};
 
 use crate::Status;
 use crate::ends::{CreateEnd, RunEnd, status_of_gen};
@@ -95,7 +95,8 @@ fn create<O: Sink, D: Disk, E: Disk>(
 /// Does what the words ask for: `create` makes a database on the two devices, and `run` opens it
 /// and executes the lines of the input, each line's reply written before the next line is executed.
 /// `gen` opens it too, executes the lines of a script that is made from a number, and writes one
-/// line that tells what these come to.
+/// line that tells what these come to. `serve` takes threads and is not done here: its words are
+/// `Usage`, as those that ask for nothing.
 ///
 /// `words` are all words behind the program's name. The first names the folder, which concerns the
 /// caller that made the devices of it. Both devices are handed back.
@@ -108,9 +109,9 @@ pub fn fts_once<I: Source, O: Sink, D: Disk, E: Disk, G: Gate>(
     index: E,
     gate: &G,
 ) -> (Status, D, E)
-    // The words that ask for nothing.
-    ensures usage { result.0 ≡ Status.Usage → AskNothing (map string_bytes words.now) }
-    ensures unasked { AskNothing (map string_bytes words.now)
+    // The words that ask for nothing that is done here.
+    ensures usage { result.0 ≡ Status.Usage → AskNothingOnce (map string_bytes words.now) }
+    ensures unasked { AskNothingOnce (map string_bytes words.now)
         → ((result.0 ≡ Status.Usage) ⊎ (result.0 ≡ Status.NoMemory))
         × (input.new ≡ input.old) × (out.new ≡ out.old)
         × (result.1 ≡ rows) × (result.2 ≡ index) }
@@ -127,7 +128,6 @@ pub fn fts_once<I: Source, O: Sink, D: Disk, E: Disk, G: Gate>(
         ((input.new ≡ input.old) × (out.new ≡ out.old))
         (outside I.Source O.Sink input.old out.old rows index)
         (outside I.Source O.Sink input.new out.new result.1 result.2) }
-
     ensures generates { (seed count : ℕ)
         → Asks (map string_bytes words.now) (Command.Gen seed count)
         → (input.new ≡ input.old)
@@ -159,6 +159,7 @@ pub fn fts_once<I: Source, O: Sink, D: Disk, E: Disk, G: Gate>(
                 Err(error) => (Status::from(error), rows, index),
             }
         }
+        Ok(Some(Command::Serve)) => (Status::Usage, rows, index),
         Ok(Some(Command::Gen { seed, count })) => {
             let (end, rows, index) = gen_script(alloc, seed, count, out, rows, index, gate);
             match end {

@@ -12,12 +12,12 @@ ghost use Rattle.fts_top.specs.Kept.{mets, AreKept, AllFit, NextSession};
 ghost use Rattle.fts_script.specs.Sessions.{IsCrowded};
 ghost use Rattle.fts_top.specs.Run.{Outcome, OneLine, LeavesEnded, PassesLimit, Sends, sides};
 
-use crate::batches::met_behind;
-use crate::ends::{Halt, Health, RunEnd, Unsent};
+use crate::ends::{Halt, RunEnd, Unsent};
 use crate::sessions::Sessions;
 use fts_io::{Gate, Lines, Next, Sink, Source, write_whole};
 use fts_schema::{Reply, fixed_text, put_reply_text};
 use fts_sessions::EngineSteps;
+use fts_workers::{Health, met_behind};
 use std::alloc::Global;
 
 // So many bytes at most are kept for the text of the next reply.
@@ -145,9 +145,9 @@ fn one_line<I: Source, O: Sink, S: EngineSteps, G: Gate>(
     }
 }
 
-// Writes a reply. A text that is fixed, as that of a fault, takes no memory; any other takes the
-// place of the last one.
-fn send<O: Sink>(text: &mut Vec<u8>, out: &mut O, reply: &Reply) -> Result<(), Unsent>
+/// Writes a reply. A text that is fixed, as that of a fault, takes no memory; any other takes the
+/// place of the last one.
+pub(crate) fn send<O: Sink>(text: &mut Vec<u8>, out: &mut O, reply: &Reply) -> Result<(), Unsent>
     ensures sends { IsTrue O.tells → Sends result reply.now (O.holds out.old) (O.holds out.new) }
     ensures fixed { result ≡ Err Unsent.NoMemory → is_fixed reply.now ≡ false }
     ensures write { CountsFault (result ≡ Err Unsent.WriteFault)

@@ -1,2 +1,3 @@
+mod serving;
 mod sessions;
 mod status;

@@ -6,7 +6,7 @@ use Rattle.fts_shared.proofs.joined.execute_each.Goals as goal
 
 pub returns : goal.returns
 returns g c =
-    let P = HasTalked {rows = g.D.Disk} {index = g.E.Disk} (lines_in c.args.script.now) c.args.turn.now in
+    let P = HasTalked {rows = g.D.Disk} {index = g.E.Disk} (lines_in c.args.context.now.script.now) c.args.context.now.turn.now in
     let same : length c.for_each_mut.new.s ≡ length c.args.places.now = search rules in
     pairwise P c.args.places.now c.for_each_mut.new.s same (λ i d less.
     let at = (c.for_each_mut.ensures i d less).1 in

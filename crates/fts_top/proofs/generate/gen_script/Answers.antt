@@ -7,7 +7,7 @@ use Rattle.fts_steps.specs.Running.{opened}
 use Rattle.fts_engine.specs.Stands.{engine_faults, rows_device, index_device}
 use Rattle.fts_engine.proofs.Single.{one_database}
 use Rattle.fts_sessions.specs.Direct.{direct_sight}
-use Rattle.fts_top.specs.declared.ends.Health.TheVariants.{Failed}
+use Rattle.fts_workers.specs.declared.health.Health.TheVariants.{Failed}
 use Rattle.fts_top.specs.Generate.{script_of, Generates}
 use Rattle.fts_top.specs.Run.{sides}
 use Rattle.fts_engine.specs.Devices.{devices_of, disks_of, disk_faults, device_sight}

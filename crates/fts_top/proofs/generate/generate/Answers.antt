@@ -9,7 +9,7 @@ use Rattle.fts_steps.specs.Step.{after_all}
 use Rattle.fts_types.specs.declared.settings.Settings.{Settings}
 use Rattle.fts_top.specs.Generate.{as_lines, script_of, IsPlayed, Plays}
 use Rattle.fts_top.specs.Run.{sides}
-use Rattle.fts_top.proofs.Making.{run_stands}
+use Rattle.fts_workers.proofs.Making.{run_stands}
 use Rattle.fts_top.proofs.Fronts.{nothing_yet}
 use Rattle.fts_top.proofs.Playing.{breaks, tells, untold, comes_to}
 use Rattle.fts_top.proofs.generate.generate.Goals as goal

@@ -3,7 +3,7 @@ use Rattle.fts_steps.specs.FaultCounts.{CountsFaultOf}
 use Rattle.fts_gen.specs.Script.{lines_left}
 use Rattle.fts_steps.specs.Running.{Running}
 use Rattle.fts_sessions.specs.Transaction.{FitsTable}
-use Rattle.fts_top.specs.declared.ends.Health.TheVariants.{Failed}
+use Rattle.fts_workers.specs.declared.health.Health.TheVariants.{Failed}
 use Rattle.fts_top.specs.Generate.{as_lines}
 use Rattle.fts_top.proofs.Playing.{PlayedFar}
 use Rattle.fts_top.proofs.generate.play_in.Given as goal

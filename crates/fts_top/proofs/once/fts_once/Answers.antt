@@ -3,7 +3,8 @@ use Rattle.std.specs.String.{string_bytes}
 use Rattle.fts_types.specs.declared.settings.Settings.{Settings}
 use Rattle.fts_args.specs.Asked.{Asks}
 use Rattle.fts_args.proofs.One.{asks_one}
-use Rattle.fts_args.specs.declared.command.Command.TheVariants.{Create, Run, Gen}
+use Rattle.fts_args.specs.declared.command.Command.{Command}
+use Rattle.fts_args.specs.declared.command.Command.TheVariants.{Create, Run, Serve, Gen}
 use Rattle.fts_top.specs.declared.ends.CreateEnd.TheVariants.{NoMemory}
 use Rattle.fts_top.specs.declared.status.Status.{Status}
 use Rattle.fts_engine.specs.Devices.{devices_of, disks_of}
@@ -15,6 +16,10 @@ use Rattle.fts_script.proofs.Counting.{few_not_crowded}
 use Rattle.fts_top.proofs.Opening.{can_open, run_finishes}
 use Rattle.fts_top.proofs.Asking.{not_asked, is_asked, one_settings}
 use Rattle.fts_top.proofs.once.fts_once.Goals as goal
+
+pub returns-in-Ok-None-clause-usage : goal.returns-in-Ok-None-clause-usage
+returns-in-Ok-None-clause-usage g c is command asks =
+    absurd (not_asked c.in-Ok-None.field-0 c.in-Ok-None.field-0-is c.in-Ok-None.ensures.none command asks)
 
 pub returns-in-Ok-None-clause-creates : goal.returns-in-Ok-None-clause-creates
 returns-in-Ok-None-clause-creates g c settings asks =
@@ -36,7 +41,7 @@ returns-in-Ok-None-clause-generates g c seed count asks =
     absurd (not_asked c.in-Ok-None.field-0 c.in-Ok-None.field-0-is c.in-Ok-None.ensures.none (Gen seed count) asks)
 
 pub returns-in-Ok-Some-Create-clause-unasked : goal.returns-in-Ok-Some-Create-clause-unasked
-returns-in-Ok-Some-Create-clause-unasked g c none = absurd (none (Create c.in-Ok-Some-Create.settings) (is_asked (Asks (map string_bytes c.args.words.now)) c.in-Ok-Some-Create.field-0 c.in-Ok-Some-Create.field-0-0 (Create c.in-Ok-Some-Create.settings) c.in-Ok-Some-Create.field-0-is c.in-Ok-Some-Create.field-0-0-is c.in-Ok-Some-Create.ensures.found))
+returns-in-Ok-Some-Create-clause-unasked g c none = absurd (let same : Create c.in-Ok-Some-Create.settings ≡ Serve = none (Create c.in-Ok-Some-Create.settings) (is_asked (Asks (map string_bytes c.args.words.now)) c.in-Ok-Some-Create.field-0 c.in-Ok-Some-Create.field-0-0 (Create c.in-Ok-Some-Create.settings) c.in-Ok-Some-Create.field-0-is c.in-Ok-Some-Create.field-0-0-is c.in-Ok-Some-Create.ensures.found) in cc)
 
 pub returns-in-Ok-Some-Create-clause-creates : goal.returns-in-Ok-Some-Create-clause-creates
 returns-in-Ok-Some-Create-clause-creates g c settings asks = (
@@ -54,10 +59,10 @@ returns-in-Ok-Some-Create-clause-creates g c settings asks = (
 )
 
 pub returns-in-Ok-clause-unasked : goal.returns-in-Ok-clause-unasked
-returns-in-Ok-clause-unasked g c none = absurd (none Run (is_asked (Asks (map string_bytes c.args.words.now)) c.in-Ok-Some-Run.field-0 c.in-Ok-Some-Run.field-0-0 Run c.in-Ok-Some-Run.field-0-is c.in-Ok-Some-Run.field-0-0-is c.in-Ok-Some-Run.ensures.found))
+returns-in-Ok-clause-unasked g c none = absurd (let same : Run ≡ Serve = none Run (is_asked (Asks (map string_bytes c.args.words.now)) c.in-Ok-Some-Run.field-0 c.in-Ok-Some-Run.field-0-0 Run c.in-Ok-Some-Run.field-0-is c.in-Ok-Some-Run.field-0-0-is c.in-Ok-Some-Run.ensures.found) in cc)
 
 pub returns-in-Err-end-clause-unasked : goal.returns-in-Err-end-clause-unasked
-returns-in-Err-end-clause-unasked g c none = absurd (none Run (is_asked (Asks (map string_bytes c.args.words.now)) c.in-Ok-Some-Run.field-0 c.in-Ok-Some-Run.field-0-0 Run c.in-Ok-Some-Run.field-0-is c.in-Ok-Some-Run.field-0-0-is c.in-Ok-Some-Run.ensures.found))
+returns-in-Err-end-clause-unasked g c none = absurd (let same : Run ≡ Serve = none Run (is_asked (Asks (map string_bytes c.args.words.now)) c.in-Ok-Some-Run.field-0 c.in-Ok-Some-Run.field-0-0 Run c.in-Ok-Some-Run.field-0-is c.in-Ok-Some-Run.field-0-0-is c.in-Ok-Some-Run.ensures.found) in cc)
 
 pub returns-in-Err-clause-creates : goal.returns-in-Err-clause-creates
 returns-in-Err-clause-creates g c settings asks = (
@@ -106,12 +111,12 @@ returns-in-Ok-clause-complete g c can calm =
 pub returns-in-Ok-end-clause-unasked : goal.returns-in-Ok-end-clause-unasked
 returns-in-Ok-end-clause-unasked g c none =
     let made = Gen c.in-Ok-Some-Gen.seed c.in-Ok-Some-Gen.count in
-    absurd (none made (is_asked (Asks (map string_bytes c.args.words.now)) c.in-Ok-Some-Gen.field-0 c.in-Ok-Some-Gen.field-0-0 made c.in-Ok-Some-Gen.field-0-is c.in-Ok-Some-Gen.field-0-0-is c.in-Ok-Some-Gen.ensures.found))
+    absurd (let same : made ≡ Serve = none made (is_asked (Asks (map string_bytes c.args.words.now)) c.in-Ok-Some-Gen.field-0 c.in-Ok-Some-Gen.field-0-0 made c.in-Ok-Some-Gen.field-0-is c.in-Ok-Some-Gen.field-0-0-is c.in-Ok-Some-Gen.ensures.found) in cc)
 
 pub returns-in-Err-end-2-clause-unasked : goal.returns-in-Err-end-2-clause-unasked
 returns-in-Err-end-2-clause-unasked g c none =
     let made = Gen c.in-Ok-Some-Gen.seed c.in-Ok-Some-Gen.count in
-    absurd (none made (is_asked (Asks (map string_bytes c.args.words.now)) c.in-Ok-Some-Gen.field-0 c.in-Ok-Some-Gen.field-0-0 made c.in-Ok-Some-Gen.field-0-is c.in-Ok-Some-Gen.field-0-0-is c.in-Ok-Some-Gen.ensures.found))
+    absurd (let same : made ≡ Serve = none made (is_asked (Asks (map string_bytes c.args.words.now)) c.in-Ok-Some-Gen.field-0 c.in-Ok-Some-Gen.field-0-0 made c.in-Ok-Some-Gen.field-0-is c.in-Ok-Some-Gen.field-0-0-is c.in-Ok-Some-Gen.ensures.found) in cc)
 
 pub returns-in-Err-end-2-clause-complete : goal.returns-in-Err-end-2-clause-complete
 returns-in-Err-end-2-clause-complete g c can calm =
@@ -127,4 +132,30 @@ returns-in-Err-end-2-clause-complete g c can calm =
     subst (λ (status : Status). Finishes status) (sym c.from-in-Err-end-2.ensures)
     (can_open (disks_of g.D.Disk g.E.Disk) (devices_of c.args.rows c.args.index) c.in-Err-end-2.error can_open_it.1 can_open_it.2.0 can_open_it.2.1 unopened.why
     (λ fault. calm.disk (unopened.fault.rose fault)))))
+    can
+
+pub returns-in-Ok-Some-Serve-clause-usage : goal.returns-in-Ok-Some-Serve-clause-usage
+returns-in-Ok-Some-Serve-clause-usage g c is command asks =
+    asks_one (map string_bytes c.args.words.now) command Serve asks (is_asked (Asks (map string_bytes c.args.words.now)) c.in-Ok-Some-Serve.field-0 c.in-Ok-Some-Serve.field-0-0 Serve c.in-Ok-Some-Serve.field-0-is c.in-Ok-Some-Serve.field-0-0-is c.in-Ok-Some-Serve.ensures.found)
+
+pub returns-in-Ok-Some-Serve-clause-creates : goal.returns-in-Ok-Some-Serve-clause-creates
+returns-in-Ok-Some-Serve-clause-creates g c settings asks =
+    absurd (let same : Create settings ≡ Serve = asks_one (map string_bytes c.args.words.now) (Create settings) Serve asks (is_asked (Asks (map string_bytes c.args.words.now)) c.in-Ok-Some-Serve.field-0 c.in-Ok-Some-Serve.field-0-0 Serve c.in-Ok-Some-Serve.field-0-is c.in-Ok-Some-Serve.field-0-0-is c.in-Ok-Some-Serve.ensures.found) in cc)
+
+pub returns-in-Ok-Some-Serve-clause-runs : goal.returns-in-Ok-Some-Serve-clause-runs
+returns-in-Ok-Some-Serve-clause-runs g c asks =
+    absurd (let same : Run ≡ Serve = asks_one (map string_bytes c.args.words.now) (Run) Serve asks (is_asked (Asks (map string_bytes c.args.words.now)) c.in-Ok-Some-Serve.field-0 c.in-Ok-Some-Serve.field-0-0 Serve c.in-Ok-Some-Serve.field-0-is c.in-Ok-Some-Serve.field-0-0-is c.in-Ok-Some-Serve.ensures.found) in cc)
+
+pub returns-in-Ok-Some-Serve-clause-generates : goal.returns-in-Ok-Some-Serve-clause-generates
+returns-in-Ok-Some-Serve-clause-generates g c seed count asks =
+    absurd (let same : Gen seed count ≡ Serve = asks_one (map string_bytes c.args.words.now) (Gen seed count) Serve asks (is_asked (Asks (map string_bytes c.args.words.now)) c.in-Ok-Some-Serve.field-0 c.in-Ok-Some-Serve.field-0-0 Serve c.in-Ok-Some-Serve.field-0-is c.in-Ok-Some-Serve.field-0-0-is c.in-Ok-Some-Serve.ensures.found) in cc)
+
+pub returns-in-Ok-Some-Serve-clause-complete : goal.returns-in-Ok-Some-Serve-clause-complete
+returns-in-Ok-Some-Serve-clause-complete g c can none =
+    let asked : Asks (map string_bytes c.args.words.now) Serve = is_asked (Asks (map string_bytes c.args.words.now)) c.in-Ok-Some-Serve.field-0 c.in-Ok-Some-Serve.field-0-0 Serve c.in-Ok-Some-Serve.field-0-is c.in-Ok-Some-Serve.field-0-0-is c.in-Ok-Some-Serve.ensures.found in
+    ⊎_elim
+    (λ create. absurd (let same : Create create.0 ≡ Serve = asks_one (map string_bytes c.args.words.now) (Create create.0) Serve create.1 asked in cc))
+    (⊎_elim
+    (λ run. absurd (let same : Run ≡ Serve = asks_one (map string_bytes c.args.words.now) Run Serve run.0 asked in cc))
+    (λ made. absurd (let same : Gen made.0.0 made.0.1 ≡ Serve = asks_one (map string_bytes c.args.words.now) (Gen made.0.0 made.0.1) Serve made.0.2 asked in cc)))
     can

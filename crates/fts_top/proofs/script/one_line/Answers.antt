@@ -7,7 +7,7 @@ use Rattle.fts_types.specs.declared.settings.Settings.{Settings}
 use Rattle.fts_steps.proofs.Making.{made_keeps}
 use Rattle.fts_top.specs.Kept.{mets, AllFit}
 use Rattle.fts_top.specs.Run.{OneLine, sides}
-use Rattle.fts_top.specs.declared.ends.Health.TheVariants.{Sound}
+use Rattle.fts_workers.specs.declared.health.Health.TheVariants.{Sound}
 use Rattle.fts_schema.specs.declared.reply.Reply.TheVariants.{LineTooLong}
 use Rattle.fts_top.proofs.Counting.{spoken_of}
 use Rattle.fts_top.proofs.Turning.{skips, no_batches, not_sent}

@@ -11,9 +11,10 @@ use Rattle.fts_top.proofs.Keeping.{kept_few}
 use Rattle.fts_top.proofs.Fronts.{nothing_yet, again, goes_on, ends}
 use Rattle.fts_steps.specs.FaultCounts.{CountsFaultOf}
 use Rattle.fts_steps.proofs.FaultCounts.{counts_calm}
-use Rattle.fts_top.specs.declared.ends.Health.{Health}
-use Rattle.fts_top.specs.declared.ends.Health.TheVariants.{Failed}
-use Rattle.fts_top.proofs.Health.{counted_more, counted_line}
+use Rattle.fts_workers.specs.declared.health.Health.{Health}
+use Rattle.fts_workers.specs.declared.health.Health.TheVariants.{Failed}
+use Rattle.fts_workers.proofs.Worse.{counted_more}
+use Rattle.fts_top.proofs.Health.{counted_line}
 use Rattle.fts_top.proofs.script.run.Goals as goal
 
 pub returns-in-Err-clause-runs : goal.returns-in-Err-clause-runs

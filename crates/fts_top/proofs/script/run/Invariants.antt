@@ -3,7 +3,7 @@ use Rattle.fts_steps.specs.FaultCounts.{CountsFaultOf}
 use Rattle.fts_io.specs.Text.{lines_of}
 use Rattle.fts_io.specs.Reading.{ahead, ended_ahead, given_by, taken_by, work_left}
 use Rattle.fts_steps.specs.Running.{Running}
-use Rattle.fts_top.specs.declared.ends.Health.TheVariants.{Failed}
+use Rattle.fts_workers.specs.declared.health.Health.TheVariants.{Failed}
 use Rattle.fts_top.specs.Run.{sides}
 use Rattle.fts_top.specs.Kept.{mets, AreKept, AllFit}
 use Rattle.fts_top.proofs.Meeting.{AreMet}

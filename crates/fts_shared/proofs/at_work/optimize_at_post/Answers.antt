@@ -1,0 +1,21 @@
+use Rattle.std.proofs.Common.{◌++◌}
+use Rattle.fts_workers.specs.Workers.{Works, OptimizeRound, all_steps}
+use Rattle.fts_shared.specs.Shared.{seat_sight}
+use Rattle.fts_shared.proofs.Seats.{seat_works, same_turn, same_seat, rests_there, same_there, settled}
+use Rattle.fts_shared.proofs.at_work.optimize_at_post.Goals as goal
+
+pub returns : goal.returns
+returns g c =
+    let turn = c.args.context.now.turn.now in
+    let works = c.optimize_worker-met.ensures in
+    let calls = all_steps works.rounds ++ works.last in
+    let same = same_turn (λ s. s.placed) calls _ c.optimize_worker-met.new.steps works.made in
+    let seat = same_seat (λ s. s.placed) calls _ c.optimize_worker-met.new.steps works.made in
+    let is = c.into_seat.ensures.is in
+    record {
+      rest = rests_there turn c.args.post.seat c.into_seat.result c.steps_at-steps.result.placed c.optimize_worker-met.new.steps.placed c.steps_at-steps.ensures same is c.into_seat.ensures.rest;
+      seat_is = same_there turn c.args.post.seat c.into_seat.result c.steps_at-steps.result.placed c.optimize_worker-met.new.steps.placed c.steps_at-steps.ensures same is seat;
+      works = settled turn c.args.post.seat c.into_seat.result c.steps_at-steps.result.placed c.optimize_worker-met.new.steps.placed c.steps_at-steps.ensures same is
+          (Works (seat_sight {rows = g.D.Disk} {index = g.E.Disk}) OptimizeRound c.optimize_worker-met.result)
+          (seat_works (λ s. s.placed) OptimizeRound c.optimize_worker-met.result _ c.optimize_worker-met.new.steps works);
+    }

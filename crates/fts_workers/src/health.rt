@@ -1,0 +1,64 @@
+//! What steps met.
+ghost use Rattle.std.specs.Prelude.{◌≡◌};
+ghost use Rattle.fts_workers.specs.Health.{health_of as the_health_of, worse as the_worse};
+
+use fts_schema::Reply;
+
+/// What the lines of a script and the batches behind them met so far.
+#[derive(Clone, Copy, Debug, PartialEq, Eq)]
+pub enum Health {
+    /// No want of memory, and no fault.
+    Sound,
+    /// Want of memory.
+    Short,
+    /// A fault of a device. That of a batch behind a reply is told at the end, by the status.
+    Failed,
+}
+
+/// What a line met, by its reply.
+pub fn health_of(reply: &Reply) -> Health
+    ensures { result ≡ the_health_of reply.now }
+{
+    match reply {
+        Reply::NoMemory => Health::Short,
+        Reply::DiskFault => Health::Failed,
+        Reply::Committed { .. } => Health::Sound,
+        Reply::CommittedAndBegun { .. } => Health::Sound,
+        Reply::Begun => Health::Sound,
+        Reply::Buffered { .. } => Health::Sound,
+        Reply::NothingToCommit => Health::Sound,
+        Reply::RolledBack { .. } => Health::Sound,
+        Reply::TooManyChanges { .. } => Health::Sound,
+        Reply::Found { .. } => Health::Sound,
+        Reply::Refused { .. } => Health::Sound,
+        Reply::LogFull { .. } => Health::Sound,
+        Reply::Nothing => Health::Sound,
+        Reply::Syntax { .. } => Health::Sound,
+        Reply::NoSuchTable { .. } => Health::Sound,
+        Reply::NoSuchColumn { .. } => Health::Sound,
+        Reply::WrongColumns => Health::Sound,
+        Reply::QuerySyntax { .. } => Health::Sound,
+        Reply::QueryTooLong { .. } => Health::Sound,
+        Reply::QueryTooDeep { .. } => Health::Sound,
+        Reply::LineTooLong => Health::Sound,
+        Reply::Stopped { .. } => Health::Sound,
+        Reply::Synced { .. } => Health::Sound,
+        Reply::NothingToOptimize => Health::Sound,
+        Reply::Optimized { .. } => Health::Sound,
+        Reply::Listed { .. } => Health::Sound,
+    }
+}
+
+impl Health {
+    /// The worse of two: a fault, then want of memory.
+    pub fn worse(self, other: Health) -> Health
+        ensures { result ≡ the_worse self other }
+    {
+        match (self, other) {
+            (Health::Failed, _) => Health::Failed,
+            (Health::Short, Health::Failed) => Health::Failed,
+            (Health::Short, _) => Health::Short,
+            (Health::Sound, other) => other,
+        }
+    }
+}
