@@ -9,7 +9,9 @@ there on, and of the sums the least, the median and the most. It needs root, Lin
 nm and readelf, Python 3, and works below TMPDIR.
 """
 import argparse
+import contextlib
 import os
+import re
 import statistics
 import subprocess
 import tempfile
@@ -17,6 +19,8 @@ import tempfile
 from queries import as_script_does, drawn, program_named
 
 TRACING = "/sys/kernel/tracing"
+NOTE = re.compile(r"\s*\S+-([0-9]+)\s.* ([0-9]+\.[0-9]+): (\w+): ")
+WRITTEN = re.compile(r"entries-in-buffer/entries-written: ([0-9]+)/([0-9]+)")
 CALLS = {"room": "make_batch_room", "install": "tables::Tables::install_batch"}
 
 
@@ -30,6 +34,11 @@ def put(name, text, how=os.O_TRUNC):
     os.close(file)
 
 
+def said_in(name):
+    with open(os.path.join(TRACING, name), encoding="ascii") as it:
+        return it.read()
+
+
 def probe(program, call, place):
     put("uprobe_events", f"p:fts/{call} {program}:{place:#x}\n", os.O_APPEND)
     put("uprobe_events", f"r:fts/{call}_end {program}:{place:#x}\n", os.O_APPEND)
@@ -40,14 +49,42 @@ def forget(call):
     put("uprobe_events", f"-:fts/{call}_end\n", os.O_APPEND)
 
 
-def places_of(program):
-    """Where in the program's file its functions begin."""
+def places_of(program, calls):
+    """Where in the program's file these functions begin."""
     text = next(it.split() for it in said_by("readelf", "-SW", program).splitlines() if " .text " in it)
     address, offset = (int(text[text.index("PROGBITS") + k], 16) for k in (1, 2))
     names = [it.split(maxsplit=2) for it in said_by("nm", program).splitlines()]
-    for call, name in CALLS.items():
-        (place,) = (int(it[0], 16) for it in names if it[-1].endswith(name))
+    for call, name in calls.items():
+        # (the instance of a generic function stands behind its name)
+        (place,) = (int(it[0], 16) for it in names if it[-1].split("::<")[0].endswith(name))
         yield call, place - address + offset
+
+
+@contextlib.contextmanager
+def noting(program, calls):
+    """Has the kernel note when these functions begin and end."""
+    for call, place in places_of(program, calls):
+        probe(program, call, place)
+    kilobytes = said_in("buffer_size_kb").split()[0]
+    try:
+        put("buffer_size_kb", "16384")
+        put("trace", "")
+        put("events/fts/enable", "1")
+        yield
+    finally:
+        put("events/fts/enable", "0")
+        put("buffer_size_kb", kilobytes)
+        for call in calls:
+            forget(call)
+
+
+def noted():
+    """What was noted, in its order: by which thread, at which second, and what."""
+    for line in said_in("trace").splitlines():
+        if found := NOTE.match(line):
+            yield found[1], float(found[2]), found[3]
+        elif (counts := WRITTEN.search(line)) and counts[1] != counts[2]:
+            raise SystemExit(f"of {counts[2]} notes {counts[1]} are left")
 
 
 def run(program, rows):
@@ -65,11 +102,7 @@ def run(program, rows):
 def times_of():
     """The milliseconds of each call, in their order."""
     begun, times = {}, {call: [] for call in CALLS}
-    with open(os.path.join(TRACING, "trace"), encoding="ascii") as it:
-        noted = [line.split() for line in it if not line.startswith("#")]
-    for words in noted:
-        at = next(place for place, word in enumerate(words) if word.rstrip(":") in times or word.endswith("_end:"))
-        moment, name = float(words[at - 1].rstrip(":")), words[at].rstrip(":")
+    for _, moment, name in noted():
         call = name.removesuffix("_end")
         if name == call:
             begun[call] = moment
@@ -83,18 +116,9 @@ def main():
     parser.add_argument("rows", nargs="?", type=int, default=10_000)
     parser.add_argument("--program", type=program_named, default="")
     words = parser.parse_args()
-    for call, place in places_of(words.program):
-        probe(words.program, call, place)
-    try:
-        put("buffer_size_kb", "4096")
-        put("trace", "")
-        put("events/fts/enable", "1")
+    with noting(words.program, CALLS):
         run(words.program, words.rows)
         times = times_of()
-    finally:
-        put("events/fts/enable", "0")
-        for call in CALLS:
-            forget(call)
     both = [sum(it) for it in zip(*times.values())]
     for first, last in ((0, 10), (10, 100), (100, len(both))):
         if both[first:last]:

@@ -56,6 +56,29 @@ def rates_of(turns):
     return tuple(statistics.median(it) for it in zip(*turns))
 
 
+def serve(program, folder, lines):
+    """The seconds in which a script is executed on a copy of a database, and the replies."""
+    copy = folder + ".copy"
+    shutil.rmtree(copy, ignore_errors=True)
+    shutil.copytree(folder, copy)
+    how = {"stdin": subprocess.PIPE, "stdout": subprocess.PIPE, "env": as_script_does()}
+    process = subprocess.Popen([program, copy, "serve"], **how)
+    process.stdin.write("".join(lines).encode())
+    process.stdin.flush()
+    # The database is open where the pipe is empty; no line is executed before its end.
+    while unread(process.stdin):
+        time.sleep(0.001)
+    begun = time.monotonic()
+    process.stdin.close()
+    first = process.stdout.read(1)
+    took = time.monotonic() - begun
+    replies = (first + process.stdout.read()).split(b"\n")[:-1]
+    process.stdout.close()
+    if process.wait() or len(replies) != len(lines) or not all(it.startswith(b"OK ") for it in replies):
+        raise SystemExit(f"served with status {process.returncode}, {len(replies)} replies")
+    return took, replies
+
+
 class Served:
     """Scripts that are served, each on a copy of a database."""
 
@@ -72,25 +95,8 @@ class Served:
 
     def time(self, kind, readers, searches, count):
         """The seconds that a script takes, and behind how many new commits each search of a session was made."""
-        copy = self.folder + ".copy"
-        shutil.rmtree(copy, ignore_errors=True)
-        shutil.copytree(self.folder, copy)
         lines = self.script_of(kind, readers, searches, count)
-        how = {"stdin": subprocess.PIPE, "stdout": subprocess.PIPE, "env": as_script_does()}
-        process = subprocess.Popen([self.program, copy, "serve"], **how)
-        process.stdin.write("".join(lines).encode())
-        process.stdin.flush()
-        # The database is open where the pipe is empty; no line is executed before its end.
-        while unread(process.stdin):
-            time.sleep(0.001)
-        begun = time.monotonic()
-        process.stdin.close()
-        first = process.stdout.read(1)
-        took = time.monotonic() - begun
-        replies = (first + process.stdout.read()).split(b"\n")[:-1]
-        process.stdout.close()
-        if process.wait() or len(replies) != len(lines) or not all(it.startswith(b"OK ") for it in replies):
-            raise SystemExit(f"{kind}: status {process.returncode}, {len(replies)} replies")
+        took, replies = serve(self.program, self.folder, lines)
         told = [int(it[: it.index(b":")].split()[-1]) - self.rows for it in replies[: readers * searches]]
         return max(took - self.rest, 1e-6), told
 
