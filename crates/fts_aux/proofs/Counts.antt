@@ -11,7 +11,8 @@ use Rattle.indexmap.specs.IndexMap.{swap_remove_entry}
 use Rattle.fts_ilist.specs.Node.{Docs}
 use Rattle.fts_ilist.specs.NodeList.{NodeState}
 use Rattle.fts_ilist.specs.Packing.{are_loose}
-use Rattle.fts_aux.specs.Table.{Entries, find, no_list, list_in, nodes_in, is_key_at, loose_one, loose_count, HasLoose, Recounts, Becomes, Enters, Writes}
+use Rattle.fts_aux.specs.Words.{HasLoose}
+use Rattle.fts_aux.specs.Table.{Entries, find, no_list, list_in, nodes_in, is_key_at, loose_one, loose_count, Recounts, Becomes, Enters, Writes}
 use Rattle.fts_ilist.proofs.Loose.{loose_told, told_loose}
 use Rattle.fts_aux.proofs.Finds.{Distinct, same_text, is_same, which_word, first_apart, rest_distinct, list_other}
 

@@ -2,7 +2,7 @@
 use Rattle.std.proofs.Common.{◌≡◌, ℕ, true, cond, List, [], ◌∷◌, ◌++◌, refl, sym, ap, ◌∙◌, append_assoc}
 use Rattle.fts_words.specs.Order.{begins_with}
 use Rattle.fts_ilist.specs.Node.{Docs}
-use Rattle.fts_aux.specs.Table.{filled, filled_as}
+use Rattle.fts_aux.specs.Words.{filled, filled_as}
 use Rattle.fts_ilist.specs.Front.{front}
 
 filled_as_more : (w : List ℕ) (ns : List Docs) (rest : List (List ℕ × List Docs)) → filled_as w ns [] ++ rest ≡ filled_as w ns rest

@@ -5,7 +5,8 @@ use Rattle.fts_types.specs.Table.{table_of}
 use Rattle.fts_ilist.specs.Node.{Docs}
 use Rattle.fts_ilist.specs.Packing.{AreLoose, are_loose}
 use Rattle.fts_ilist.proofs.Loose.{loose_told}
-use Rattle.fts_aux.specs.Table.{Entries, nodes_in, HasLoose}
+use Rattle.fts_aux.specs.Words.{HasLoose}
+use Rattle.fts_aux.specs.Table.{Entries, nodes_in}
 use Rattle.fts_aux.specs.Tables.{Held, nodes, nodes_from, PlacedFrom, AreTables, HasLooseIn}
 
 -- where there are no nodes, packing leaves them

@@ -10,7 +10,8 @@ use Rattle.std.proofs.lemmas.Bool.{false≢true, cases_Bool, cases_lt, cases_eq,
 use Rattle.fts_words.specs.Order.{byte_order, begins_with}
 use Rattle.fts_types.specs.Table.{table_of}
 use Rattle.fts_ilist.specs.Node.{Docs}
-use Rattle.fts_aux.specs.Table.{Entries, nodes_in, IsNext, IsLast, IsListing}
+use Rattle.fts_aux.specs.Words.{IsNext, IsLast, IsListing}
+use Rattle.fts_aux.specs.Table.{Entries, nodes_in}
 use Rattle.fts_aux.specs.Tables.{Held, nodes, nodes_from, PlacedFrom, AreTables, IsNextIn, IsLastIn}
 use Rattle.fts_types.proofs.Partition.{first_rises, tables_rise_to_z, high_table}
 use Rattle.fts_aux.proofs.Places.{own_nodes, placed_at}

@@ -17,7 +17,7 @@ use Rattle.std.proofs.lemmas.Map.Lookups.{exact_bytes}
 use Rattle.fts_words.specs.Order.{byte_order}
 use Rattle.fts_ilist.specs.Node.{Docs}
 use Rattle.fts_ilist.proofs.Fronts as words
-use Rattle.fts_aux.specs.Table.{filled, filled_as, nodes_at, IsNext, IsLast}
+use Rattle.fts_aux.specs.Words.{filled, filled_as, nodes_at, IsNext, IsLast}
 
 abbrev nodes_or : Option (List Docs) → List Docs
 nodes_or o = unwrap_or o []

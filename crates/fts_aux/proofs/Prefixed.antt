@@ -7,7 +7,7 @@ use Rattle.std.proofs.lemmas.List.Elements.{All-from_recursion}
 use Rattle.fts_words.specs.Order.{byte_order, begins_with}
 use Rattle.fts_ilist.specs.Node.{Docs}
 use Rattle.fts_ilist.proofs.Fronts.{is_from, begun_is_from, front_of_rest}
-use Rattle.fts_aux.specs.Table.{filled, nodes_at, IsListing}
+use Rattle.fts_aux.specs.Words.{filled, nodes_at, IsListing}
 use Rattle.fts_ilist.specs.Front.{front}
 use Rattle.fts_aux.proofs.Ordered.{Ascends, sorted_to, ascends-filter, ascends-filled, all_filled, nodes_at-filled, items-filter}
 

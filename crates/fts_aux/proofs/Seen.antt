@@ -12,7 +12,8 @@ use Rattle.std.proofs.lemmas.Bool.{cases_Bool, true≢false}
 use Rattle.fts_words.specs.Order.{byte_order}
 use Rattle.fts_ilist.specs.Node.{Docs}
 use Rattle.fts_ilist.specs.NodeList.{NodeState}
-use Rattle.fts_aux.specs.Table.{Entries, nodes_in, find, is_key, no_list, nodes_at, seen, filled, IsNext, IsLast, IsListing, IsListed}
+use Rattle.fts_aux.specs.Words.{nodes_at, filled, IsNext, IsLast, IsListing}
+use Rattle.fts_aux.specs.Table.{Entries, nodes_in, find, is_key, no_list, seen, IsListed}
 use Rattle.fts_ilist.specs.Front.{front}
 use Rattle.fts_aux.proofs.Finds.{not_true}
 use Rattle.fts_aux.proofs.Ordered.{Ascends, AllBehind, same_word, is_behind, next_of, last_of_all}

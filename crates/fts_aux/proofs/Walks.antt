@@ -12,7 +12,7 @@ use Rattle.std.proofs.lemmas.Bool.{true≢false, cases_Bool}
 use Rattle.std.proofs.lemmas.List.Elements.{All-from_recursion}
 use Rattle.fts_words.specs.Order.{byte_order}
 use Rattle.fts_ilist.specs.Node.{Docs}
-use Rattle.fts_aux.specs.Table.{nodes_at, IsNext, IsLast, IsListing, IsWalked}
+use Rattle.fts_aux.specs.Words.{nodes_at, IsNext, IsLast, IsListing, IsWalked}
 use Rattle.fts_aux.proofs.Ordered.{AllBehind, Ascends, ascends_from, sorted_to, same_word, equal_itself, is_Equal}
 
 -- ---- words in byte order

@@ -8,7 +8,7 @@ use Rattle.fts_types.specs.Table.{table_of}
 use Rattle.fts_ilist.specs.Node.{Docs, NodesAfter, last_of, nodes_for}
 use Rattle.fts_ilist.specs.Spelling.{first_id}
 use Rattle.fts_aux.specs.Table.{Entries, nodes_in, list_in, is_key, Room, room_of, no_room, needs, with_room, IsWithin}
-use Rattle.fts_aux.specs.Table.{IsNext, IsLast, HasLoose}
+use Rattle.fts_aux.specs.Words.{IsNext, IsLast, HasLoose}
 
 -- the six tables, each with its words. A word without nodes is there for its room alone
 abbrev pub Held : Type 0

@@ -10,11 +10,14 @@ ghost use Rattle.fts_ilist.specs.NodeList.{with_nodes, nodes_size, Takes};
 ghost use Rattle.fts_ilist.specs.Node.{last_of};
 ghost use Rattle.fts_aux.specs.Table.{find, list_in, nodes_in, is_key, is_key_at, room_of, no_room};
 ghost use Rattle.fts_ilist.specs.Front.{front};
-ghost use Rattle.fts_aux.specs.Table.{filled, filled_as, seen, IsListing, IsNext};
-ghost use Rattle.fts_aux.specs.Table.{IsLast, IsListed, Becomes, Enters, Writes, no_list, Lists};
+ghost use Rattle.fts_aux.specs.Words.{filled, filled_as, IsListing, IsNext};
+ghost use Rattle.fts_aux.specs.Table.{seen};
+ghost use Rattle.fts_aux.specs.Words.{IsLast};
+ghost use Rattle.fts_aux.specs.Table.{IsListed, Becomes, Enters, Writes, no_list, Lists};
 ghost use Rattle.fts_aux.specs.Table.{IsNotedBut, IsFilledBut, AreFilledBut, AreFilled};
 ghost use Rattle.fts_aux.specs.Table.{Drops, AddsRoom, IsWithin, needs};
-ghost use Rattle.fts_aux.specs.Table.{KeepsNodes, HasLoose, Recounts, loose_count};
+ghost use Rattle.fts_aux.specs.Words.{HasLoose};
+ghost use Rattle.fts_aux.specs.Table.{KeepsNodes, Recounts, loose_count};
 ghost use Rattle.fts_ilist.specs.Packing.{are_loose};
 
 use fts_ilist::{Node, NodeList, NodeSlice};

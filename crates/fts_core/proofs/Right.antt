@@ -17,7 +17,7 @@ use Rattle.fts_steps.specs.State.{turns_of, index_state}
 use Rattle.fts_steps.specs.Running.{next_batch, next_optimized}
 use Rattle.fts_steps.specs.Step.{Answer, to_sync, writes, would_write, unless_stopped, unless_full, plain_answer, all_flushed}
 use Rattle.fts_steps.proofs.Growing.{batch_right, step_right}
-use Rattle.fts_engine.proofs.Indexing.{turns_count}
+use Rattle.fts_steps.proofs.Growing.{turns_count}
 use Rattle.fts_core.proofs.Between.{IsOne}
 use Rattle.fts_steps.specs.State.{State, with_commits, with_entries, HasEntries, IsRight}
 use Rattle.fts_steps.specs.Running.{Running}

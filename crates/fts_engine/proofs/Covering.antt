@@ -36,7 +36,7 @@ use Rattle.fts_engine.specs.Restoring.{restoring_settings, restoring_rows, resto
 use Rattle.fts_engine.specs.Reading.{IsWrongPayload}
 use Rattle.fts_engine.specs.Loading.{BeginsWith, IsRestored, StillRestored, IsLoaded, NoneCanCome, AreSound}
 use Rattle.fts_engine.proofs.Loading.{one_more, front_of, same_settings, loaded_all}
-use Rattle.fts_engine.proofs.Indexing.{turns_count}
+use Rattle.fts_steps.proofs.Growing.{turns_count}
 
 -- a list whose payloads are some and one more is a list and one more
 record IsPushed (rules : Rules) (whole : List IndexEntry) (front : List IndexEntry) (payload : List ℕ) : Type 0 where

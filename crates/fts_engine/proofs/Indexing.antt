@@ -27,14 +27,16 @@ use Rattle.fts_entries.proofs.Kept.{still_fits, same_state}
 use Rattle.fts_index.specs.declared.index.Index.{Index}
 use Rattle.fts_index.specs.Births.{AreBirths}
 use Rattle.fts_index.proofs.Births.{ids_lower}
+use Rattle.fts_index.proofs.Newest.{newest_used}
 use Rattle.fts_index.specs.declared.sync.SyncPlan.{SyncPlan}
-use Rattle.fts_index.specs.Index.{StandsFor, AreCommits, CanTurn, WillTurn, FitsSync, PlansBatch}
+use Rattle.fts_index.specs.Stands.{StandsFor, AreCommits}
+use Rattle.fts_index.specs.Index.{CanTurn, WillTurn, FitsSync, PlansBatch, newest}
 use Rattle.fts_engine.specs.declared.kept.NextKept.{NextKept}
 use Rattle.fts_engine.specs.Indexed.{IsIndexOf, HasIndex}
 use Rattle.fts_engine.specs.Next.{WillHold}
-use Rattle.fts_engine.specs.Kept.{IsPlannedOf}
+use Rattle.fts_engine.specs.Planned.{IsPlannedOf}
 use Rattle.fts_engine.proofs.Props.{fits_prop}
-use Rattle.fts_steps.proofs.Growing.{AreKnown, turns_more}
+use Rattle.fts_steps.proofs.Growing.{AreKnown, turns_more, turns_count}
 use Rattle.fts_engine.proofs.Accepting.{replay_accepted}
 
 ids_order : (low high : ℕ) (rows : List Row) → RowsAscend low high rows → low ≤ high
@@ -57,11 +59,6 @@ rows_left left low high (row ∷ rows) up = by (left row) refl (rows_left left r
     by : (b : Bool) → left row ≡ b → RowsAscend row.doc high (filter left rows) → RowsAscend low high (cond b (row ∷ filter left rows) (filter left rows))
     by true is rest = (up.0, rest)
     by false is rest = rows_lower low row.doc high (filter left rows) (omega (arith, up.0)) rest
-
--- there are as many turns as commits
-pub turns_count : (rows : Rows) (commits : List Commit) → length (turns_from rows commits) ≡ length commits
-turns_count rows [] = refl
-turns_count rows (commit ∷ commits) = (let rest = turns_count (rows_after rows commit) commits in omega (arith, rest))
 
 -- the largest id that the turns used is that of the rows
 largest_is : (rows : Rows) (commits : List Commit) → largest_after rows.largest (turns_from rows commits) ≡ (fold rows_after rows commits).largest
@@ -142,10 +139,10 @@ module _ (settings : Settings) (held : Held) (old new : Index) (next : NextKept)
     ascend = rows_ascend_more commits commit laws is.ascend;
   }
 
--- the last id of the cache is one that the rows used
-pub last_used : (settings : Settings) (rows : Rows) (index : Index) → HasIndex settings rows index → index.cache.last ≤ rows.largest
+-- the largest id that came into the cache is one that the rows used
+pub last_used : (settings : Settings) (rows : Rows) (index : Index) → HasIndex settings rows index → newest index ≤ rows.largest
 last_used settings rows index has =
-    let used = has.is.stands.last in
+    let used = newest_used (rules_of settings) (turns_from no_rows has.commits) has.state index has.is.stands in
     let largest : largest_after 0 (turns_from no_rows has.commits) ≡ (replay has.commits).largest = largest_is no_rows has.commits in
     let same : rows.largest ≡ (replay has.commits).largest = ap (λ (rows : Rows). rows.largest) has.is.same in
     omega (arith, used, largest, same)

@@ -23,14 +23,14 @@ use Rattle.fts_index.specs.declared.index.Index.{Index}
 use Rattle.fts_index.specs.declared.restore.Covered.{Covered}
 use Rattle.fts_types.specs.Row.{Row}
 use Rattle.fts_index.specs.Births.{turn_of}
-use Rattle.fts_index.specs.Index.{StandsFor}
+use Rattle.fts_index.specs.Stands.{StandsFor}
 use Rattle.fts_index.specs.Restore as restore
 use Rattle.fts_index.specs.Restore.{Covers, Restores}
-use Rattle.fts_steps.proofs.Growing.{turns_more}
+use Rattle.fts_steps.proofs.Growing.{turns_more, turns_count}
 use Rattle.fts_engine.specs.Indexed.{IsIndexOf}
 use Rattle.fts_engine.specs.Covered.{Covering, HasCovered}
 use Rattle.fts_engine.proofs.Accepting.{replay_accepted}
-use Rattle.fts_engine.proofs.Indexing.{AreLaws, rows_ascend_more, turns_count}
+use Rattle.fts_engine.proofs.Indexing.{AreLaws, rows_ascend_more}
 
 -- nothing was read
 pub none_covered : (settings : Settings) (rows : Rows) (index : Index) (covered : Covered) → rows ≡ no_rows → StandsFor (rules_of settings) [] no_entries index → Covers [] covered → AreLaws

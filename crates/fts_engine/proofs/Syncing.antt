@@ -35,11 +35,13 @@ use Rattle.fts_rowcodec.proofs.Bounds.{few_columns, some_columns}
 use Rattle.fts_ixcodec.proofs.Batches.{batch_is_entry}
 use Rattle.fts_engine.specs.Batch.{batch_of, IsFramed}
 use Rattle.fts_engine.specs.Fitting.{IsTableRow, AreTableRows}
-use Rattle.fts_engine.specs.Kept.{kept_settings, kept_rows, IsIndexed, IsNextBatch}
+use Rattle.fts_engine.specs.Kept.{kept_settings, kept_rows, IsIndexed}
+use Rattle.fts_engine.specs.Planned.{IsNextBatch}
 use Rattle.fts_engine.specs.Stands.{Has, engine_limits}
 use Rattle.fts_engine.proofs.Committing.{left_either}
 use Rattle.fts_engine.proofs.Fitting.{can_index}
-use Rattle.fts_engine.proofs.Indexing.{min_some, turns_count}
+use Rattle.fts_engine.proofs.Indexing.{min_some}
+use Rattle.fts_steps.proofs.Growing.{turns_count}
 
 module _ (limits : Limits) (running : Running) (going : running.stopped ≡ None) where
   abbrev outcome : Bool → Bool → Answer

@@ -7,7 +7,7 @@ use Rattle.fts_commits.specs.Turn.{RowsAscend, rows_by, turns_from}
 use Rattle.fts_entries.specs.Entry.{IndexState}
 use Rattle.fts_index.specs.declared.index.Index.{Index}
 use Rattle.fts_index.specs.declared.restore.Covered.{Covered}
-use Rattle.fts_index.specs.Index.{AreCommits}
+use Rattle.fts_index.specs.Stands.{AreCommits}
 use Rattle.fts_index.specs.Restore.{Restores}
 
 -- the rows are those of so many commits; the index stands for the state that its entries left over those that are

@@ -7,7 +7,7 @@ use Rattle.fts_commits.specs.Turn.{RowsAscend, rows_by, turns_from}
 use Rattle.fts_entries.specs.Entry.{IndexState}
 use Rattle.fts_entries.specs.Exact.{FitsTurns}
 use Rattle.fts_index.specs.declared.index.Index.{Index}
-use Rattle.fts_index.specs.Index.{StandsFor, AreCommits}
+use Rattle.fts_index.specs.Stands.{StandsFor, AreCommits}
 
 -- the rows are those of these commits, and the index stands over them for this state, which fits them. It says nothing
 -- of the texts behind the nodes

@@ -2,6 +2,7 @@ pub mod Fitting
 pub mod Indexed
 pub mod Next
 pub mod Kept
+pub mod Planned
 pub mod Batch
 pub mod Unframed
 pub mod Bounds

@@ -53,9 +53,10 @@ impl Kept {
     ghost use Rattle.fts_meaning.specs.View.{view_of};
     ghost use Rattle.fts_query.specs.Seen.{leaves_seen, view_seen};
     ghost use Rattle.fts_rows.specs.Refusal.{IsNoPlan};
-    ghost use Rattle.fts_engine.specs.Kept.{kept_settings, kept_rows, kept_limits, WillKeep};
-    ghost use Rattle.fts_engine.specs.Kept.{IsIndexed, StaysIndexed, IsNextBatch, IsPlanned};
-    ghost use Rattle.fts_engine.specs.Kept.{CanSync, CanOptimize};
+    ghost use Rattle.fts_engine.specs.Kept.{kept_settings, kept_rows, kept_limits};
+    ghost use Rattle.fts_engine.specs.Kept.{IsIndexed, StaysIndexed};
+    ghost use Rattle.fts_engine.specs.Planned.{WillKeep, IsNextBatch, IsPlanned};
+    ghost use Rattle.fts_engine.specs.Planned.{CanSync, CanOptimize};
     ghost use Rattle.fts_entries.specs.Entry.{after_entry};
     ghost use Rattle.fts_entries.specs.Pass.{IsStep};
     ghost use Rattle.fts_index.specs.Passing.{step_entry, PlansStep, ArePacked};

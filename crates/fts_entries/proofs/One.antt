@@ -16,7 +16,7 @@ use Rattle.std.proofs.lemmas.Map.Lookups.{exact_bytes}
 use Rattle.std.proofs.lemmas.Map.Text.{is_eq-slice_cmp}
 use Rattle.fts_words.specs.Order.{byte_order}
 use Rattle.fts_ilist.specs.Node.{Docs, nodes_for}
-use Rattle.fts_aux.specs.Table.{nodes_at}
+use Rattle.fts_aux.specs.Words.{nodes_at}
 
 abbrev pub Word : Type 0
 Word = List ℕ × List Docs

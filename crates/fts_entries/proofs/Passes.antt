@@ -22,7 +22,7 @@ use Rattle.fts_ilist.specs.Spelling.{Posting}
 use Rattle.fts_ilist.specs.Node.{Docs}
 use Rattle.fts_ilist.specs.Packing.{joined}
 use Rattle.fts_ilist.proofs.Packs.{joined_packed}
-use Rattle.fts_aux.specs.Table.{IsNext}
+use Rattle.fts_aux.specs.Words.{IsNext}
 use Rattle.fts_entries.specs.Entry.{IndexState, begun, worked, finished, after_entry, unflushed}
 use Rattle.fts_entries.specs.Batch.{largest_after}
 use Rattle.fts_entries.specs.Exact.{is_deleted, FitsTurns, IsExact, LiveAreOf, IsPassed, IdsAfter}

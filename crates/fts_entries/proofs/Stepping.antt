@@ -18,7 +18,7 @@ use Rattle.fts_ilist.specs.Node.{Docs, nodes_for}
 use Rattle.fts_ilist.specs.Changes.{postings_without}
 use Rattle.fts_ilist.specs.Packing.{packed, joined, are_loose}
 use Rattle.fts_ilist.proofs.Loose.{loose_told, told_loose}
-use Rattle.fts_aux.specs.Table.{HasLoose}
+use Rattle.fts_aux.specs.Words.{HasLoose}
 use Rattle.fts_entries.specs.Entry.{Batch, IndexEntry, IndexState, sealed, begun, worked, finished, no_entries, after_entry, index_of}
 use Rattle.fts_entries.specs.Pass.{CanBegin, IsWord, CanFinish, IsStep, IsIdle, place_of, entry_words, words_named, is_none, words_left, pass_step, has_work, next_steps}
 use Rattle.fts_words.specs.Indexed.{Rules}

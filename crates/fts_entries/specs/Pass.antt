@@ -11,7 +11,7 @@ use Rattle.fts_ilist.specs.Changes.{postings_without}
 use Rattle.fts_ilist.specs.Node.{Docs}
 use Rattle.fts_ilist.specs.Spelling.{ArePostings}
 use Rattle.fts_ilist.specs.Packing.{packed, joined, are_loose, is_sound}
-use Rattle.fts_aux.specs.Table.{IsNext, IsLast, HasLoose}
+use Rattle.fts_aux.specs.Words.{IsNext, IsLast, HasLoose}
 use Rattle.fts_entries.specs.Entry.{IndexEntry, IndexState, sealed, begun, worked, finished}
 
 -- a pass can begin: none is open, and there is something to take out, or a word whose nodes packing would change

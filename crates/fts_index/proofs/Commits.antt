@@ -18,12 +18,12 @@ use Rattle.fts_entries.specs.Words.{row_postings, rows_postings}
 use Rattle.fts_entries.proofs.Turns.{largest_behind}
 use Rattle.fts_index.specs.declared.index.Index.{Index}
 use Rattle.fts_index.specs.declared.index.CommitPlan.{CommitPlan}
-use Rattle.fts_index.specs.Index.{StandsFor, WillTurn, CanTurn, PendingSeen, pending_seen, pending_of, cached_row}
+use Rattle.fts_index.specs.Index.{WillTurn, CanTurn, PendingSeen, pending_seen, pending_of, cached_row, Represents}
 use Rattle.fts_index.specs.Parts.{HasSame, IsCommitted}
 use Rattle.fts_index.proofs.Births.{documents_end, same_postings, same_documents}
 
 -- an index with the same stands for the same
-pub stands_still : (old new : Index) → HasSame old new → (rules : Rules) (turns : List Turn) (s : IndexState) → StandsFor rules turns s old → StandsFor rules turns s new
+pub stands_still : (old new : Index) → HasSame old new → (rules : Rules) (turns : List Turn) (s : IndexState) → Represents rules turns s old → Represents rules turns s new
 stands_still old new same rules turns s stands = record {
   within = stands.within;
   tables = λ word. same.nodes word ∙ stands.tables word;
@@ -41,7 +41,7 @@ stands_still old new same rules turns s stands = record {
 }
 
 module _ (rules : Rules) (turns : List Turn) (s : IndexState) (turn : Turn) (old : Index) (plan : CommitPlan) (new : Index)
-    (is : IsCommitted old plan new) (stands : StandsFor rules turns s old) (will : WillTurn rules turn old plan) (can : CanTurn turns turn) where
+    (is : IsCommitted old plan new) (stands : Represents rules turns s old) (will : WillTurn rules turn old plan) (can : CanTurn turns turn) where
   abbrev then : List Turn
   then = unflushed turns s
 
@@ -60,7 +60,7 @@ module _ (rules : Rules) (turns : List Turn) (s : IndexState) (turn : Turn) (old
   died = ap (λ (p : PendingSeen). p.deaths) will.pending
 
   -- the index stands for one commit more
-  pub stands_more : StandsFor rules (turns ++ turn ∷ []) s new
+  pub stands_more : Represents rules (turns ++ turn ∷ []) s new
   stands_more = record {
     within = (let le = stands.within in let long = length-append turns (turn ∷ []) in omega (arith, le, long));
     tables = λ word. is.nodes word ∙ stands.tables word;

@@ -26,7 +26,7 @@ use Rattle.fts_commits.specs.Turn.{Turn, RowsAscend, AreTurns, births_of, deaths
 use Rattle.fts_ilist.specs.Spelling.{Posting, PostingsAfter, ArePostings, id_at_end}
 use Rattle.fts_ilist.specs.Node.{Docs, NodesAfter}
 use Rattle.fts_ilist.specs.Packing.{joined}
-use Rattle.fts_aux.specs.Table.{IsListing, nodes_at}
+use Rattle.fts_aux.specs.Words.{IsListing, nodes_at}
 use Rattle.fts_aux.specs.Tables.{nodes}
 use Rattle.fts_lists.specs.State as lists
 use Rattle.fts_lists.specs.declared.lists.DeleteList.TheVariants.{Deleted, DeletedCache}
@@ -37,7 +37,8 @@ use Rattle.fts_entries.proofs.Postings.{IsBetween, rows_between}
 use Rattle.fts_entries.proofs.Turns.{two_parts, births_ascend}
 use Rattle.fts_entries.proofs.Batches.{fails}
 use Rattle.fts_index.specs.declared.index.Index.{Index}
-use Rattle.fts_index.specs.Index.{Indexes}
+use Rattle.fts_index.specs.Index.{Represents}
+use Rattle.fts_index.specs.Stands.{StandsFor, Indexes}
 use Rattle.fts_cache.specs.Cache.{postings_of}
 use Rattle.fts_meaning.specs.Leaf.{Leaf, no_leaf, of_word, of_prefix, of_words}
 use Rattle.fts_meaning.specs.Holds.{some_indexed}
@@ -201,8 +202,9 @@ above_all low id (p ∷ ps) h there =
 
 pub shows_rows : (rules : Rules) (rows : Rows) (turns : List Turn) (s : IndexState) (index : Index) → Indexes rules rows turns s index
     → (id : ℕ) (word : List ℕ) → doc_has index id word ≡ has (doc_ids (rows_postings rules word rows.list)) id
+unfolding StandsFor
 shows_rows rules rows turns s index is id word =
-    let stands = is.stands in
+    let stands : Represents rules turns s index = is.stands in
     let fits = is.fits in
     let wait = unflushed turns s in
     let tables = joined (s.nodes word) in

@@ -16,3 +16,4 @@ pub mod Walks
 pub mod Listings
 pub mod Sizes
 pub mod Made
+pub mod Newest

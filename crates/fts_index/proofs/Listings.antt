@@ -16,7 +16,7 @@ use Rattle.fts_ilist.specs.Node.{Docs, NodesAfter}
 use Rattle.fts_cache.specs.Cache.{CacheState, postings_of}
 use Rattle.fts_cache.specs.Sorted.{IsAmong, AscendByBytes}
 use Rattle.fts_cache.proofs.Queues.{is_same}
-use Rattle.fts_aux.specs.Table.{IsListing, nodes_at}
+use Rattle.fts_aux.specs.Words.{IsListing, nodes_at}
 use Rattle.fts_listing.specs.Listing.{one_group}
 use Rattle.fts_index.proofs.Gathering.{listed_all, listed_some}
 

@@ -15,8 +15,10 @@ use Rattle.fts_entries.proofs.Turns.{largest_behind}
 use Rattle.fts_index.specs.declared.index.Index.{Index}
 use Rattle.fts_index.specs.declared.sync.SyncPlan.{SyncPlan}
 use Rattle.fts_index.specs.Births.{AreBirths, turn_of}
-use Rattle.fts_index.specs.Index.{StandsFor, CanTurn, CanAdd}
+use Rattle.fts_index.specs.Stands.{StandsFor}
+use Rattle.fts_index.specs.Index.{CanTurn, CanAdd, newest}
 use Rattle.fts_index.proofs.Births.{ids_lower}
+use Rattle.fts_index.proofs.Newest.{newest_used}
 use Rattle.fts_index.specs.Made.{IsMade}
 
 turns_push : (n : ℕ) (turns : List Turn) (turn : Turn) → AreTurns n turns → RowsAscend (largest_after n turns) turn.largest turn.births → All (λ id. id ≤ largest_after n turns) turn.deaths → AreTurns n (turns ++ turn ∷ [])
@@ -40,9 +42,9 @@ module _ (rules : Rules) (last : ℕ) (dead : List ℕ) (old new : Index) (made 
   -- rows that can be indexed behind the largest id can be added
   pub made_add : (births : List Row) (deaths : List ℕ) (largest : ℕ) → AreBirths last largest births → CanAdd old (turn_of births deaths largest)
   made_add births deaths largest are =
-      let held = made.stands.last in
+      let held = newest_used rules made.turns made.state old made.stands in
       let used = made.last_is in
-      record { ids = ids_lower old.cache.last last largest births (omega (arith, held, used)) are.ids; rows = are.rows }
+      record { ids = ids_lower (newest old) last largest births (omega (arith, held, used)) are.ids; rows = are.rows }
 
   -- a commit that can come
   pub made_can : (births : List Row) (deaths : List ℕ) (largest : ℕ) → AreBirths last largest births → CanTurn made.turns (turn_of births deaths largest)

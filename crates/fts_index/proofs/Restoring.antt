@@ -38,7 +38,8 @@ use Rattle.fts_entries.proofs.Packing.{last_within}
 use Rattle.fts_entries.proofs.Turns.{AreTwo, two_parts, births_ascend, ids_rise, largest_behind}
 use Rattle.fts_index.specs.declared.index.Index.{Index}
 use Rattle.fts_index.specs.declared.restore.Covered.{Covered}
-use Rattle.fts_index.specs.Index.{StandsFor, pending_seen, pending_of, cached_row}
+use Rattle.fts_index.specs.Index.{pending_seen, pending_of, cached_row, Represents}
+use Rattle.fts_index.specs.Stands.{StandsFor}
 use Rattle.fts_index.specs.Births.{turn_of}
 use Rattle.fts_index.specs.Parts.{HasSame}
 use Rattle.fts_aux.specs.Tables.{begins_above, begin_behind}
@@ -225,6 +226,10 @@ module _ (rules : Rules) (turns more : List Turn) (s : IndexState) (old : Index)
   abbrev born : ℕ → Bool
   born = has covered.births.items
 
+  stands : Represents rules turns s old
+  unfolding StandsFor
+  stands = restores.stands
+
   unflushed_is : unflushed all s ≡ more
   unflushed_is = ap (λ (n : ℕ). drop n all) restores.flushed ∙ drop-append_seam turns more
 
@@ -278,7 +283,7 @@ module _ (rules : Rules) (turns more : List Turn) (s : IndexState) (old : Index)
     pub through_at : through ≡ length all
     through_at =
         let e = eqb-true through (old.lists.flushed + covered.count) (and_parts (nat_eq through (old.lists.flushed + covered.count)) (nat_eq synced covered.largest) numbers).0 in
-        let flushed = restores.stands.flushed in let count = restores.covers.count in let l = long in omega (arith, e, flushed, count, l)
+        let flushed = stands.flushed in let count = restores.covers.count in let l = long in omega (arith, e, flushed, count, l)
 
     largest_at : synced ≡ covered.largest
     largest_at = eqb-true synced covered.largest (and_parts (nat_eq through (old.lists.flushed + covered.count)) (nat_eq synced covered.largest) numbers).1
@@ -307,35 +312,35 @@ module _ (rules : Rules) (turns more : List Turn) (s : IndexState) (old : Index)
     rest_none = drop_all through all (let e = through_at in omega (arith, e))
 
     pub stands_restored : (middle new : Index) (dead : List ℕ) → HasSame old middle → ((id : ℕ) → has dead id ≡ has covered.deaths.items id) → IsAdded middle through synced batch dead new
-        → StandsFor rules all (after_entry all s (sealed through synced batch)) new
+        → Represents rules all (after_entry all s (sealed through synced batch)) new
     stands_restored middle new dead same each is =
-        let stands = stands_still old middle same rules turns s restores.stands in
+        let kept = stands_still old middle same rules turns s stands in
         let taken = flushed_deaths s.synced (unflushed_through through all s) in
         let none : unflushed turns s ≡ drop through all = none_left ∙ sym rest_none in
         record {
           within = (let e = through_at in omega (arith, e));
-          tables = λ word. is.nodes word ∙ ap (λ (ns : List Docs). ns ++ nodes_for word batch) (stands.tables word);
+          tables = λ word. is.nodes word ∙ ap (λ (ns : List Docs). ns ++ nodes_for word batch) (kept.tables word);
           flushed = is.flushed;
           synced = is.synced_is;
           deleted = same_ids 0 0 (ids_of Deleted new.lists) (with_ids s.deleted taken) is.lists.ascend_now
-              (AscendFrom-with_ids s.deleted taken (subst (AscendFrom 0) stands.deleted is.lists.ascend_then))
+              (AscendFrom-with_ids s.deleted taken (subst (AscendFrom 0) kept.deleted is.lists.ascend_then))
               (λ id. is.lists.deleted id
-              ∙ ap₂ (λ (b c : Bool). b || c) (ap (λ (ids : List ℕ). has ids id) stands.deleted)
-              (ap₂ (λ (n : ℕ) (b : Bool). nat_le id n && b) stands.synced (each id ∙ ap (λ (ids : List ℕ). has ids id) restores.covers.deaths)
+              ∙ ap₂ (λ (b c : Bool). b || c) (ap (λ (ids : List ℕ). has ids id) kept.deleted)
+              (ap₂ (λ (n : ℕ) (b : Bool). nat_le id n && b) kept.synced (each id ∙ ap (λ (ids : List ℕ). has ids id) restores.covers.deaths)
               ∙ ap (λ (ts : List Turn). nat_le id s.synced && has (deaths_of ts) id) (sym (covered_at through_at))
               ∙ sym (has-filter (λ other. nat_le other s.synced) (deaths_of (unflushed_through through all s)) id))
               ∙ sym (has-with_ids s.deleted taken id));
-          being = is.lists.being ∙ stands.being;
-          is_open = is.lists.is_open ∙ stands.is_open;
-          checkpoint = is.lists.checkpoint ∙ stands.checkpoint;
+          being = is.lists.being ∙ kept.being;
+          is_open = is.lists.is_open ∙ kept.is_open;
+          checkpoint = is.lists.checkpoint ∙ kept.checkpoint;
           dead = λ id. is.lists.dead id
-              ∙ ap (λ (b : Bool). not (has dead id) && b) (stands.dead id ∙ ap (λ (ts : List Turn). has (deaths_of ts) id) none_left)
+              ∙ ap (λ (b : Bool). not (has dead id) && b) (kept.dead id ∙ ap (λ (ts : List Turn). has (deaths_of ts) id) none_left)
               ∙ and_none (not (has dead id))
               ∙ ap (λ (ts : List Turn). has (deaths_of ts) id) (sym rest_none);
-          cache = λ word. is.cache.postings word ∙ stands.cache word ∙ ap (λ (ts : List Turn). rows_postings rules word (births_of ts)) none;
-          documents = is.cache.documents ∙ stands.documents ∙ ap (λ (ts : List Turn). map (cached_row rules) (births_of ts)) none;
-          pending = ap (map pending_seen) is.pending ∙ stands.pending ∙ ap (map pending_of) none;
-          last = (let e = is.cache.last in let le = stands.last in let up = ids_rise (largest_after 0 turns) more parts.of_rest in
+          cache = λ word. is.cache.postings word ∙ kept.cache word ∙ ap (λ (ts : List Turn). rows_postings rules word (births_of ts)) none;
+          documents = is.cache.documents ∙ kept.documents ∙ ap (λ (ts : List Turn). map (cached_row rules) (births_of ts)) none;
+          pending = ap (map pending_seen) is.pending ∙ kept.pending ∙ ap (map pending_of) none;
+          last = (let e = is.cache.last in let le = kept.last in let up = ids_rise (largest_after 0 turns) more parts.of_rest in
               let behind = largest_behind 0 turns more in omega (arith, e, le, up, behind));
         }
 
@@ -355,7 +360,7 @@ module _ (rules : Rules) (turns more : List Turn) (s : IndexState) (old : Index)
 
     low : (word : List ℕ) → last_of 0 (tables.nodes old.tables word) ≤ s.synced
     low word =
-        subst (λ (ns : List Docs). last_of 0 ns ≤ s.synced) (sym (restores.stands.tables word))
+        subst (λ (ns : List Docs). last_of 0 ns ≤ s.synced) (sym (stands.tables word))
         (last_within 0 s.synced (s.nodes word) (omega arith) (recursion_from_All (λ (p : Posting). p.id ≤ s.synced) (joined (s.nodes word)) (restores.fits.tables word)))
 
     above : (id : ℕ) → has (born_ids more) id ≡ true → s.synced < id
@@ -379,7 +384,7 @@ module _ (rules : Rules) (turns more : List Turn) (s : IndexState) (old : Index)
     is_next_here : is_next old covered through synced ≡ true
     is_next_here =
         let count = restores.covers.count in
-        let flushed = restores.stands.flushed in
+        let flushed = stands.flushed in
         let first = some_more in
         let l = long in
         let e = ends_here in

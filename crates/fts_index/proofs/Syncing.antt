@@ -42,7 +42,8 @@ use Rattle.fts_sync.specs.Leaving.{leaving, leaving_nodes}
 use Rattle.fts_index.specs.declared.index.Index.{Index}
 use Rattle.fts_index.specs.declared.pending.Pending.{Pending}
 use Rattle.fts_index.specs.declared.sync.SyncPlan.{SyncPlan}
-use Rattle.fts_index.specs.Index.{StandsFor, AreCommits, FitsSync, PendingSeen, pending_seen, pending_of, cached_row}
+use Rattle.fts_index.specs.Stands.{AreCommits}
+use Rattle.fts_index.specs.Index.{FitsSync, PendingSeen, pending_seen, pending_of, cached_row, Represents}
 use Rattle.fts_index.specs.Parts.{counted_within, deaths_through, IsFlushed, HasSame}
 
 -- ---- rows up to an id and behind it
@@ -268,7 +269,7 @@ left_of false b apart = refl
 -- ---- the commits of a batch
 
 module _ (rules : Rules) (turns : List Turn) (s : IndexState) (k : ℕ) (synced : ℕ) (index : Index)
-    (stands : StandsFor rules turns s index) (commits : AreCommits turns) (fits : FitsTurns turns s)
+    (stands : Represents rules turns s index) (commits : AreCommits turns) (fits : FitsTurns turns s)
     (within : k ≤ length (unflushed turns s)) (is_synced : synced ≡ largest_after 0 (take (s.flushed + k) turns)) where
   abbrev wait : List Turn
   wait = unflushed turns s
@@ -364,7 +365,7 @@ module _ (rules : Rules) (turns : List Turn) (s : IndexState) (k : ℕ) (synced 
 -- ---- the state behind a batch
 
 module _ (rules : Rules) (limit : ℕ) (turns : List Turn) (s : IndexState) (old : Index) (plan : SyncPlan) (new : Index)
-    (is : IsFlushed old plan new) (fits_sync : FitsSync old plan) (stands : StandsFor rules turns s old) (commits : AreCommits turns) (fits : FitsTurns turns s)
+    (is : IsFlushed old plan new) (fits_sync : FitsSync old plan) (stands : Represents rules turns s old) (commits : AreCommits turns) (fits : FitsTurns turns s)
     (batch : IsBatch rules limit turns s plan.through plan.synced plan.nodes.items) where
   through_at : plan.through ≡ s.flushed + plan.count
   through_at = fits_sync.through ∙ ap (λ (n : ℕ). n + plan.count) stands.flushed
@@ -399,7 +400,7 @@ module _ (rules : Rules) (limit : ℕ) (turns : List Turn) (s : IndexState) (old
       ∙ sym (has-filter (λ other. nat_le other s.synced) (deaths_of (unflushed_through plan.through turns s)) id))
       ∙ sym (has-with_ids s.deleted more id))
 
-  stands_later : StandsFor rules turns later new
+  stands_later : Represents rules turns later new
   stands_later = record {
     within = through_within rules limit turns s plan.through plan.synced plan.nodes.items batch;
     tables = λ word. is.nodes word ∙ ap (λ (ns : List Docs). ns ++ nodes_for word plan.nodes.items) (stands.tables word);
@@ -433,8 +434,8 @@ module _ (rules : Rules) (limit : ℕ) (turns : List Turn) (s : IndexState) (old
   }
 
   -- the index stands for the state behind the batch
-  pub stands_behind : StandsFor rules turns (after_batch rules limit turns s) new
-  stands_behind = subst (λ (t : IndexState). StandsFor rules turns t new) (same_state rules limit turns s plan.through plan.synced plan.nodes.items batch) stands_later
+  pub stands_behind : Represents rules turns (after_batch rules limit turns s) new
+  stands_behind = subst (λ (t : IndexState). Represents rules turns t new) (same_state rules limit turns s plan.through plan.synced plan.nodes.items batch) stands_later
 
 -- ---- a batch that was planned
 
@@ -459,7 +460,7 @@ within_of : (r t : Room) → t ≡ r → IsWithin r t
 within_of r t e = subst (IsWithin r) (sym e) (omega arith, omega arith)
 
 module _ (rules : Rules) (limit : ℕ) (turns : List Turn) (s : IndexState) (old new : Index) (plan : SyncPlan) (is : IsPlanned limit old new plan)
-    (stands : StandsFor rules turns s old) (commits : AreCommits turns) (fits : FitsTurns turns s) where
+    (stands : Represents rules turns s old) (commits : AreCommits turns) (fits : FitsTurns turns s) where
   abbrev left : List Turn
   left = unflushed turns s
 

@@ -12,7 +12,8 @@ use Rattle.std.proofs.lemmas.Slice.Eq.{bytes_eq-Decides}
 use Rattle.fts_types.specs.Table.{table_of}
 use Rattle.fts_words.specs.Order.{byte_order}
 use Rattle.fts_ilist.specs.Node.{Docs}
-use Rattle.fts_aux.specs.Table.{Entries, find, no_list, nodes_in, nodes_at, IsNext, IsWalked}
+use Rattle.fts_aux.specs.Words.{nodes_at, IsNext, IsWalked}
+use Rattle.fts_aux.specs.Table.{Entries, find, no_list, nodes_in}
 use Rattle.fts_aux.specs.Tables.{Held, nodes, nodes_from}
 
 -- how many words of a table stand behind one

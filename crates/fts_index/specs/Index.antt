@@ -1,7 +1,6 @@
--- What an index stands for, and what its plans do.
-use Rattle.std.specs.Prelude.{◌≡◌, ℕ, ◌+◌, ◌<◌, ◌≤◌, List, [], ◌∷◌, map, length, take, flat_map, nat_eq}
+-- What an index keeps of commits, and what its plans do.
+use Rattle.std.specs.Prelude.{◌≡◌, ℕ, ◌+◌, ◌<◌, ◌≤◌, List, [], ◌∷◌, map, length, take, flat_map}
 use Rattle.std.specs.Prelude.{Option, Some, None}
-use Rattle.std.specs.List.{IsDistinct}
 use Rattle.std.specs.List.Sorted.{IsStrictlySortedBy}
 use Rattle.std.specs.Map.{keys_of}
 use Rattle.std.specs.VecDeque.{deque_len, deque_capacity}
@@ -14,12 +13,10 @@ use Rattle.fts_aux.specs.Tables as tables
 use Rattle.fts_lists.specs.State.{ids_of, room_of}
 use Rattle.fts_lists.specs.declared.lists.DeleteList.TheVariants.{Deleted, BeingDeleted, DeletedCache}
 use Rattle.fts_types.specs.Row.{Row}
-use Rattle.fts_commits.specs.Commit.{Rows}
-use Rattle.fts_commits.specs.Turn.{Turn, RowsAscend, AreTurns, births_of, deaths_of}
+use Rattle.fts_commits.specs.Turn.{Turn, births_of, deaths_of}
 use Rattle.fts_entries.specs.Words.{rows_postings, row_size}
 use Rattle.fts_entries.specs.Entry.{IndexState, unflushed}
 use Rattle.fts_entries.specs.Batch.{IsBatch, largest_after}
-use Rattle.fts_entries.specs.Exact.{FitsTurns, IsExact}
 use Rattle.fts_index.specs.Births.{AreBirths}
 use Rattle.fts_index.specs.Document.{HaveWordsOf}
 use Rattle.fts_index.specs.declared.index.Index.{Index}
@@ -44,9 +41,9 @@ pending_seen p = record { births = p.births; deaths = p.deaths.items; largest = 
 abbrev pub pending_of : Turn → PendingSeen
 pending_of turn = record { births = length turn.births; deaths = turn.deaths; largest = turn.largest }
 
--- the index stands for this state over these commits: its tables and lists have what the state has, and its cache and
--- DELETED_CACHE what the commits that are not flushed bore and took away. It says nothing of the texts behind the nodes
-pub record StandsFor (rules : Rules) (turns : List Turn) (s : IndexState) (index : Index) : Type 0 where
+-- the index represents this state over these commits: its tables and lists have what the state has, and its cache and
+-- DELETED_CACHE what the commits that are not flushed bore and took away
+pub record Represents (rules : Rules) (turns : List Turn) (s : IndexState) (index : Index) : Type 0 where
   pub within : s.flushed ≤ length turns
   pub tables : (word : List ℕ) → tables.nodes index.tables word ≡ s.nodes word
   pub flushed : index.lists.flushed ≡ s.flushed
@@ -61,26 +58,17 @@ pub record StandsFor (rules : Rules) (turns : List Turn) (s : IndexState) (index
   pub pending : map pending_seen index.pending.items ≡ map pending_of (unflushed turns s)
   pub last : index.cache.last ≤ largest_after 0 turns
 
--- commits as a database makes them: ids ascend, and none dies twice
-pub record AreCommits (turns : List Turn) : Type 0 where
-  pub ascend : AreTurns 0 turns
-  pub once : IsDistinct nat_eq (deaths_of turns)
-
--- the index has exactly the words of the rows: it stands for a state that is right
-pub record Indexes (rules : Rules) (rows : Rows) (turns : List Turn) (s : IndexState) (index : Index) : Type 0 where
-  pub stands : StandsFor rules turns s index
-  pub commits : AreCommits turns
-  pub fits : FitsTurns turns s
-  pub exact : IsExact rules rows.list turns s
-  pub ascend : RowsAscend 0 rows.largest rows.list
-
 -- one more commit can come: its rows can be indexed, and have ids above all that were used
 abbrev pub CanTurn : List Turn → Turn → Type 0
 CanTurn turns turn = AreBirths (largest_after 0 turns) turn.largest turn.births
 
+-- the largest id that came into the cache
+abbrev pub newest : Index → ℕ
+newest index = index.cache.last
+
 -- the rows of one more commit can be indexed behind the documents that came into the cache
 abbrev pub CanAdd : Index → Turn → Type 0
-CanAdd index turn = AreBirths index.cache.last turn.largest turn.births
+CanAdd index turn = AreBirths (newest index) turn.largest turn.births
 
 -- the ids of the documents ascend, the first above `last`
 abbrev pub IdsAscendFrom : ℕ → List Document → Type 0
@@ -89,7 +77,7 @@ IdsAscendFrom last (document ∷ documents) = (last < document.id) × IdsAscendF
 
 -- the plan can be installed without memory
 pub record FitsIndex (index : Index) (plan : CommitPlan) : Type 0 where
-  pub ids : IdsAscendFrom index.cache.last plan.documents.items
+  pub ids : IdsAscendFrom (newest index) plan.documents.items
   pub room : HasRoom index.cache plan.documents.items
   pub ascend : Ascend plan.pending.deaths.items
   pub dead : length plan.pending.deaths.items ≤ room_of DeletedCache index.lists

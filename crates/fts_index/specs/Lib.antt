@@ -3,6 +3,7 @@ pub mod Occurrences
 pub mod Document
 pub mod Births
 pub mod Index
+pub mod Stands
 pub mod Gathered
 pub mod Parts
 pub mod Made

@@ -6,7 +6,7 @@ use Rattle.fts_entries.specs.Entry.{IndexState}
 use Rattle.fts_entries.specs.Batch.{largest_after}
 use Rattle.fts_entries.specs.Exact.{FitsTurns}
 use Rattle.fts_index.specs.declared.index.Index.{Index}
-use Rattle.fts_index.specs.Index.{StandsFor, AreCommits}
+use Rattle.fts_index.specs.Stands.{StandsFor, AreCommits}
 
 -- it stands for some commits and a state that fits them, where `last` was the largest id used, and `dead` died
 pub record IsMade (rules : Rules) (last : ℕ) (dead : List ℕ) (index : Index) : Type 0 where

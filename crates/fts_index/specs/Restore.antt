@@ -18,7 +18,7 @@ use Rattle.fts_entries.specs.Coming.{CanSeal, born_ids}
 use Rattle.fts_entries.specs.Exact.{FitsTurns, IdsAfter}
 use Rattle.fts_index.specs.declared.index.Index.{Index}
 use Rattle.fts_index.specs.declared.restore.Covered.{Covered}
-use Rattle.fts_index.specs.Index.{StandsFor}
+use Rattle.fts_index.specs.Stands.{StandsFor}
 use Rattle.fts_index.specs.Parts.{MovesDead}
 
 -- what was noted of the commits that the next batch covers

@@ -152,7 +152,8 @@ impl Index {
     ghost use Rattle.fts_query.specs.Seen.{leaves_seen};
     ghost use Rattle.fts_index.specs.Births.{turn_of};
     ghost use Rattle.fts_index.specs.Gathered.{IsGathered};
-    ghost use Rattle.fts_index.specs.Index.{StandsFor, Indexes, AreCommits, CanTurn, CanAdd};
+    ghost use Rattle.fts_index.specs.Stands.{StandsFor, Indexes, AreCommits};
+    ghost use Rattle.fts_index.specs.Index.{CanTurn, CanAdd};
     ghost use Rattle.fts_index.specs.Index.{WillTurn, PlansBatch};
 
     /// An index of no commits. What it holds later lies in this allocator.
@@ -171,6 +172,7 @@ impl Index {
     /// What a commit does to the index, with the room for it: the rows that are born in it, the ids
     /// that die, ascending, and the largest id that is used after it. It costs the rows' own words
     /// and the deaths. Where there is no memory, the index has what it had.
+    #[tactic(auto, unfolding(crate::specs::Stands::StandsFor))]
     pub fn plan_commit(
         &mut self,
         settings: &Settings,
@@ -212,6 +214,7 @@ impl Index {
     ///
     /// It costs the documents of these commits and their words, and the ids that died in them.
     /// Where there is no memory, the index has what it had.
+    #[tactic(auto, unfolding(crate::specs::Stands::StandsFor))]
     pub fn plan_sync(&mut self, batch_docs: u32) -> Result<Option<SyncPlan>, AllocError>
         ensures planned { IfOk result (λ plan. (rules : Rules) (turns : List Turn) (s : IndexState)
             → StandsFor rules turns s self.old → AreCommits turns → FitsTurns turns s
@@ -262,6 +265,7 @@ impl Index {
     }
 
     /// What a view of the index lists. It costs what it gives; of words, a look-up for each.
+    #[tactic(auto, unfolding(crate::specs::Stands::StandsFor))]
     pub fn listing(&self, settings: &Settings, kind: ListingKind) -> Result<Listing, AllocError>
         ensures { IfOk result (λ listing. (turns : List Turn) (s : IndexState)
             → StandsFor (rules_of settings.now) turns s self.now
@@ -271,6 +275,7 @@ impl Index {
     }
 
     /// How many commits are flushed, from the first on.
+    #[tactic(auto, unfolding(crate::specs::Stands::StandsFor))]
     pub fn flushed(&self) -> u64
         ensures { (rules : Rules) (turns : List Turn) (s : IndexState)
             → StandsFor rules turns s self.now → result ≡ s.flushed }

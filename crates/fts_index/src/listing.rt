@@ -5,14 +5,14 @@ ghost use Rattle.fts_types.specs.Rules.{rules_of};
 ghost use Rattle.fts_commits.specs.Turn.{Turn};
 ghost use Rattle.fts_ilist.specs.Spelling.{ArePostings};
 ghost use Rattle.fts_cache.specs.Cache.{postings_of};
-ghost use Rattle.fts_aux.specs.Table.{IsListing};
+ghost use Rattle.fts_aux.specs.Words.{IsListing};
 ghost use Rattle.fts_aux.specs.Tables.{nodes};
 ghost use Rattle.fts_entries.specs.Entry.{IndexState};
 ghost use Rattle.fts_listing.specs.Listing.{one_group, IsListed};
 ghost use Rattle.fts_ids.specs.Ids.{has, Ascend};
 ghost use Rattle.fts_lists.specs.State.{ids_of};
 ghost use Rattle.fts_lists.specs.declared.lists.DeleteList.TheVariants.{Deleted, DeletedCache};
-ghost use Rattle.fts_index.specs.Index.{StandsFor};
+ghost use Rattle.fts_index.specs.Index.{Represents};
 
 use crate::index::Index;
 use crate::sync::ascending;
@@ -142,7 +142,7 @@ pub(crate) fn listed(
     kind: ListingKind,
 ) -> Result<Listing, AllocError>
     ensures { IfOk result (λ listing. (turns : List Turn) (s : IndexState)
-        → StandsFor (rules_of settings.now) turns s index.now
+        → Represents (rules_of settings.now) turns s index.now
         → IsListed settings.now turns s kind listing) }
 {
     let alloc = index.alloc;

@@ -5,11 +5,11 @@ ghost use Rattle.fts_ilist.specs.Spelling.{Posting};
 ghost use Rattle.fts_words.specs.Indexed.{Rules};
 ghost use Rattle.fts_entries.specs.Entry.{IndexState, worked, after_entry};
 ghost use Rattle.fts_aux.specs.Tables as tables;
-ghost use Rattle.fts_aux.specs.Table.{IsNext};
+ghost use Rattle.fts_aux.specs.Words.{IsNext};
 ghost use Rattle.std.specs.Option.{unwrap_or};
 ghost use Rattle.std.specs.Prelude.{[]};
 ghost use Rattle.fts_entries.specs.Pass.{IsStep};
-ghost use Rattle.fts_index.specs.Index.{StandsFor};
+ghost use Rattle.fts_index.specs.Index.{Represents};
 ghost use Rattle.fts_index.specs.Parts.{HasSame};
 ghost use Rattle.fts_index.specs.Passing.{step_entry, FitsStep, FitsPlanned, PlansStep};
 ghost use Rattle.fts_index.specs.Passing.{HasPackedNodes, ArePacked};
@@ -37,7 +37,7 @@ pub enum PassPlan {
 fn plan_begin(index: &mut Index) -> Result<Option<PassPlan>, AllocError>
     requires { index.old.lists.is_open ≡ false }
     ensures planned { IfOk result (λ plan. (rules : Rules) (turns : List Turn) (s : IndexState)
-        → StandsFor rules turns s index.old → PlansStep s plan) }
+        → Represents rules turns s index.old → PlansStep s plan) }
     ensures fits { IfOk result (FitsPlanned index.new) }
     ensures packed { IfOk result ArePacked }
     ensures same { HasSame index.old index.new }
@@ -58,7 +58,7 @@ fn reworked(index: &Index, word: &Word) -> Result<PassPlan, AllocError>
     requires next { IsNext (tables.nodes index.now.tables)
         (unwrap_or index.now.lists.checkpoint []) word.now }
     ensures planned { IfOk result (λ plan. (rules : Rules) (turns : List Turn) (s : IndexState)
-        → StandsFor rules turns s index.now → IsStep s (step_entry plan)) }
+        → Represents rules turns s index.now → IsStep s (step_entry plan)) }
     ensures fits { IfOk result (FitsStep index.now) }
     ensures packed { IfOk result HasPackedNodes }
 {
@@ -72,7 +72,7 @@ fn reworked(index: &Index, word: &Word) -> Result<PassPlan, AllocError>
 fn plan_next(index: &Index) -> Result<PassPlan, AllocError>
     requires { index.now.lists.is_open ≡ true }
     ensures planned { IfOk result (λ plan. (rules : Rules) (turns : List Turn) (s : IndexState)
-        → StandsFor rules turns s index.now → IsStep s (step_entry plan)) }
+        → Represents rules turns s index.now → IsStep s (step_entry plan)) }
     ensures fits { IfOk result (FitsStep index.now) }
     ensures packed { IfOk result HasPackedNodes }
 {
@@ -140,14 +140,15 @@ fn is_same(plan: &PassPlan, other: &PassPlan) -> bool
 fn install_word(index: &mut Index, word: Word, nodes: NodeList)
     requires { FitsStep index.old (PassPlan.Word word nodes) }
     ensures { (rules : Rules) (turns : List Turn) (s : IndexState)
-        → StandsFor rules turns s index.old
-        → StandsFor rules turns (after_entry turns s (worked word nodes.nodes)) index.new }
+        → Represents rules turns s index.old
+        → Represents rules turns (after_entry turns s (worked word nodes.nodes)) index.new }
 {
     index.tables.install_word(&word, nodes);
     index.lists.set_checkpoint(word);
 }
 
 impl Index {
+    ghost use Rattle.fts_index.specs.Stands.{StandsFor};
     ghost use Rattle.std.specs.Prelude.{OnOk, IsErr, IsErrOf};
     ghost use Rattle.fts_index.specs.declared.restore.RestoreError.TheVariants.{Bad};
 
@@ -157,6 +158,7 @@ impl Index {
     ///
     /// A word costs its own nodes; a begin room for the ids of DELETED; all else constant time.
     /// Where there is no memory, the index has what it had.
+    #[tactic(auto, unfolding(crate::specs::Stands::StandsFor))]
     pub fn plan_optimize(&mut self) -> Result<Option<PassPlan>, AllocError>
         ensures planned { IfOk result (λ plan. (rules : Rules) (turns : List Turn)
             (s : IndexState) → StandsFor rules turns s self.old → PlansStep s plan) }
@@ -173,6 +175,7 @@ impl Index {
 
     /// Makes the step. It takes no memory. A begin copies the ids of DELETED, a finish costs one
     /// walk over them; a word costs its nodes.
+    #[tactic(auto, unfolding(crate::specs::Stands::StandsFor))]
     pub fn install_optimize(&mut self, plan: PassPlan)
         requires { FitsStep self.old plan }
         ensures { (rules : Rules) (turns : List Turn) (s : IndexState)

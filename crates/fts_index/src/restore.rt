@@ -252,7 +252,7 @@ impl Index {
     ghost use Rattle.fts_commits.specs.Turn.{Turn};
     ghost use Rattle.fts_entries.specs.Entry.{IndexState};
     ghost use Rattle.fts_entries.specs.Coming.{CanSeal};
-    ghost use Rattle.fts_index.specs.Index.{StandsFor};
+    ghost use Rattle.fts_index.specs.Stands.{StandsFor};
     ghost use Rattle.fts_index.specs.Restore.{AreRead, Covers, Restores, IsRestored};
     ghost use Rattle.fts_index.specs.declared.restore.RestoreError.TheVariants.{Bad};
 
@@ -262,6 +262,7 @@ impl Index {
     /// is refused, the index has what it had, and so have the commits covered.
     ///
     /// It costs the documents of the batch, and a sort of the ids that were born and that died.
+    #[tactic(auto, unfolding(crate::specs::Stands::StandsFor))]
     pub fn restore(
         &mut self,
         covered: &mut Covered,

@@ -1,6 +1,6 @@
 //! Words of the tables with their nodes.
 ghost use Rattle.std.specs.Prelude.{◌≡◌, [], map, IfOk};
-ghost use Rattle.fts_aux.specs.Table.{IsListing, IsWalked};
+ghost use Rattle.fts_aux.specs.Words.{IsListing, IsWalked};
 ghost use Rattle.fts_aux.specs.Tables.{nodes};
 
 use fts_aux::Tables;

@@ -7,7 +7,7 @@ use Rattle.fts_types.specs.Rules.{rules_of}
 use Rattle.fts_commits.specs.Turn.{Turn, births_of}
 use Rattle.fts_ilist.specs.Node.{Docs}
 use Rattle.fts_ilist.specs.Packing.{joined}
-use Rattle.fts_aux.specs.Table.{nodes_at}
+use Rattle.fts_aux.specs.Words.{nodes_at}
 use Rattle.fts_entries.specs.Entry.{IndexState}
 use Rattle.fts_entries.specs.Exact.{IsExact}
 use Rattle.fts_entries.specs.Words.{rows_postings}

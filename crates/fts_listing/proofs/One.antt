@@ -4,7 +4,7 @@ use Rattle.fts_types.specs.declared.settings.Settings.{Settings}
 use Rattle.fts_ids.proofs.Ascending.{same_ids}
 use Rattle.fts_commits.specs.Turn.{Turn}
 use Rattle.fts_ilist.specs.Node.{Docs}
-use Rattle.fts_aux.specs.Table.{IsListing}
+use Rattle.fts_aux.specs.Words.{IsListing}
 use Rattle.fts_entries.specs.Entry.{IndexState}
 use Rattle.fts_entries.proofs.One.{Word, words_one}
 use Rattle.fts_listing.specs.Listing.{IsListed}

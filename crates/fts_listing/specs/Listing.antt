@@ -6,7 +6,7 @@ use Rattle.fts_types.specs.Rules.{rules_of}
 use Rattle.fts_commits.specs.Turn.{Turn, births_of}
 use Rattle.fts_ilist.specs.Spelling.{Posting}
 use Rattle.fts_ilist.specs.Node.{Docs}
-use Rattle.fts_aux.specs.Table.{IsListing}
+use Rattle.fts_aux.specs.Words.{IsListing}
 use Rattle.fts_entries.specs.Entry.{IndexState, unflushed}
 use Rattle.fts_entries.specs.Exact.{is_deleted}
 use Rattle.fts_entries.specs.Words.{rows_postings}

@@ -7,7 +7,7 @@ ghost use Rattle.fts_types.specs.Row.{Row};
 ghost use Rattle.fts_commits.specs.Turn.{Turn, births_of};
 ghost use Rattle.fts_ilist.specs.Node.{Docs};
 ghost use Rattle.fts_ilist.specs.Packing.{joined};
-ghost use Rattle.fts_aux.specs.Table.{nodes_at};
+ghost use Rattle.fts_aux.specs.Words.{nodes_at};
 ghost use Rattle.fts_entries.specs.Entry.{IndexState};
 ghost use Rattle.fts_entries.specs.Exact.{IsExact};
 ghost use Rattle.fts_entries.specs.Words.{rows_postings};

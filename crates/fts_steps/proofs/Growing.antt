@@ -1,5 +1,5 @@
 -- What a commit, a batch and a step of OPTIMIZE more leave of a database's index.
-use Rattle.std.proofs.Common.{◌≡◌, ℕ, ◌<◌, List, [], ◌∷◌, ◌++◌, refl, ap, subst, sym, ◌∙◌, arith}
+use Rattle.std.proofs.Common.{◌≡◌, ℕ, ◌<◌, List, [], ◌∷◌, ◌++◌, length, refl, ap, subst, sym, ◌∙◌, arith}
 use Rattle.std.proofs.lemmas.List.Sums.{fold-append}
 use Rattle.std.proofs.lemmas.List.Elements.{All-push}
 use Rattle.std.specs.Prelude.{fold}
@@ -25,6 +25,11 @@ pub turns_more : (rows : Rows) (commits more : List Commit)
 turns_more rows [] more = refl
 turns_more rows (commit ∷ commits) more =
     ap (λ (turns : List Turn). turn_between rows (rows_after rows commit) ∷ turns) (turns_more (rows_after rows commit) commits more)
+
+-- there are as many turns as commits
+pub turns_count : (rows : Rows) (commits : List Commit) → length (turns_from rows commits) ≡ length commits
+turns_count rows [] = refl
+turns_count rows (commit ∷ commits) = (let rest = turns_count (rows_after rows commit) commits in omega (arith, rest))
 
 -- ---- commits more
 

@@ -1,6 +1,7 @@
 use Rattle.std.proofs.Common.{◌≡◌, true, List, ℕ, [], ◌∷◌, ◌++◌, rules, map, ap, ◌∙◌}
 use Rattle.fts_words.specs.Order.{begins_with}
-use Rattle.fts_aux.specs.Table.{filled, filled_as, seen, nodes_in}
+use Rattle.fts_aux.specs.Words.{filled, filled_as}
+use Rattle.fts_aux.specs.Table.{seen, nodes_in}
 use Rattle.fts_ilist.specs.Front.{front}
 use Rattle.fts_ilist.specs.Node.{Docs}
 use Rattle.fts_aux.proofs.Filled.{taken}

@@ -1,5 +1,6 @@
 use Rattle.std.proofs.Common.{◌≡◌, ◌++◌, map}
-use Rattle.fts_aux.specs.Table.{filled, seen}
+use Rattle.fts_aux.specs.Words.{filled}
+use Rattle.fts_aux.specs.Table.{seen}
 use Rattle.fts_ilist.specs.Front.{front}
 use Rattle.fts_aux.proofs.table.filled_with_prefix.Given as goal
 

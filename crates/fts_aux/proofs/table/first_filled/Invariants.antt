@@ -1,5 +1,6 @@
 use Rattle.std.proofs.Common.{◌≡◌}
-use Rattle.fts_aux.specs.Table.{filled, seen}
+use Rattle.fts_aux.specs.Words.{filled}
+use Rattle.fts_aux.specs.Table.{seen}
 use Rattle.fts_aux.proofs.table.first_filled.Given as goal
 
 abbrev pub invariant-loop-word : goal.invariant-loop-word

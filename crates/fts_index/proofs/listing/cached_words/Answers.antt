@@ -2,7 +2,7 @@ use Rattle.std.proofs.Common.{List, ℕ, [], map, ap, sym, subst, arith, ◌∙�
 use Rattle.std.proofs.lemmas.List.{take_all}
 use Rattle.fts_ilist.specs.Node.{Docs}
 use Rattle.fts_cache.specs.Cache.{postings_of}
-use Rattle.fts_aux.specs.Table.{IsListing}
+use Rattle.fts_aux.specs.Words.{IsListing}
 use Rattle.fts_listing.specs.Listing.{one_group}
 use Rattle.fts_index.proofs.Listings.{listed_of, lists_cached}
 use Rattle.fts_index.proofs.listing.cached_words.Goals as goal

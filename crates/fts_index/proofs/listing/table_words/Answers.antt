@@ -1,6 +1,6 @@
 use Rattle.std.proofs.Common.{[], map, ap, sym, subst, arith, ◌∙◌}
 use Rattle.std.proofs.lemmas.List.{take_all}
-use Rattle.fts_aux.specs.Table.{IsListing}
+use Rattle.fts_aux.specs.Words.{IsListing}
 use Rattle.fts_aux.specs.Tables.{nodes}
 use Rattle.fts_index.proofs.Listings.{listed_of, lists_again, mapped_twice}
 use Rattle.fts_index.proofs.listing.table_words.Goals as goal

@@ -1,7 +1,7 @@
 use Rattle.std.proofs.Common.{List, ℕ, [], ◌∷◌, map, ap, sym, subst, ◌∙◌}
 use Rattle.std.proofs.lemmas.List.{map-append}
 use Rattle.fts_ilist.specs.Node.{Docs}
-use Rattle.fts_aux.specs.Table.{IsWalked}
+use Rattle.fts_aux.specs.Words.{IsWalked}
 use Rattle.fts_aux.specs.Tables.{nodes}
 use Rattle.fts_index.proofs.Walks.{fewer_behind}
 use Rattle.fts_index.proofs.walk.all_words.Goals as goal

@@ -1,5 +1,5 @@
 use Rattle.std.proofs.Common.{map}
-use Rattle.fts_aux.specs.Table.{IsWalked}
+use Rattle.fts_aux.specs.Words.{IsWalked}
 use Rattle.fts_aux.specs.Tables.{nodes}
 use Rattle.fts_index.proofs.Walks.{behind}
 use Rattle.fts_index.proofs.walk.all_words.Given as goal

@@ -1,5 +1,6 @@
 use Rattle.std.proofs.Common.{subst}
-use Rattle.fts_aux.specs.Table.{Entries, nodes_in, IsNext, IsLast}
+use Rattle.fts_aux.specs.Words.{IsNext, IsLast}
+use Rattle.fts_aux.specs.Table.{Entries, nodes_in}
 use Rattle.fts_aux.proofs.Seen.{next_seen, last_seen}
 use Rattle.fts_aux.proofs.table.Table.next_after.Goals as goal
 

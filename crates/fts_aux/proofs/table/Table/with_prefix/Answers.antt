@@ -1,5 +1,6 @@
 use Rattle.std.proofs.Common.{map, ap, subst, ◌∙◌}
-use Rattle.fts_aux.specs.Table.{Entries, nodes_in, IsListing}
+use Rattle.fts_aux.specs.Words.{IsListing}
+use Rattle.fts_aux.specs.Table.{Entries, nodes_in}
 use Rattle.std.proofs.lemmas.Result.{IfOk-weaker}
 use Rattle.fts_aux.proofs.Seen.{listing_seen}
 use Rattle.fts_ilist.proofs.Fronts.{is_from}

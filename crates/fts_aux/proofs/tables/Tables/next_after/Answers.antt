@@ -1,6 +1,6 @@
 use Rattle.std.proofs.Common.{subst, ◌∙◌, sym}
 use Rattle.std.proofs.lemmas.Bool.{false≢true}
-use Rattle.fts_aux.specs.Table.{IsNext, IsLast}
+use Rattle.fts_aux.specs.Words.{IsNext, IsLast}
 use Rattle.fts_aux.specs.Tables.{nodes, IsNextIn, IsLastIn}
 use Rattle.fts_aux.proofs.Nexts.{if_some, if_none, found_high, none_high, found_own, low_none, low_past, found_later, found_first, none_first}
 use Rattle.fts_aux.proofs.tables.Tables.next_after.Goals as goal

@@ -15,7 +15,8 @@ use Rattle.fts_steps.specs.Crash.{MayHoldIndex}
 use Rattle.fts_steps.specs.Step.{Answer, to_sync, full, flushed, all_flushed, stopped, no_memory, would_write}
 use Rattle.fts_engine.specs.declared.engine.Engine.{Engine}
 use Rattle.fts_engine.specs.declared.kept.Kept.{Kept}
-use Rattle.fts_engine.specs.Kept.{kept_settings, IsIndexed, IsPlanned, IsPlannedOf, IsNextBatch}
+use Rattle.fts_engine.specs.Kept.{kept_settings, IsIndexed}
+use Rattle.fts_engine.specs.Planned.{IsPlanned, IsPlannedOf, IsNextBatch}
 use Rattle.fts_engine.specs.Stands.{Holds, engine_limits}
 use Rattle.fts_engine.proofs.Committing.{keeps_with, as_before, one_more, same_end, same_behind, not_past}
 use Rattle.fts_ixcodec.specs.Payload.{entry_payload}

@@ -10,7 +10,7 @@ use Rattle.fts_commits.specs.Commit.{Rows, after_commit}
 use Rattle.fts_commits.specs.Turn.{Turn, turn_between}
 use Rattle.fts_rows.specs.Rows.{rows_of}
 use Rattle.fts_index.specs.Births.{AreBirths, turn_of}
-use Rattle.fts_index.specs.Index.{WillTurn}
+use Rattle.fts_index.specs.Index.{WillTurn, newest}
 use Rattle.fts_engine.specs.Bounds.{AreWithin}
 use Rattle.fts_engine.proofs.Accepting.{accepted_more}
 use Rattle.fts_rowcodec.proofs.Bounds.{few_columns, some_columns}
@@ -29,9 +29,9 @@ plan_commit-requires-clause-births c =
     births_fit (length kept.settings.columns) kept.rows.limits c.args.changes.now (rows_of kept.rows) planned.0 held c.in-Ok.plan
     (some_columns kept.settings kept.right) (few_columns kept.settings kept.right) c.requires kept.within kept.fit planned.1 c.in-Ok.ensures.rows planned.2 in
     let last = ∥∥₁_elim kept.indexed le_prop (last_used kept.settings (rows_of kept.rows) kept.index) in
-    subst (λ (rows : List Row). AreBirths kept.index.cache.last c.largest.result rows) (sym c.births-births.ensures.births)
-    (subst (λ (largest : ℕ). AreBirths kept.index.cache.last largest c.in-Ok.plan.births) (sym c.largest.ensures)
-    (births_lower kept.index.cache.last (rows_of held).largest c.in-Ok.plan.largest c.in-Ok.plan.births
+    subst (λ (rows : List Row). AreBirths (newest kept.index) c.largest.result rows) (sym c.births-births.ensures.births)
+    (subst (λ (largest : ℕ). AreBirths (newest kept.index) largest c.in-Ok.plan.births) (sym c.largest.ensures)
+    (births_lower (newest kept.index) (rows_of held).largest c.in-Ok.plan.largest c.in-Ok.plan.births
     (omega (arith, last, ap (λ (rows : Rows). rows.largest) c.in-Ok.ensures.rows)) births))
 
 pub plan_commit-requires-clause-ascending : goal.plan_commit-requires-clause-ascending

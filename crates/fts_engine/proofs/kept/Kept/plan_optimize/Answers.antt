@@ -10,7 +10,7 @@ use Rattle.fts_rows.specs.Rows.{rows_of}
 use Rattle.fts_entries.specs.Entry.{IndexState}
 use Rattle.fts_index.specs.declared.passing.PassPlan.{PassPlan}
 use Rattle.fts_index.specs.declared.index.Index.{Index}
-use Rattle.fts_index.specs.Index.{StandsFor}
+use Rattle.fts_index.specs.Stands.{StandsFor}
 use Rattle.fts_index.specs.Passing.{PlansStep, FitsPlanned}
 use Rattle.fts_engine.proofs.Indexing.{same_right, still_has}
 use Rattle.fts_engine.proofs.kept.Kept.plan_optimize.Goals as goal

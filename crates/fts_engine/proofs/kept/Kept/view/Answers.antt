@@ -3,7 +3,7 @@ use Rattle.fts_types.specs.Rules.{rules_of}
 use Rattle.fts_commits.specs.Commit.{Rows, no_rows}
 use Rattle.fts_commits.specs.Turn.{turns_from, RowsAscend}
 use Rattle.fts_rows.specs.Rows.{rows_of}
-use Rattle.fts_index.specs.Index.{Indexes}
+use Rattle.fts_index.specs.Stands.{Indexes}
 use Rattle.fts_meaning.specs.View.{Postings, Candidate, postings_of, is_looked_into}
 use Rattle.fts_query.specs.declared.view.Leaf.{Leaf as Asked}
 use Rattle.fts_query.specs.Seen.{leaves_seen, candidate_seen}

@@ -2,9 +2,11 @@ use Rattle.std.proofs.Common.{List, ℕ, map, ap, arith}
 use Rattle.fts_ids.specs.Ids.{has}
 use Rattle.fts_lists.specs.declared.lists.DeleteList.TheVariants.{Deleted, BeingDeleted, DeletedCache}
 use Rattle.fts_index.specs.Index.{pending_seen}
+use Rattle.fts_index.specs.Stands.{StandsFor}
 use Rattle.fts_index.proofs.index.Index.new.Goals as goal
 
 pub returns : goal.returns
+unfolding StandsFor
 returns c = λ rules. record {
   within = omega arith;
   tables = c.new.ensures.nodes;

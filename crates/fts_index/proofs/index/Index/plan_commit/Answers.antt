@@ -4,11 +4,13 @@ use Rattle.fts_types.specs.Rules.{rules_of}
 use Rattle.fts_types.specs.Row.{row_of}
 use Rattle.fts_ids.specs.Ids.{Ascend}
 use Rattle.fts_cache.specs.Cache.{HasRoom}
+use Rattle.fts_index.specs.Stands.{StandsFor}
 use Rattle.fts_index.proofs.Births.{documents_ascend}
 use Rattle.fts_index.proofs.Commits.{stands_still}
 use Rattle.fts_index.proofs.index.Index.plan_commit.Goals as goal
 
 pub returns-clause-stays : goal.returns-clause-stays
+unfolding StandsFor
 returns-clause-stays c = stands_still c.args.self.now c.make_room.new.index c.make_room.ensures.same
 
 pub returns-clause-planned : goal.returns-clause-planned

@@ -4,10 +4,12 @@ use Rattle.fts_aux.specs.Tables.{HasRoomOf}
 use Rattle.fts_index.specs.declared.sync.SyncPlan.{SyncPlan}
 use Rattle.fts_index.specs.Index.{pending_seen}
 use Rattle.fts_index.specs.Parts.{counted_within}
+use Rattle.fts_index.specs.Stands.{StandsFor}
 use Rattle.fts_index.proofs.Syncing.{IsPlanned, is_batch, is_fit}
 use Rattle.fts_index.proofs.index.Index.plan_sync.Goals as goal
 
 pub returns-clause-planned : goal.returns-clause-planned
+unfolding StandsFor
 returns-clause-planned c = λ rules turns s stands commits fits.
     let old = c.args.self.now in
     let new = c.make_batch_room.new.index in

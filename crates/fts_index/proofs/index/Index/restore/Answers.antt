@@ -1,10 +1,12 @@
 use Rattle.std.proofs.Common.{◌≡◌, ℕ, List, false, true, ap, sym, ◌∙◌}
 use Rattle.fts_ids.specs.Ids.{has}
 use Rattle.fts_index.specs.Restore.{can_restore}
+use Rattle.fts_index.specs.Stands.{StandsFor}
 use Rattle.fts_index.proofs.Restoring.{comes, through_at, seals, stands_restored, cannot}
 use Rattle.fts_index.proofs.index.Index.restore.Goals as goal
 
 pub returns-then-not-branch-clause-bad : goal.returns-then-not-branch-clause-bad
+unfolding StandsFor
 returns-then-not-branch-clause-bad c = λ err rules turns more s restores here seal.
     let fails : can_restore c.args.self.now c.args.covered.now c.args.through c.args.synced c.args.nodes.now ≡ false = sym c.in_ok-make_room_if_fit.ensures.can ∙ c.if-not-branch.true in
     cannot rules turns more s c.args.self.now c.args.covered.now restores c.args.through c.args.synced c.args.nodes.now c.requires fails here seal
@@ -15,6 +17,7 @@ add_batch-requires-clause-after c =
     comes c.args.self.now c.make_room_if_fit.new.index c.args.covered.now c.args.through c.args.synced c.args.nodes.now c.make_room_if_fit.ensures.same c.requires can
 
 pub returns-clause-restored : goal.returns-clause-restored
+unfolding StandsFor
 returns-clause-restored c = λ rules turns more s restores.
     let can : can_restore c.args.self.now c.args.covered.now c.args.through c.args.synced c.args.nodes.now ≡ true = sym c.in_ok-make_room_if_fit.ensures.can ∙ c.if-not-branch.false in
     let dead : (id : ℕ) → has c.deref-2.result.now id ≡ has c.args.covered.now.deaths.items id = λ id.
