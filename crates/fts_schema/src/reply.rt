@@ -87,24 +87,7 @@ pub fn fixed_text(reply: &Reply) -> Option<&'static str>
         Reply::LineTooLong => Some("ERROR line too long\n"),
         Reply::NoMemory => Some("ERROR no memory\n"),
         Reply::DiskFault => Some("ERROR disk fault\n"),
-        Reply::Committed { .. } => None,
-        Reply::CommittedAndBegun { .. } => None,
-        Reply::Buffered { .. } => None,
-        Reply::RolledBack { .. } => None,
-        Reply::TooManyChanges { .. } => None,
-        Reply::Found { .. } => None,
-        Reply::Synced { .. } => None,
-        Reply::Optimized { .. } => None,
-        Reply::Listed { .. } => None,
-        Reply::Refused { .. } => None,
-        Reply::LogFull { .. } => None,
-        Reply::Syntax { .. } => None,
-        Reply::NoSuchTable { .. } => None,
-        Reply::NoSuchColumn { .. } => None,
-        Reply::QuerySyntax { .. } => None,
-        Reply::QueryTooLong { .. } => None,
-        Reply::QueryTooDeep { .. } => None,
-        Reply::Stopped { .. } => None,
+        _ => None,
     }
 }
 
@@ -183,14 +166,7 @@ fn written_text(alloc: Global, reply: &Reply) -> Result<Vec<u8>, AllocError>
         )),
         Reply::QueryTooDeep { at } => bytes_of(format!(in alloc; "ERROR query too deep at {at}\n")),
         Reply::Stopped { faults } => bytes_of(stopped_text(alloc, *faults)),
-        Reply::Nothing => unreachable!(),
-        Reply::Begun => unreachable!(),
-        Reply::NothingToCommit => unreachable!(),
-        Reply::NothingToOptimize => unreachable!(),
-        Reply::WrongColumns => unreachable!(),
-        Reply::LineTooLong => unreachable!(),
-        Reply::NoMemory => unreachable!(),
-        Reply::DiskFault => unreachable!(),
+        _ => unreachable!(),
     }
 }
 

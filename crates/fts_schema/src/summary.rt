@@ -113,20 +113,7 @@ pub fn is_error(reply: &Reply) -> bool
         Reply::Optimized { .. } => false,
         Reply::Listed { .. } => false,
         Reply::Nothing => false,
-        Reply::Refused { .. } => true,
-        Reply::TooManyChanges { .. } => true,
-        Reply::LogFull { .. } => true,
-        Reply::Syntax { .. } => true,
-        Reply::NoSuchTable { .. } => true,
-        Reply::NoSuchColumn { .. } => true,
-        Reply::WrongColumns => true,
-        Reply::QuerySyntax { .. } => true,
-        Reply::QueryTooLong { .. } => true,
-        Reply::QueryTooDeep { .. } => true,
-        Reply::LineTooLong => true,
-        Reply::NoMemory => true,
-        Reply::DiskFault => true,
-        Reply::Stopped { .. } => true,
+        _ => true,
     }
 }
 

@@ -14,7 +14,7 @@ use Rattle.fts_commits.specs.Turn.{Turn}
 use Rattle.fts_entries.specs.Entry.{IndexEntry, IndexState, begun, after_entry, unflushed}
 use Rattle.fts_entries.specs.Pass.{pass_step, has_work, words_left, words_named}
 use Rattle.fts_entries.specs.Batch.{covers, covered_within}
-use Rattle.fts_engine.proofs.Indexing.{turns_count}
+use Rattle.fts_steps.proofs.Growing.{turns_count}
 use Rattle.fts_io.specs.Text.{Line}
 use Rattle.fts_schema.specs.declared.reply.Reply.{Reply}
 use Rattle.fts_schema.specs.declared.reply.Reply.TheVariants as reply

@@ -16,7 +16,6 @@ mod changes;
 mod commits;
 mod direct;
 mod index;
-mod insert;
 mod laws;
 mod names;
 mod optimize;
@@ -24,7 +23,6 @@ mod query;
 mod session;
 mod steps;
 mod transaction;
-mod update;
 mod view;
 
 pub use direct::Direct;

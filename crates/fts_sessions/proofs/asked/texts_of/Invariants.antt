@@ -1,6 +1,6 @@
 use Rattle.std.proofs.Common.{◌≡◌, ◌++◌}
 use Rattle.fts_sessions.specs.Table.{texts_in}
-use Rattle.fts_sessions.proofs.insert.texts_of.Given as goal
+use Rattle.fts_sessions.proofs.asked.texts_of.Given as goal
 
 -- the texts so far, and then those among the rest
 abbrev pub invariant-loop-value : goal.invariant-loop-value

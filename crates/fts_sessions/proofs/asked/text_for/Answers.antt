@@ -3,7 +3,7 @@ use Rattle.std.specs.Str.{str_eq_ignore_ascii_case}
 use Rattle.std.specs.Prelude.{slice_index_or}
 use Rattle.fts_sessions.specs.Table.{text_for}
 use Rattle.fts_sessions.proofs.Setting.{text_step, text_end}
-use Rattle.fts_sessions.proofs.update.text_for.Goals as goal
+use Rattle.fts_sessions.proofs.asked.text_for.Goals as goal
 
 pub returns-then-place-len : goal.returns-then-place-len
 returns-then-place-len c =
