@@ -9,3 +9,4 @@ pub mod Serving
 pub mod Standing
 pub mod Finding
 pub mod Ordering
+pub mod Settling

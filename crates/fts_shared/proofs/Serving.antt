@@ -246,7 +246,7 @@ module _ {D E : Type 0} {rows : Ghosts D} {index : Ghosts E} (lines : List Line)
 -- ---- what the last rounds leave
 
 module _ {D E : Type 0} {rows : Ghosts D} {index : Ghosts E} where
-  held_behind : (calls : List Call) (first now : Direct D E rows index) (running : Running) → Holds running first.engine → AreMade direct_sight calls first now
+  pub held_behind : (calls : List Call) (first now : Direct D E rows index) (running : Running) → Holds running first.engine → AreMade direct_sight calls first now
       → Holds (after_all running calls) now.engine
   held_behind calls first now running holds made =
       traced_stands direct_sight running calls first now holds (made_traced direct_sight calls running first now holds made)

@@ -18,6 +18,7 @@ use Rattle.fts_turn.specs.Histories.{Begins, entries_by, NoneFrom}
 use Rattle.fts_turn.specs.Promises.{seats_of, IsToldBy, Numbered}
 use Rattle.fts_workers.specs.declared.health.Health.{Health}
 use Rattle.fts_workers.specs.Health.{worse, health_of_steps}
+use Rattle.fts_workers.specs.Settled.{NeedsNoBatch, EndsWhole}
 use Rattle.fts_workers.specs.Workers.{SyncRound, OptimizeRound, MakesOne, all_steps}
 use Rattle.fts_shared.specs.declared.at_turn.AtTurn.{AtTurn}
 use Rattle.fts_shared.specs.declared.served.Served.{Served}
@@ -92,6 +93,12 @@ pub record EndsAlone {D E : Type 0} {rows : Ghosts D} {index : Ghosts E} (first 
   pub syncs : MakesOne direct_sight SyncRound synced (alone first) (alone middle)
   pub optimizes : MakesOne direct_sight OptimizeRound optimized (alone middle) (alone now)
   pub met_is : met ≡ worse synced optimized
+
+-- no batch is due behind the last round of the sync worker, and the OPTIMIZE of the last round ended whole
+pub record LeavesNoneDue {D E : Type 0} {rows : Ghosts D} {index : Ghosts E} {first now : Engine D E rows index}
+    {met : Health} (limits : Limits) (running : Running) (ends : EndsAlone first now met) : Type 0 where
+  pub batch : NeedsNoBatch limits (after_all running ends.syncs.calls)
+  pub optimize : EndsWhole running.state.settings.optimize_words (length ends.optimizes.calls) ends.optimizes.is.0
 
 -- what runs behind these rounds
 abbrev pub behind_last : {D E : Type 0} {rows : Ghosts D} {index : Ghosts E} {first now : Engine D E rows index}

@@ -2,7 +2,6 @@
 ghost use Rattle.std.specs.Prelude.{◌≡◌};
 ghost use Rattle.fts_turn.specs.Promises.{IsAtRest};
 ghost use Rattle.fts_script.specs.Script.{lines_in};
-ghost use Rattle.fts_workers.specs.Workers.{SyncRound, OptimizeRound};
 ghost use Rattle.fts_shared.specs.Places.{IsDone, HasWorked};
 
 use crate::AtTurn;
@@ -16,7 +15,7 @@ use fts_disk::Disk;
 use fts_io::Gate;
 use fts_sessions::Session;
 use fts_turn::Seat;
-use fts_workers::{Health, optimize_worker, sync_worker};
+use fts_workers::{Bell, Health, Rounds, make_rounds};
 use std::sync::Wait;
 
 /// The seat of a worker, and where the worker waits.
@@ -68,44 +67,19 @@ pub(crate) fn one_session<R: Wait, D: Disk, E: Disk, G: Gate>(
     placed.into_seat()
 }
 
-/// Makes the rounds of the sync worker at its seat, to the one behind its end.
-pub(crate) fn sync_at_post<R: Wait, D: Disk, E: Disk, G: Gate>(
+/// Makes the rounds of a worker at its seat, to the one after its end.
+pub(crate) fn rounds_at_post<R: Wait, W: Rounds, D: Disk, E: Disk, G: Gate>(
     context: &Context<R, D, E, G>,
+    rounds: &W,
     post: Post<D, E>,
+    bell: &Bell,
 ) -> (Seat<AtTurn<D, E>>, Health)
     requires { IsAtRest context.now.turn.now post.seat }
-    ensures { HasWorked SyncRound context.now.turn.now post.seat result.0 result.1 }
+    ensures { HasWorked W.round context.now.turn.now post.seat result.0 result.1 }
 {
     let Post { seat, parker } = post;
     let mut steps = steps_at(context, seat);
-    let met = sync_worker(
-        context.rt,
-        &mut steps,
-        context.gate,
-        &parker,
-        &context.bells.sync,
-    );
-    let Shared { placed, .. } = steps;
-    (placed.into_seat(), met)
-}
-
-/// Makes the rounds of the optimiser at its seat, to the one behind its end.
-pub(crate) fn optimize_at_post<R: Wait, D: Disk, E: Disk, G: Gate>(
-    context: &Context<R, D, E, G>,
-    post: Post<D, E>,
-) -> (Seat<AtTurn<D, E>>, Health)
-    requires { IsAtRest context.now.turn.now post.seat }
-    ensures { HasWorked OptimizeRound context.now.turn.now post.seat result.0 result.1 }
-{
-    let Post { seat, parker } = post;
-    let mut steps = steps_at(context, seat);
-    let met = optimize_worker(
-        context.rt,
-        &mut steps,
-        context.gate,
-        &parker,
-        &context.bells.optimizer,
-    );
+    let met = make_rounds(context.rt, rounds, &mut steps, context.gate, &parker, bell);
     let Shared { placed, .. } = steps;
     (placed.into_seat(), met)
 }

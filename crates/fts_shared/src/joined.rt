@@ -8,14 +8,14 @@ ghost use Rattle.fts_shared.specs.Places.{at_places, HasSeat, HasWorked, AreAllD
 ghost use denote.Param.Send.{IsSync};
 
 use crate::AtTurn;
-use crate::at_work::{Post, one_session, optimize_at_post, sync_at_post};
+use crate::at_work::{Post, one_session, rounds_at_post};
 use crate::context::Context;
 use crate::work::Work;
 use crossbeam_utils::sync::Parker;
 use fts_disk::Disk;
 use fts_io::Gate;
 use fts_turn::Seat;
-use fts_workers::Health;
+use fts_workers::{Health, OptimizeRounds, SyncRounds};
 use std::sync::Wait;
 use std::thread::{Threads, for_each_mut, join};
 
@@ -185,7 +185,7 @@ fn beside_sync<R: Threads + Wait + Sync, D: Disk + Send, E: Disk + Send, G: Gate
         requires { IsSync R.row × IsSync G.row × IsAtRest context.now.turn.now sync.seat }
         ensures { HasWorked SyncRound context.entry.now.turn.now sync.seat
             result.0 result.1 }
-    { sync_at_post(context, sync) };
+    { rounds_at_post(context, &SyncRounds, sync, &context.bells.sync) };
     let others = move || -> (Vec<Seat<AtTurn<D, E>>>, Vec<Work>)
         requires { IsSync R.row × IsSync G.row × AreReady context.now.turn.now sessions }
         ensures { AreDone (lines_in context.entry.now.script.now) context.entry.now.turn.now
@@ -227,7 +227,14 @@ fn beside_both<R: Threads + Wait + Sync, D: Disk + Send, E: Disk + Send, G: Gate
         requires { IsSync R.row × IsSync G.row × IsAtRest context.now.turn.now optimizer.seat }
         ensures { HasWorked OptimizeRound context.entry.now.turn.now optimizer.seat
             result.0 result.1 }
-    { optimize_at_post(context, optimizer) };
+    {
+        rounds_at_post(
+            context,
+            &OptimizeRounds,
+            optimizer,
+            &context.bells.optimizer,
+        )
+    };
     let others = move || -> (
         (Seat<AtTurn<D, E>>, Health),
         (Vec<Seat<AtTurn<D, E>>>, Vec<Work>),

@@ -17,12 +17,13 @@ ghost use Rattle.fts_steps.specs.Step.{Call, Follows, to_commit, to_find, commit
 ghost use Rattle.fts_steps.specs.Step.{full, found, plain_answer};
 ghost use Rattle.fts_turn.specs.Histories.{Begins};
 ghost use Rattle.fts_shared.specs.Laws.{IsStep, HasItsPlace, AddedBy, IsNumber, before_step};
-ghost use Rattle.fts_engine.specs.Stands.{Holds};
+ghost use Rattle.fts_engine.specs.Stands.{Holds, engine_limits};
 ghost use Rattle.fts_engine.specs.declared.engine.Engine.{Engine};
 ghost use Rattle.fts_shared.specs.declared.served.Served.{Served};
 ghost use Rattle.fts_shared.specs.declared.work.Work.{Work};
-ghost use Rattle.fts_shared.specs.Served.{TellsAll, AreServed, behind_last};
+ghost use Rattle.fts_shared.specs.Served.{TellsAll, AreServed, LeavesNoneDue, behind_last};
 ghost use Rattle.fts_shared.specs.Talk.{Talks};
+ghost use Rattle.fts_workers.specs.declared.health.Health.TheVariants.{Sound};
 
 use fts_disk::Disk;
 
@@ -114,4 +115,13 @@ pub fn engines_hold_what_was_told<D: Disk, E: Disk>()
         → (served : Served D E D.Disk E.Disk) → (are : AreServed lines first works served)
         → (running : Running) → Holds running first
         → Holds (behind_last (grown running are.history) are.ends) served.engine }
+{}
+
+/// Where the last rounds met neither want of memory nor a fault, no batch is due behind that of the
+/// sync worker, and the OPTIMIZE of the other ended whole.
+pub fn last_rounds_leave_none_due<D: Disk, E: Disk>()
+    ensures { (lines : List Line) → (first : Engine D E D.Disk E.Disk) → (works : List Work)
+        → (served : Served D E D.Disk E.Disk) → (are : AreServed lines first works served)
+        → (running : Running) → Holds running first → are.last ≡ Sound
+        → LeavesNoneDue (engine_limits first) (grown running are.history) are.ends }
 {}

@@ -13,7 +13,7 @@ use fts_engine::Engine;
 use fts_io::Gate;
 use fts_script::Script;
 use fts_sessions::Direct;
-use fts_workers::{Bell, Bells, Health, optimize_round, sync_round};
+use fts_workers::{Bell, Bells, Health, OptimizeRounds, Rounds, SyncRounds};
 use std::alloc::{AllocError, Global};
 use std::sync::Wait;
 use std::thread::Threads;
@@ -46,8 +46,8 @@ fn last_rounds<D: Disk, E: Disk>(engine: Engine<D, E>) -> (Engine<D, E>, Health)
     ensures { EndsAlone engine result.0 result.1 }
 {
     let mut steps = Direct { engine };
-    let synced = sync_round(&mut steps);
-    let optimized = optimize_round(&mut steps);
+    let synced = SyncRounds.make(&mut steps);
+    let optimized = OptimizeRounds.make(&mut steps);
     let Direct { engine } = steps;
     (engine, synced.worse(optimized))
 }

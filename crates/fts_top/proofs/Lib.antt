@@ -14,3 +14,4 @@ pub mod Rising
 pub mod Playing
 pub mod Sending
 pub mod Served
+pub mod Settling

@@ -9,6 +9,15 @@ ghost use Rattle.fts_top.specs.Talk.{texts_of};
 ghost use Rattle.fts_top.specs.Laws.{Converse, Talked};
 ghost use Rattle.fts_sessions.specs.Seen.{Rise};
 ghost use Rattle.fts_top.specs.Sight.{AreOwn};
+ghost use Rattle.fts_steps.specs.Running.{grown};
+ghost use Rattle.fts_engine.specs.declared.engine.Engine.{Engine};
+ghost use Rattle.fts_engine.specs.Stands.{Holds, engine_limits};
+ghost use Rattle.fts_shared.specs.Served.{LeavesNoneDue};
+ghost use Rattle.fts_top.specs.declared.ends.RunEnd.TheVariants.{Done};
+ghost use Rattle.fts_top.specs.Once.{Outside};
+ghost use Rattle.fts_top.specs.Serve.{WasServed};
+
+use fts_disk::Disk;
 
 /// The lines of a script, executed to their end on an engine under some limits, with nobody else
 /// and without a fault or want of memory, make one list of steps and have one text. It does
@@ -32,4 +41,13 @@ pub fn sight_rises()
         → (calls : List Call) → (replies own : List Reply) → (session : ℕ)
         → Talked limits start lines calls replies → AreOwn session lines replies own
         → Rise (length start.state.commits) own }
+{}
+
+/// A script that was served to its end, without want of memory or a fault, leaves no batch due, and
+/// the last OPTIMIZE ended whole. It does nothing: its contract is the theorem.
+pub fn served_scripts_leave_none_due<D: Disk, E: Disk>()
+    ensures { (first : Engine D E D.Disk E.Disk) → (before after : Outside D E)
+        → (was : WasServed D.Disk E.Disk Done first before after)
+        → (running : Running) → Holds running first
+        → LeavesNoneDue (engine_limits first) (grown running was.are.history) was.are.ends }
 {}

@@ -61,7 +61,7 @@ tells most count words (disk_fault faults) reply is = let same : reply_to (disk_
 tells most count words (stopped faults) reply is = let same : reply_to (stopped faults) ≡ reply = cc in sym (ap health_of same)
 tells most count words no_memory reply is = let same : reply_to no_memory ≡ reply = cc in sym (ap health_of same)
 
-last_is : (first : Answer) (more : List Answer) (answer : Answer) → last_answer first (more ++ answer ∷ []) ≡ answer
+pub last_is : (first : Answer) (more : List Answer) (answer : Answer) → last_answer first (more ++ answer ∷ []) ≡ answer
 last_is first [] answer = refl
 last_is first (next ∷ more) answer = last_is next more answer
 

@@ -1,5 +1,7 @@
 pub mod Making
 pub mod Worse
-pub mod Rounds
+pub mod OneRound
 pub mod Conversing
 pub mod Working
+pub mod Settling
+pub mod Ending

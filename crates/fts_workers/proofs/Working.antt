@@ -11,7 +11,7 @@ use Rattle.fts_workers.specs.declared.health.Health.{Health}
 use Rattle.fts_workers.specs.declared.health.Health.TheVariants.{Sound, Failed}
 use Rattle.fts_workers.specs.Health.{health_of_steps, worse}
 use Rattle.fts_workers.specs.Workers.{MakesOne, Works, all_steps}
-use Rattle.fts_workers.proofs.Rounds.{health_both}
+use Rattle.fts_workers.proofs.OneRound.{health_both}
 use Rattle.fts_workers.proofs.Worse.{counted_more}
 
 all_one : {X : Type 0} (P : X → Type 0) (x : X) → P x → All P (x ∷ [])

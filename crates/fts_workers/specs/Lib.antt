@@ -1,3 +1,4 @@
 pub mod Health
 pub mod Batches
 pub mod Workers
+pub mod Settled

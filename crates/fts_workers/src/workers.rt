@@ -9,15 +9,15 @@ use fts_io::{Gate, Point};
 use fts_sessions::{EngineSteps, optimize_once};
 use std::sync::Wait;
 
-/// A round of the sync worker: batches, while the index's cache is too large.
-pub fn sync_round<S: EngineSteps>(steps: &mut S) -> Health
+// A round of the sync worker.
+fn sync_round<S: EngineSteps>(steps: &mut S) -> Health
     ensures { MakesOne S.sight SyncRound result steps.old steps.new }
 {
     make_batches(steps, u64::MAX)
 }
 
-/// A round of the optimiser: one OPTIMIZE.
-pub fn optimize_round<S: EngineSteps>(steps: &mut S) -> Health
+// A round of the optimiser.
+fn optimize_round<S: EngineSteps>(steps: &mut S) -> Health
     ensures { MakesOne S.sight OptimizeRound result steps.old steps.new }
 {
     let reply = optimize_once(steps);
@@ -25,7 +25,7 @@ pub fn optimize_round<S: EngineSteps>(steps: &mut S) -> Health
 }
 
 /// What a worker does each time that it is woken.
-trait Rounds {
+pub trait Rounds {
     ghost use Rattle.std.specs.Prelude.{List};
     ghost use Rattle.fts_steps.specs.Step.{Call};
     ghost use Rattle.fts_types.specs.declared.settings.Settings.{Settings};
@@ -38,9 +38,9 @@ trait Rounds {
         ensures { MakesOne S.sight round result steps.old steps.new };
 }
 
-/// Those of the sync worker.
+/// Those of the sync worker: batches, while the index's cache is too large.
 #[derive(Drop)]
-struct SyncRounds;
+pub struct SyncRounds;
 
 impl Rounds for SyncRounds {
     ghost round = { SyncRound };
@@ -50,9 +50,9 @@ impl Rounds for SyncRounds {
     }
 }
 
-/// Those of the optimiser.
+/// Those of the optimiser: one OPTIMIZE.
 #[derive(Drop)]
-struct OptimizeRounds;
+pub struct OptimizeRounds;
 
 impl Rounds for OptimizeRounds {
     ghost round = { OptimizeRound };
@@ -62,34 +62,9 @@ impl Rounds for OptimizeRounds {
     }
 }
 
-/// Makes a round each time that the bell rings, and a last one when it tells the end.
-pub fn sync_worker<R: Wait, S: EngineSteps, G: Gate>(
-    rt: &R,
-    steps: &mut S,
-    gate: &G,
-    parker: &Parker,
-    bell: &Bell,
-) -> Health
-    ensures { Works S.sight SyncRound result steps.old steps.new }
-{
-    make_rounds(rt, &SyncRounds, steps, gate, parker, bell)
-}
-
-/// Makes a round each time that the bell rings, and a last one when it tells the end.
-pub fn optimize_worker<R: Wait, S: EngineSteps, G: Gate>(
-    rt: &R,
-    steps: &mut S,
-    gate: &G,
-    parker: &Parker,
-    bell: &Bell,
-) -> Health
-    ensures { Works S.sight OptimizeRound result steps.old steps.new }
-{
-    make_rounds(rt, &OptimizeRounds, steps, gate, parker, bell)
-}
-
-// Makes rounds. The end is looked for before each, so that the last comes behind it.
-fn make_rounds<R: Wait, W: Rounds, S: EngineSteps, G: Gate>(
+/// Makes a round each time that the bell rings, and a last one when it tells the end. The end is
+/// looked for before each, so that the last comes after it.
+pub fn make_rounds<R: Wait, W: Rounds, S: EngineSteps, G: Gate>(
     rt: &R,
     rounds: &W,
     steps: &mut S,

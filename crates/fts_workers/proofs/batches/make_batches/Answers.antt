@@ -1,4 +1,4 @@
-use Rattle.fts_workers.proofs.Rounds.{step_more, step_last, ends_at}
+use Rattle.fts_workers.proofs.OneRound.{step_more, step_last, ends_at}
 use Rattle.fts_workers.proofs.batches.make_batches.Goals as goal
 
 pub returns-in-Some : goal.returns-in-Some

@@ -1,4 +1,4 @@
-use Rattle.fts_workers.proofs.Rounds.{AreRounds}
+use Rattle.fts_workers.proofs.OneRound.{AreRounds}
 use Rattle.fts_workers.proofs.batches.make_batches.Given as goal
 
 abbrev pub invariant-rounds : goal.invariant-rounds

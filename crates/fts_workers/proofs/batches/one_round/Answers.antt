@@ -3,7 +3,7 @@ use Rattle.fts_steps.specs.Step.{to_sync, Steps}
 use Rattle.fts_steps.specs.Answers.{sync_answer_of}
 use Rattle.fts_steps.specs.declared.sync.SyncBatch.{SyncBatch}
 use Rattle.fts_steps.specs.declared.index_error.IndexError.{IndexError}
-use Rattle.fts_workers.proofs.Rounds.{within, more, last_of_all, starved, has_no_room, fails, refused}
+use Rattle.fts_workers.proofs.OneRound.{within, more, last_of_all, starved, has_no_room, fails, refused}
 use Rattle.fts_workers.proofs.batches.one_round.Goals as goal
 
 pub returns-then-size-cache_bytes : goal.returns-then-size-cache_bytes
