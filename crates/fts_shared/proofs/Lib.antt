@@ -10,3 +10,4 @@ pub mod Standing
 pub mod Finding
 pub mod Ordering
 pub mod Settling
+pub mod Unstopped

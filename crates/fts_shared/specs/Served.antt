@@ -1,9 +1,12 @@
 -- Several sessions and two workers at one engine, told by one history.
 use Rattle.std.specs.Prelude.{◌≡◌, ℕ, List, [], ◌∷◌, ◌++◌, length, All, None}
+use Rattle.std.specs.List.{AllByRecursion}
 use Rattle.fts_disk.specs.declared.disk.Disk.{Ghosts}
 use Rattle.fts_io.specs.Text.{Line}
 use Rattle.fts_types.specs.declared.limits.Limits.{Limits}
 use Rattle.fts_types.specs.declared.settings.Settings.{Settings}
+use Rattle.fts_schema.specs.declared.reply.Reply.{Reply}
+use Rattle.fts_schema.specs.declared.reply.Reply.TheVariants.{DiskFault}
 use Rattle.fts_steps.specs.FaultCounts.{NoneFell}
 use Rattle.fts_steps.specs.Running.{Running, Entry, grown}
 use Rattle.fts_steps.specs.Step.{Call, Follows, after_all}
@@ -52,6 +55,10 @@ pub record IsSession (lines : List Line) (settings : Settings) (work work' : Wor
   pub same : IsSameWork work work'
   pub left : Transaction
   pub talks : Talks settings None (work_lines lines work) calls (work_replies work') left
+
+-- no reply tells a fault of a device
+abbrev pub AreCalm : List Reply → Type 0
+AreCalm replies = AllByRecursion (λ reply. reply ≡ DiskFault → ⊥) replies
 
 -- so did each of them
 abbrev pub AreSessions : List Line → Settings → List Work → List Work → List (List Call) → Type 0

@@ -1,5 +1,6 @@
 //! What follows from one history of all steps. Each does nothing: its contract is the theorem.
-ghost use Rattle.std.specs.Prelude.{◌≡◌, ◌+◌, ℕ, List, length, ◌++◌, ◌∷◌, Some};
+ghost use Rattle.std.specs.Prelude.{◌≡◌, ◌+◌, ℕ, List, length, ◌++◌, ◌∷◌, Some, None};
+ghost use Rattle.std.specs.List.{AllByRecursion};
 ghost use Rattle.fts_types.specs.Rules.{rules_of};
 ghost use Rattle.fts_types.specs.declared.limits.Limits.{Limits};
 ghost use Rattle.fts_types.specs.declared.settings.Settings.{Settings};
@@ -21,9 +22,10 @@ ghost use Rattle.fts_engine.specs.Stands.{Holds, engine_limits};
 ghost use Rattle.fts_engine.specs.declared.engine.Engine.{Engine};
 ghost use Rattle.fts_shared.specs.declared.served.Served.{Served};
 ghost use Rattle.fts_shared.specs.declared.work.Work.{Work};
-ghost use Rattle.fts_shared.specs.Served.{TellsAll, AreServed, LeavesNoneDue, behind_last};
+ghost use Rattle.fts_shared.specs.Served.{TellsAll, AreServed, AreCalm, LeavesNoneDue, behind_last};
+ghost use Rattle.fts_shared.specs.Work.{replies_in};
 ghost use Rattle.fts_shared.specs.Talk.{Talks};
-ghost use Rattle.fts_workers.specs.declared.health.Health.TheVariants.{Sound};
+ghost use Rattle.fts_workers.specs.declared.health.Health.TheVariants.{Sound, Failed};
 
 use fts_disk::Disk;
 
@@ -124,4 +126,13 @@ pub fn last_rounds_leave_none_due<D: Disk, E: Disk>()
         → (served : Served D E D.Disk E.Disk) → (are : AreServed lines first works served)
         → (running : Running) → Holds running first → are.last ≡ Sound
         → LeavesNoneDue (engine_limits first) (grown running are.history) are.ends }
+{}
+
+/// Where no session is told a fault of a device and no worker met one, none stopped the engine.
+pub fn calm_scripts_stop_nothing<D: Disk, E: Disk>()
+    ensures { (lines : List Line) → (first : Engine D E D.Disk E.Disk) → (works : List Work)
+        → (served : Served D E D.Disk E.Disk) → (are : AreServed lines first works served)
+        → (running : Running) → Holds running first → running.stopped ≡ None
+        → AllByRecursion AreCalm (replies_in served.works.items) → (served.met ≡ Failed → ⊥)
+        → (behind_last (grown running are.history) are.ends).stopped ≡ None }
 {}

@@ -1,5 +1,5 @@
 //! What holds of each script.
-ghost use Rattle.std.specs.Prelude.{◌≡◌, ℕ, List, length};
+ghost use Rattle.std.specs.Prelude.{◌≡◌, ℕ, List, length, None};
 ghost use Rattle.fts_types.specs.declared.limits.Limits.{Limits};
 ghost use Rattle.fts_io.specs.Text.{Line};
 ghost use Rattle.fts_schema.specs.declared.reply.Reply.{Reply};
@@ -12,7 +12,7 @@ ghost use Rattle.fts_top.specs.Sight.{AreOwn};
 ghost use Rattle.fts_steps.specs.Running.{grown};
 ghost use Rattle.fts_engine.specs.declared.engine.Engine.{Engine};
 ghost use Rattle.fts_engine.specs.Stands.{Holds, engine_limits};
-ghost use Rattle.fts_shared.specs.Served.{LeavesNoneDue};
+ghost use Rattle.fts_shared.specs.Served.{LeavesNoneDue, behind_last};
 ghost use Rattle.fts_top.specs.declared.ends.RunEnd.TheVariants.{Done};
 ghost use Rattle.fts_top.specs.Once.{Outside};
 ghost use Rattle.fts_top.specs.Serve.{WasServed};
@@ -43,11 +43,16 @@ pub fn sight_rises()
         → Rise (length start.state.commits) own }
 {}
 
-/// A script that was served to its end, without want of memory or a fault, leaves no batch due, and
-/// the last OPTIMIZE ended whole. It does nothing: its contract is the theorem.
+/// A script that was served to its end, without want of memory or a fault, leaves no batch due, the
+/// last OPTIMIZE ended whole, and no fault stopped the engine. It does nothing: its contract is the
+/// theorem.
 pub fn served_scripts_leave_none_due<D: Disk, E: Disk>()
-    ensures { (first : Engine D E D.Disk E.Disk) → (before after : Outside D E)
+    ensures due { (first : Engine D E D.Disk E.Disk) → (before after : Outside D E)
         → (was : WasServed D.Disk E.Disk Done first before after)
         → (running : Running) → Holds running first
         → LeavesNoneDue (engine_limits first) (grown running was.are.history) was.are.ends }
+    ensures going { (first : Engine D E D.Disk E.Disk) → (before after : Outside D E)
+        → (was : WasServed D.Disk E.Disk Done first before after)
+        → (running : Running) → Holds running first → running.stopped ≡ None
+        → (behind_last (grown running was.are.history) was.are.ends).stopped ≡ None }
 {}

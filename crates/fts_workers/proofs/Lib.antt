@@ -5,3 +5,4 @@ pub mod Conversing
 pub mod Working
 pub mod Settling
 pub mod Ending
+pub mod Still
