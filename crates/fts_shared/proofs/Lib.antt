@@ -11,3 +11,4 @@ pub mod Finding
 pub mod Ordering
 pub mod Settling
 pub mod Unstopped
+pub mod Counted

@@ -16,6 +16,8 @@ use Rattle.fts_sessions.specs.Request.{unread}
 use Rattle.fts_sessions.specs.Transaction.{Transaction}
 use Rattle.fts_script.specs.Script.{line_of}
 use Rattle.fts_script.specs.declared.lines.ScriptLine.{ScriptLine}
+use Rattle.fts_workers.specs.Health.{health_of, health_of_all}
+use Rattle.fts_workers.proofs.Worse.{counted_more, counted_reply}
 use Rattle.fts_shared.specs.Talk.{Talks, TalksOn}
 use Rattle.fts_shared.specs.Work.{or_none, lines_at}
 
@@ -41,7 +43,7 @@ no_line_at lines all place are more =
 
 module _ {S : Type 0} (sight : Sight S) where
   pub talks_none : (transaction : Transaction) (here : S) → TalksOn sight transaction [] [] transaction here here
-  talks_none transaction here = record { calls = []; talks = (refl, refl, refl); made = refl }
+  talks_none transaction here = record { calls = []; talks = (refl, refl, refl); made = refl; faults = counts_calm _ _ _ (λ is. cc) refl }
 
   -- a line that was too long makes no step
   pub skips : (transaction : Transaction) (here : S) → Executes sight too_long transaction here LineTooLong transaction here
@@ -70,6 +72,8 @@ module _ {S : Type 0} (sight : Sight S) where
       subst (λ (settings : Settings). Talks settings middle lines rest.calls replies left) (made_keeps sight first.calls old mid first.made).settings rest.talks,
     );
     made = made_append sight first.calls rest.calls old mid new first.made rest.made;
+    faults = counted_more (health_of reply) (health_of_all replies) (sight.faults old) (sight.faults mid) (sight.faults new)
+        (counted_reply reply (sight.faults old) (sight.faults mid) first.faults) rest.faults;
   }
 
   -- the line at a place before those at others

@@ -62,7 +62,7 @@ module _ {S D E : Type 0} {rows : Ghosts D} {index : Ghosts E} (at : S → Seate
 
   pub seat_talks : (old new : S) (transaction left : Transaction) (lines : List Line) (replies : List Reply) → TalksOn (sight_at at) transaction lines replies left old new
       → TalksOn (seat_sight {rows = rows} {index = index}) transaction lines replies left (at old) (at new)
-  seat_talks old new transaction left lines replies talks = record { calls = talks.calls; talks = talks.talks; made = seat_made talks.calls old new talks.made }
+  seat_talks old new transaction left lines replies talks = record { calls = talks.calls; talks = talks.talks; made = seat_made talks.calls old new talks.made; faults = talks.faults }
 
   pub seat_works : (Round : Settings → List Call → Type 0) (met : Health) (old new : S) → Works (sight_at at) Round met old new
       → Works (seat_sight {rows = rows} {index = index}) Round met (at old) (at new)

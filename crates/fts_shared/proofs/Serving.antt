@@ -1,9 +1,11 @@
 -- Sessions and workers that were done at their seats, and one history that tells them.
-use Rattle.std.proofs.Common.{◌≡◌, ℕ, suc, ◌+◌, List, [], ◌∷◌, ◌++◌, length, ap, ◌∙◌, subst, sym, refl, arith, length-append, append_assoc}
+use Rattle.std.proofs.Common.{◌≡◌, ◌≤◌, ◌==◌, ℕ, suc, ◌+◌, inl, inr, ⊎_elim, List, [], ◌∷◌, ◌++◌, length, ap, ◌∙◌, subst, sym, refl, arith, length-append, append_assoc}
 use Rattle.std.specs.Prelude.{Vec}
 use Rattle.std.specs.Global.{Global}
 use Rattle.fts_disk.specs.declared.disk.Disk.{Ghosts}
 use Rattle.fts_io.specs.Text.{Line}
+use Rattle.fts_faults.specs.Count.{Rose}
+use Rattle.fts_steps.specs.FaultCounts.{OneRose, together}
 use Rattle.fts_steps.specs.Running.{Running, Entry, grown}
 use Rattle.fts_steps.specs.Step.{Call, AreMade, after_all}
 use Rattle.fts_steps.proofs.Making.{made_traced, traced_stands}
@@ -11,7 +13,7 @@ use Rattle.fts_sessions.specs.declared.direct.Direct.{Direct}
 use Rattle.fts_sessions.specs.Direct.{direct_sight}
 use Rattle.fts_types.specs.declared.settings.Settings.{Settings}
 use Rattle.fts_engine.specs.declared.engine.Engine.{Engine}
-use Rattle.fts_engine.specs.Stands.{Holds, engine_settings, engine_limits}
+use Rattle.fts_engine.specs.Stands.{Holds, engine_settings, engine_limits, engine_faults}
 use Rattle.fts_turn.specs.declared.turn.Turns.{Turns}
 use Rattle.fts_turn.specs.declared.seat.Seat.{Seat}
 use Rattle.fts_turn.specs.Histories.{Begins, NoneFrom}
@@ -19,16 +21,21 @@ use Rattle.fts_turn.specs.Promises.{seats_of, seat_number, seat_seen, seat_gave,
 use Rattle.fts_turn.proofs.Seats.{same_place}
 use Rattle.fts_shared.specs.declared.at_turn.AtTurn.{AtTurn}
 use Rattle.fts_workers.specs.declared.health.Health.{Health}
-use Rattle.fts_workers.specs.Health.{worse}
+use Rattle.fts_workers.specs.declared.health.Health.TheVariants.{Failed}
+use Rattle.fts_workers.specs.Health.{worse, health_of_all}
+use Rattle.fts_workers.proofs.Worse.{failed_in}
 use Rattle.fts_workers.specs.Workers.{SyncRound, OptimizeRound, all_steps}
 use Rattle.fts_shared.specs.declared.joined.Done.{Done}
 use Rattle.fts_shared.specs.declared.served.Served.{Served}
 use Rattle.fts_shared.specs.declared.work.Work.{Work}
+use Rattle.fts_shared.specs.History.{faults_in, NoneTellsLess}
 use Rattle.fts_shared.specs.Shared.{first_of, seat_sight}
 use Rattle.fts_shared.specs.Talk.{history_of, own_of}
 use Rattle.fts_shared.specs.Places.{IsDone, AreDone, HasWorked, AreAllDone}
-use Rattle.fts_shared.specs.Served.{by_whom, by_number, AllCalls, AreStepsOf, AreSessions, AreServed, IsToldOf, IsWorker, EndsAlone, alone, behind_last}
+use Rattle.fts_shared.specs.Served.{by_whom, by_number, AllCalls, AreStepsOf, AreSessions, AreServed, met_by, IsToldOf, IsWorker, EndsAlone, alone, behind_last}
+use Rattle.fts_shared.specs.Work.{work_replies}
 use Rattle.fts_shared.proofs.Accounts.{made_tells, made_follows}
+use Rattle.fts_shared.proofs.Histories.{own_below}
 
 -- ---- two more behind a list
 
@@ -82,6 +89,31 @@ module _ {D E : Type 0} {rows : Ghosts D} {index : Ghosts E} (lines : List Line)
           own = told.gave ∙ gave;
         }
 
+  -- ---- a fault that was met
+
+  abbrev known : ℕ
+  known = together (engine_faults (first_of turn))
+
+  rose_more : (own all : ℕ) → Rose known own → own ≤ all → Rose known all
+  rose_more own all (inl rose) more = inl (omega (arith, rose, more))
+  rose_more own all (inr full) more = inr (omega (arith, full, more))
+
+  rose_alone : (own : ℕ) → OneRose (known, 0) (own, 0) → Rose known own
+  rose_alone own (inl rose) = rose
+  rose_alone own (inr (inl none)) = absurd (omega (arith, none))
+  rose_alone own (inr (inr full)) = absurd (omega (arith, full))
+
+  -- what a seat that was not used before counted is counted by the engine
+  counted_at : (number : ℕ) (seat seat' : At) (history : List Entry) → IsUnused seat → IsToldBy by_whom history number seat' → NoneTellsLess known history
+      → OneRose (faults_in known (seat_gave seat), 0) (faults_in known (seat_gave seat'), 0) → Rose known (faults_in known history)
+  counted_at number seat seat' history unused told rising rose =
+      let before : OneRose (known, 0) (faults_in known (seat_gave seat'), 0) =
+      subst (λ (gave : List Entry). OneRose (faults_in known gave, 0) (faults_in known (seat_gave seat'), 0)) unused.gave rose in
+      let own : faults_in known (seat_gave seat') ≤ faults_in known history =
+      subst (λ (gave : List Entry). faults_in known gave ≤ faults_in known history) told.gave
+      (own_below (λ (entry : Entry). by_whom entry == number) history known known (omega arith) rising) in
+      rose_more (faults_in known (seat_gave seat')) (faults_in known history) (rose_alone (faults_in known (seat_gave seat')) before) own
+
   -- what sessions that were done at seats from this number on, not used before, say of these later
   pub record AllOf (k : ℕ) (seats seats' : List At) (works works' : List Work) : Type 0 where
     pub still : Numbered (IsSeat turn) k seats'
@@ -91,10 +123,12 @@ module _ {D E : Type 0} {rows : Ghosts D} {index : Ghosts E} (lines : List Line)
     pub sessions : AreSessions lines (engine_settings (first_of turn)) works works' calls
     pub steps : (running : Running) (holds : Holds running (first_of turn)) (history : List Entry) → Numbered (IsToldBy by_whom history) k seats'
         → Numbered (Of running holds history) k calls
+    pub counted : (history : List Entry) → Numbered (IsToldBy by_whom history) k seats' → NoneTellsLess known history → met_by works' ≡ Failed
+        → Rose known (faults_in known history)
 
   pub all_of : (k : ℕ) (seats seats' : List At) (works works' : List Work) → Numbered (IsSeat turn) k seats → Numbered (λ number seat. IsUnused seat) k seats
       → AreDone lines turn seats works seats' works' → AllOf k seats seats' works works'
-  all_of k [] [] [] [] are unused done = record { still = tt; many = refl; calls = []; as_many = refl; sessions = tt; steps = λ running holds history told. tt }
+  all_of k [] [] [] [] are unused done = record { still = tt; many = refl; calls = []; as_many = refl; sessions = tt; steps = λ running holds history told. tt; counted = λ history told rising failed. absurd cc }
   all_of k [] [] [] (w' ∷ works') are unused done = absurd done
   all_of k [] [] (w ∷ works) works' are unused done = absurd done
   all_of k [] (s' ∷ seats') [] [] are unused done = absurd done
@@ -113,6 +147,10 @@ module _ {D E : Type 0} {rows : Ghosts D} {index : Ghosts E} (lines : List Line)
         sessions = (record { same = done.0.work_is; left = done.0.left; talks = done.0.talks.talks }, more.sessions);
         steps = λ running holds history told.
             (steps_of running holds history k s s' done.0.talks.calls are.0 unused.0 told.0 done.0.talks.made, more.steps running holds history told.1);
+        counted = λ history told rising failed.
+            ⊎_elim (λ here. counted_at k s s' history unused.0 told.0 rising (done.0.talks.faults.rose here))
+            (λ behind. more.counted history told.1 rising behind)
+            (failed_in (health_of_all (work_replies w')) (met_by works') failed);
       }
 
   pub done_many : (seats seats' : List At) (works works' : List Work) → AreDone lines turn seats works seats' works' → length seats' ≡ length seats
@@ -214,6 +252,21 @@ module _ {D E : Type 0} {rows : Ghosts D} {index : Ghosts E} (lines : List Line)
             steps_of running holds history (suc behind) all.optimizer all.optimizer' calls.optimizer next.1 fresh.1 told_next.1 all.optimizes.works.made,
           ))
 
+    -- a fault that a session or a worker met
+    met_counted : (history : List Entry) → Numbered (IsToldBy by_whom history) 0 done.seats.items → NoneTellsLess known history
+        → worse (worse all.synced all.optimized) (met_by done.works.items) ≡ Failed → Rose known (faults_in known history)
+    met_counted history told rising failed =
+        let them = subst (Numbered (IsToldBy by_whom history) 0) all.are told in
+        let next_told : AreNext (IsToldBy by_whom history) all.sync' all.optimizer' behind =
+        subst (AreNext (IsToldBy by_whom history) all.sync' all.optimizer') (sym now_behind) (last_two (IsToldBy by_whom history) all.sync' all.optimizer' 0 all.first' them) in
+        ⊎_elim
+        (λ workers. ⊎_elim
+        (λ synced. counted_at behind all.sync all.sync' history fresh.0 next_told.0 rising (all.syncs.works.faults.rose synced))
+        (λ optimized. counted_at (suc behind) all.optimizer all.optimizer' history fresh.1 next_told.1 rising (all.optimizes.works.faults.rose optimized))
+        (failed_in all.synced all.optimized workers))
+        (λ lines_met. sessions.counted history (front_of (IsToldBy by_whom history) 0 all.first' (all.sync' ∷ all.optimizer' ∷ []) them) rising lines_met)
+        (failed_in (worse all.synced all.optimized) (met_by done.works.items) failed)
+
     -- the engine that went under the turn, and came back; and the last rounds over it
     pub is_served : (engine closed : Engine D E rows index) (served : Served D E rows index) (last : Health) → first_of turn ≡ engine → length seats ≡ seats_of turn
         → IsToldOf turn done.seats.items closed → served.works ≡ done.works → EndsAlone closed served.engine last → served.met ≡ worse done.met last
@@ -240,6 +293,10 @@ module _ {D E : Type 0} {rows : Ghosts D} {index : Ghosts E} (lines : List Line)
           syncs = is_worker SyncRound all.sync all.sync' all.synced all.syncs;
           optimizes = is_worker OptimizeRound all.optimizer all.optimizer' all.optimized all.optimizes;
           ends = ends;
+          counted = λ failed.
+              subst (λ (n : ℕ). Rose known n) (sym told.faults)
+              (met_counted told.history told.told told.rising
+              (subst (λ (w : List Work). worse (worse all.synced all.optimized) (met_by w) ≡ Failed) (ap (λ (v : Vec Work Global). v.items) same) failed));
           met_is = met ∙ ap (λ (h : Health). worse h last) all.met_is;
         }
 

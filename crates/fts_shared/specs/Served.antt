@@ -7,7 +7,8 @@ use Rattle.fts_types.specs.declared.limits.Limits.{Limits}
 use Rattle.fts_types.specs.declared.settings.Settings.{Settings}
 use Rattle.fts_schema.specs.declared.reply.Reply.{Reply}
 use Rattle.fts_schema.specs.declared.reply.Reply.TheVariants.{DiskFault}
-use Rattle.fts_steps.specs.FaultCounts.{NoneFell}
+use Rattle.fts_faults.specs.Count.{Rose}
+use Rattle.fts_steps.specs.FaultCounts.{NoneFell, together}
 use Rattle.fts_steps.specs.Running.{Running, Entry, grown}
 use Rattle.fts_steps.specs.Step.{Call, Follows, after_all}
 use Rattle.fts_engine.specs.declared.engine.Engine.{Engine}
@@ -20,13 +21,14 @@ use Rattle.fts_turn.specs.declared.seat.Seat.{Seat}
 use Rattle.fts_turn.specs.Histories.{Begins, entries_by, NoneFrom}
 use Rattle.fts_turn.specs.Promises.{seats_of, IsToldBy, Numbered}
 use Rattle.fts_workers.specs.declared.health.Health.{Health}
-use Rattle.fts_workers.specs.Health.{worse, health_of_steps}
+use Rattle.fts_workers.specs.declared.health.Health.TheVariants.{Sound, Failed}
+use Rattle.fts_workers.specs.Health.{worse, health_of_all, health_of_steps}
 use Rattle.fts_workers.specs.Settled.{NeedsNoBatch, EndsWhole}
 use Rattle.fts_workers.specs.Workers.{SyncRound, OptimizeRound, MakesOne, all_steps}
 use Rattle.fts_shared.specs.declared.at_turn.AtTurn.{AtTurn}
 use Rattle.fts_shared.specs.declared.served.Served.{Served}
 use Rattle.fts_shared.specs.declared.work.Work.{Work}
-use Rattle.fts_shared.specs.History.{WasHeld}
+use Rattle.fts_shared.specs.History.{WasHeld, faults_in, NoneTellsLess}
 use Rattle.fts_shared.specs.Shared.{first_of}
 use Rattle.fts_shared.specs.Talk.{Talks, history_of, own_of}
 use Rattle.fts_shared.specs.Work.{work_lines, work_replies, IsSameWork}
@@ -59,6 +61,11 @@ pub record IsSession (lines : List Line) (settings : Settings) (work work' : Wor
 -- no reply tells a fault of a device
 abbrev pub AreCalm : List Reply → Type 0
 AreCalm replies = AllByRecursion (λ reply. reply ≡ DiskFault → ⊥) replies
+
+-- what the lines of these sessions met
+abbrev pub met_by : List Work → Health
+met_by [] = Sound
+met_by (work ∷ works) = worse (health_of_all (work_replies work)) (met_by works)
 
 -- so did each of them
 abbrev pub AreSessions : List Line → Settings → List Work → List Work → List (List Call) → Type 0
@@ -134,6 +141,8 @@ pub record AreServed {D E : Type 0} {rows : Ghosts D} {index : Ghosts E} (lines 
   pub syncs : IsWorker SyncRound (engine_settings first) calls.sync synced
   pub optimizes : IsWorker OptimizeRound (engine_settings first) calls.optimizer optimized
   pub ends : EndsAlone closed served.engine last
+  pub counted : worse (worse synced optimized) (met_by served.works.items) ≡ Failed
+      → Rose (together (engine_faults first)) (together (engine_faults closed))
   pub met_is : served.met ≡ worse (worse synced optimized) last
 
 -- the engine at the end came from the one at first by one history, of which each seat knows a beginning, and which has
@@ -147,5 +156,7 @@ pub record IsToldOf {D E : Type 0} {rows : Ghosts D} {index : Ghosts E}
   pub settings : engine_settings engine ≡ engine_settings (first_of turn)
   pub limits : engine_limits engine ≡ engine_limits (first_of turn)
   pub none_fell : NoneFell (engine_faults (first_of turn)) (engine_faults engine)
+  pub faults : together (engine_faults engine) ≡ faults_in (together (engine_faults (first_of turn))) history
+  pub rising : NoneTellsLess (together (engine_faults (first_of turn))) history
   pub told : Numbered (IsToldBy by_whom history) 0 seats
   pub no_others : NoneFrom by_whom (seats_of turn) history

@@ -18,11 +18,15 @@ ghost use Rattle.fts_steps.specs.Step.{Call, Follows, to_commit, to_find, commit
 ghost use Rattle.fts_steps.specs.Step.{full, found, plain_answer};
 ghost use Rattle.fts_turn.specs.Histories.{Begins};
 ghost use Rattle.fts_shared.specs.Laws.{IsStep, HasItsPlace, AddedBy, IsNumber, before_step};
-ghost use Rattle.fts_engine.specs.Stands.{Holds, engine_limits};
+ghost use Rattle.fts_engine.specs.Stands.{Holds, engine_limits, engine_faults};
 ghost use Rattle.fts_engine.specs.declared.engine.Engine.{Engine};
 ghost use Rattle.fts_shared.specs.declared.served.Served.{Served};
 ghost use Rattle.fts_shared.specs.declared.work.Work.{Work};
-ghost use Rattle.fts_shared.specs.Served.{TellsAll, AreServed, AreCalm, LeavesNoneDue, behind_last};
+ghost use Rattle.fts_shared.specs.Served.{TellsAll, AreServed, AreCalm, LeavesNoneDue};
+ghost use Rattle.fts_shared.specs.Served.{behind_last, met_by};
+ghost use Rattle.fts_faults.specs.Count.{Rose};
+ghost use Rattle.fts_steps.specs.FaultCounts.{together};
+ghost use Rattle.fts_workers.specs.Health.{worse};
 ghost use Rattle.fts_shared.specs.Work.{replies_in};
 ghost use Rattle.fts_shared.specs.Talk.{Talks};
 ghost use Rattle.fts_workers.specs.declared.health.Health.TheVariants.{Sound, Failed};
@@ -135,4 +139,13 @@ pub fn calm_scripts_stop_nothing<D: Disk, E: Disk>()
         → (running : Running) → Holds running first → running.stopped ≡ None
         → AllByRecursion AreCalm (replies_in served.works.items) → (served.met ≡ Failed → ⊥)
         → (behind_last (grown running are.history) are.ends).stopped ≡ None }
+{}
+
+/// Where a session is told a fault of a device, or a worker met one, the devices' counts of faults
+/// rose together, or stand at their last value.
+pub fn faults_are_counted<D: Disk, E: Disk>()
+    ensures { (lines : List Line) → (first : Engine D E D.Disk E.Disk) → (works : List Work)
+        → (served : Served D E D.Disk E.Disk) → AreServed lines first works served
+        → worse served.met (met_by served.works.items) ≡ Failed
+        → Rose (together (engine_faults first)) (together (engine_faults served.engine)) }
 {}

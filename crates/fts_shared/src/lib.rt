@@ -37,7 +37,7 @@ mod works;
 pub use at_turn::AtTurn;
 pub use laws::{
     calm_scripts_stop_nothing, commits_have_their_places, engines_hold_what_was_told,
-    entries_have_their_steps, first_commits_stay, last_rounds_leave_none_due,
+    entries_have_their_steps, faults_are_counted, first_commits_stay, last_rounds_leave_none_due,
     no_number_is_told_twice, numbers_never_fall, refusals_have_their_cause, searches_are_scans,
     steps_have_their_place,
 };

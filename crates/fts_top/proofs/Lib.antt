@@ -15,3 +15,4 @@ pub mod Playing
 pub mod Sending
 pub mod Served
 pub mod Settling
+pub mod Short

@@ -5,11 +5,11 @@ use Rattle.std.specs.Prelude.{Result, Ok, Err}
 use Rattle.fts_schema.specs.declared.reply.Reply.{Reply}
 use Rattle.fts_schema.specs.Reply.{text_of, is_fixed}
 use Rattle.fts_workers.specs.declared.health.Health.{Health}
-use Rattle.fts_workers.specs.Health.{health_of, worse}
+use Rattle.fts_workers.specs.Health.{health_of, worse, health_of_all}
 use Rattle.fts_workers.proofs.Worse.{worse_sound, worse_more}
 use Rattle.fts_top.specs.declared.ends.Unsent.{Unsent}
 use Rattle.fts_top.specs.declared.ends.Unsent.TheVariants as unsent
-use Rattle.fts_top.specs.Answers.{told, health_of_all, IsCutAt, SendsAll, SendsOne}
+use Rattle.fts_top.specs.Answers.{told, IsCutAt, SendsAll, SendsOne}
 use Rattle.fts_top.specs.Run.{Sends}
 use Rattle.fts_top.specs.Talk.{texts_of}
 

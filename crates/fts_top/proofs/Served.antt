@@ -19,14 +19,14 @@ use Rattle.fts_args.specs.declared.command.Command.TheVariants.{Create, Run, Ser
 use Rattle.fts_args.proofs.One.{asks_one}
 use Rattle.fts_workers.specs.declared.health.Health.{Health}
 use Rattle.fts_workers.specs.declared.health.Health.TheVariants.{Sound, Short, Failed}
-use Rattle.fts_workers.specs.Health.{worse}
+use Rattle.fts_workers.specs.Health.{worse, health_of_all}
 use Rattle.fts_shared.specs.declared.served.Served.{Served}
 use Rattle.fts_shared.specs.declared.work.Work.{Work}
 use Rattle.fts_shared.specs.Served.{AreServed, AreSessions}
 use Rattle.fts_shared.specs.Work.{shares_in}
 use Rattle.fts_top.specs.declared.ends.RunEnd.{RunEnd}
 use Rattle.fts_top.specs.declared.ends.RunEnd.TheVariants as run_end
-use Rattle.fts_top.specs.Answers.{told, health_of_all, SendsAll}
+use Rattle.fts_top.specs.Answers.{told, SendsAll}
 use Rattle.fts_top.specs.Ends.{status_of_run}
 use Rattle.fts_top.specs.Health.{IsRead}
 use Rattle.fts_top.specs.Once.{Outside, SourceSeen, SinkSeen, Finishes, CanFinish}

@@ -16,7 +16,7 @@ use Rattle.fts_engine.specs.declared.engine.Engine.{Engine}
 use Rattle.fts_engine.specs.Stands.{Holds, engine_settings, engine_limits}
 use Rattle.fts_workers.specs.declared.health.Health.{Health}
 use Rattle.fts_workers.specs.declared.health.Health.TheVariants.{Sound, Short, Failed}
-use Rattle.fts_workers.specs.Health.{health_of, worse}
+use Rattle.fts_workers.specs.Health.{health_of, worse, health_of_all}
 use Rattle.fts_workers.proofs.Worse.{sound_before, sound_behind, sound_calm}
 use Rattle.fts_shared.specs.declared.work.Work.{Work}
 use Rattle.fts_shared.specs.Served.{AreCalm, AreSessions, LeavesNoneDue, behind_last}
@@ -24,7 +24,7 @@ use Rattle.fts_shared.specs.Work.{work_share, work_lines, work_replies, shares_i
 use Rattle.fts_shared.proofs.Settling.{last_none_due}
 use Rattle.fts_shared.proofs.Unstopped.{talks_long, nothing_stops}
 use Rattle.fts_top.specs.declared.ends.RunEnd.TheVariants as end
-use Rattle.fts_top.specs.Answers.{told, health_of_all}
+use Rattle.fts_top.specs.Answers.{told}
 use Rattle.fts_top.specs.Once.{Outside, SinkSeen}
 use Rattle.fts_top.specs.Serve.{WasServed, Answers, end_of, calm_end}
 

@@ -2,9 +2,6 @@
 use Rattle.std.specs.Prelude.{◌≡◌, ℕ, false, List, [], ◌∷◌, ◌++◌, take, Result, Ok, Err, Option, Some, None}
 use Rattle.fts_schema.specs.declared.reply.Reply.{Reply}
 use Rattle.fts_schema.specs.Reply.{text_of, is_fixed}
-use Rattle.fts_workers.specs.declared.health.Health.{Health}
-use Rattle.fts_workers.specs.declared.health.Health.TheVariants.{Sound}
-use Rattle.fts_workers.specs.Health.{health_of, worse}
 use Rattle.fts_top.specs.declared.ends.Unsent.{Unsent}
 use Rattle.fts_top.specs.declared.ends.Unsent.TheVariants as unsent
 use Rattle.fts_top.specs.Talk.{texts_of}
@@ -14,11 +11,6 @@ abbrev pub told : List (Option Reply) → List Reply
 told [] = []
 told (None ∷ all) = told all
 told (Some reply ∷ all) = reply ∷ told all
-
--- what their lines met
-abbrev pub health_of_all : List Reply → Health
-health_of_all [] = Sound
-health_of_all (reply ∷ replies) = worse (health_of reply) (health_of_all replies)
 
 -- of these replies the ones before this were written
 pub record IsCutAt (replies earlier : List Reply) (next : Reply) : Type 0 where

@@ -18,7 +18,7 @@ use Rattle.fts_engine.specs.Devices.{Devices, devices_of, Disks, disks_of, disk_
 use Rattle.fts_engine.specs.Stands.{Holds, engine_limits, rows_device, index_device}
 use Rattle.fts_workers.specs.declared.health.Health.{Health}
 use Rattle.fts_workers.specs.declared.health.Health.TheVariants.{Sound, Short, Failed}
-use Rattle.fts_workers.specs.Health.{worse}
+use Rattle.fts_workers.specs.Health.{worse, health_of_all}
 use Rattle.fts_shared.specs.declared.served.Served.{Served}
 use Rattle.fts_shared.specs.declared.work.Work.{Work}
 use Rattle.fts_shared.specs.Served.{AreServed}
@@ -30,7 +30,7 @@ use Rattle.fts_top.specs.declared.ends.RunEnd.TheVariants as run_end
 use Rattle.fts_top.specs.declared.ends.Unsent.TheVariants as unsent
 use Rattle.fts_top.specs.declared.serve.Faults.{Faults}
 use Rattle.fts_top.specs.declared.status.Status.{Status}
-use Rattle.fts_top.specs.Answers.{told, health_of_all, SendsAll}
+use Rattle.fts_top.specs.Answers.{told, SendsAll}
 use Rattle.fts_top.specs.Ends.{status_of_run, status_of_opening}
 use Rattle.fts_top.specs.Health.{IsRead}
 use Rattle.fts_top.specs.Once.{SourceSeen, SinkSeen, Outside, DisksHold, OnlyLooked, Unopened}

@@ -1,7 +1,8 @@
 //! The replies of a script that was served, written in the order of its lines.
 ghost use Rattle.std.specs.Prelude.{◌≡◌, IsTrue, [], ◌∷◌, Err};
 ghost use Rattle.fts_faults.specs.Count.{CountsFault};
-ghost use Rattle.fts_top.specs.Answers.{health_of_all, told, SendsAll, SendsOne};
+ghost use Rattle.fts_top.specs.Answers.{told, SendsAll, SendsOne};
+ghost use Rattle.fts_workers.specs.Health.{health_of_all};
 
 use crate::ends::Unsent;
 use crate::script::send;

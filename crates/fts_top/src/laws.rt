@@ -1,5 +1,5 @@
 //! What holds of each script.
-ghost use Rattle.std.specs.Prelude.{◌≡◌, ℕ, List, length, None};
+ghost use Rattle.std.specs.Prelude.{◌≡◌, ◌≤◌, ◌-◌, ◌^◌, ℕ, List, length, None};
 ghost use Rattle.fts_types.specs.declared.limits.Limits.{Limits};
 ghost use Rattle.fts_io.specs.Text.{Line};
 ghost use Rattle.fts_schema.specs.declared.reply.Reply.{Reply};
@@ -12,10 +12,14 @@ ghost use Rattle.fts_top.specs.Sight.{AreOwn};
 ghost use Rattle.fts_steps.specs.Running.{grown};
 ghost use Rattle.fts_engine.specs.declared.engine.Engine.{Engine};
 ghost use Rattle.fts_engine.specs.Stands.{Holds, engine_limits};
-ghost use Rattle.fts_shared.specs.Served.{LeavesNoneDue, behind_last};
-ghost use Rattle.fts_top.specs.declared.ends.RunEnd.TheVariants.{Done};
+ghost use Rattle.fts_shared.specs.Served.{LeavesNoneDue, behind_last, met_by};
+ghost use Rattle.fts_top.specs.declared.ends.RunEnd.TheVariants.{Done, ShortOfMemory};
 ghost use Rattle.fts_top.specs.Once.{Outside};
-ghost use Rattle.fts_top.specs.Serve.{WasServed};
+ghost use Rattle.fts_top.specs.Serve.{WasServed, Serves};
+ghost use Rattle.fts_steps.specs.FaultCounts.{together};
+ghost use Rattle.fts_engine.specs.Devices.{disks_of, disk_faults};
+ghost use Rattle.fts_workers.specs.declared.health.Health.TheVariants.{Failed};
+ghost use Rattle.fts_workers.specs.Health.{worse};
 
 use fts_disk::Disk;
 
@@ -55,4 +59,14 @@ pub fn served_scripts_leave_none_due<D: Disk, E: Disk>()
         → (was : WasServed D.Disk E.Disk Done first before after)
         → (running : Running) → Holds running first → running.stopped ≡ None
         → (behind_last (grown running was.are.history) was.are.ends).stopped ≡ None }
+{}
+
+/// A script that ends short of memory met no fault, unless the devices' counts of faults stand at
+/// their last value. It does nothing: its contract is the theorem.
+pub fn short_scripts_met_no_fault<D: Disk, E: Disk>()
+    ensures { (limits : Limits) → (before after : Outside D E)
+        → (serves : Serves D.Disk E.Disk limits ShortOfMemory before after)
+        → (was : WasServed D.Disk E.Disk ShortOfMemory serves.first before after)
+        → worse was.served.met (met_by was.served.works.items) ≡ Failed
+        → 2 ^ 64 - 1 ≤ together (disk_faults (disks_of D.Disk E.Disk) after.devices) }
 {}

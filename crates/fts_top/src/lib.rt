@@ -23,7 +23,7 @@ mod top;
 pub use ends::{CreateEnd, RunEnd};
 pub use fts_args::{Command, command_of};
 pub use fts_engine::Device;
-pub use laws::{one_text, served_scripts_leave_none_due, sight_rises};
+pub use laws::{one_text, served_scripts_leave_none_due, short_scripts_met_no_fault, sight_rises};
 pub use once::{fts_once, run_script};
 pub use script::run;
 pub use serve::serve_script;

@@ -20,6 +20,11 @@ worse Short Short = Short
 worse Short Sound = Short
 worse Sound other = other
 
+-- what the lines of these replies met
+abbrev pub health_of_all : List Reply → Health
+health_of_all [] = Sound
+health_of_all (reply ∷ replies) = worse (health_of reply) (health_of_all replies)
+
 -- what a step met, by its answer
 abbrev pub health_of_answer : Answer → Health
 health_of_answer no_memory = Short

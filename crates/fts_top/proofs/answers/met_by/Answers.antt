@@ -2,8 +2,8 @@ use Rattle.std.proofs.Common.{◌≡◌, ◌+◌, ◌++◌, ◌∷◌, [], ◌�
 use Rattle.std.proofs.lemmas.List.{take_more, take_all}
 use Rattle.fts_schema.specs.declared.reply.Reply.{Reply}
 use Rattle.fts_workers.specs.declared.health.Health.{Health}
-use Rattle.fts_workers.specs.Health.{worse}
-use Rattle.fts_top.specs.Answers.{told, health_of_all}
+use Rattle.fts_workers.specs.Health.{worse, health_of_all}
+use Rattle.fts_top.specs.Answers.{told}
 use Rattle.fts_top.proofs.Sending.{met_more}
 use Rattle.fts_top.proofs.answers.met_by.Goals as goal
 

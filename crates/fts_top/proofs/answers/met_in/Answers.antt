@@ -1,8 +1,8 @@
 use Rattle.std.proofs.Common.{◌≡◌, ◌∷◌, [], ◌∙◌, ap, sym, Option}
 use Rattle.fts_schema.specs.declared.reply.Reply.{Reply}
-use Rattle.fts_workers.specs.Health.{health_of}
+use Rattle.fts_workers.specs.Health.{health_of, health_of_all}
 use Rattle.fts_workers.proofs.Worse.{worse_sound}
-use Rattle.fts_top.specs.Answers.{told, health_of_all}
+use Rattle.fts_top.specs.Answers.{told}
 use Rattle.fts_top.proofs.answers.met_in.Goals as goal
 
 pub returns-in-Some : goal.returns-in-Some
